@@ -1,0 +1,14 @@
+-- Refusals: "It refuses, in order".
+use Prim.Native.Nat.{ℕ}
+use mathlib.Core.Bool.{Bool, cond}
+use mathlib.Core.Option.{Option, none, some}
+use mathlib.Core.List.{List, [], _∷_}
+
+-- what is demanded, and document 01's number for its refusal
+abbrev pub Check : Type 0
+Check = Bool × ℕ
+
+-- the refusal of the first check that fails
+unfoldable pub refusal : List Check → Option ℕ
+refusal [] = none
+refusal (c ∷ checks) = cond (c .0) (refusal checks) (some (c .1))

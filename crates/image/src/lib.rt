@@ -1,0 +1,1 @@
+// The rule image: definitions (specs/) and their laws (proofs/).

@@ -1,0 +1,47 @@
+-- What a monitor holds, as strings of symbols, and one step of it.
+use Prim.Native.Nat.{ℕ, _-_}
+use mathlib.Core.Option.{Option, none, some}
+use mathlib.Core.List.{List, [], _∷_, _++_}
+use lib.ListN.{length, take}
+use Rattle.rewriting.specs.Rules.{Right, Put, Close, Rule, rule}
+use Rattle.table.specs.States.{state, next, matching}
+use Rattle.monitor.specs.declared.Standing.{Standing}
+
+-- "Its head is a value: settled count a, waiting count w, verdict or none, and that verdict's rule (0 with none)." Here
+-- the settled and the waiting symbols themselves; Areas.antt has the head.
+pub record State : Type 0 where
+  pub settled : List ℕ
+  pub waiting : List ℕ
+  pub verdict : Standing
+  pub rule : ℕ
+
+-- "Fresh sets both counts to 0, no verdict"
+unfoldable pub empty : State
+empty = record { settled = []; waiting = []; verdict = Standing.None; rule = 0 }
+
+-- a state with no verdict
+unfoldable pub going : List ℕ → List ℕ → State
+going settled waiting = record { settled = settled; waiting = waiting; verdict = Standing.None; rule = 0 }
+
+-- what one step leads to, whether it matched (0 or 1 rewrites), and how many symbols it put back
+pub record Step : Type 0 where
+  pub to : State
+  pub rewrites : ℕ
+  pub put : ℕ
+
+-- "those of r put back before the waiting ones, or the verdict is set and nothing put back": rule i's right side, where
+-- s stays settled and q waits
+unfoldable pub replace : List ℕ → List ℕ → ℕ → Right → Step
+replace s q i (Put v) = record { to = going s (v ++ q); rewrites = 1; put = length v }
+replace s q i (Close v) =
+    record { to = record { settled = s; waiting = q; verdict = Standing.Verdict v; rule = i }; rewrites = 1; put = 0 }
+
+-- "If that state matches rule l → r, the symbols of l are taken off": p is settled with the symbol just taken, q waits
+unfoldable pub settle : List Rule → List ℕ → List ℕ → Option ℕ → Step
+settle rules p q none = record { to = going p q; rewrites = 0; put = 0 }
+settle rules p q (some i) = replace (take (length p - length (rule rules i .left)) p) q i (rule rules i .right)
+
+-- "One step takes the first waiting symbol onto the settled string and finds its state from the word before it (state 0
+-- at the start)": s is settled, a waits first, q waits behind it
+unfoldable pub step : List Rule → List ℕ → ℕ → List ℕ → Step
+step rules s a q = settle rules (s ++ a ∷ []) q (matching rules (next rules (state rules s) a))

@@ -1,0 +1,65 @@
+-- Occurrences of left sides in a string, and the one that a rewrite takes.
+use Prim.Native.Nat.{ℕ, suc, _+_, _-_, _<_}
+use mathlib.Core.Path.{_≡_}
+use mathlib.Core.Bool.{cond}
+use mathlib.Core.Logic.{_⊎_}
+use mathlib.Core.Option.{Option, none, some, Option·map, orElse}
+use mathlib.Core.List.{List, [], _∷_, _++_}
+use lib.ListN.{length, take}
+use Rattle.rewriting.specs.Lists.{same}
+use Rattle.rewriting.specs.Rules.{Rule, rule}
+
+-- An occurrence of a left side: the symbols before it, the rule, the symbols after it.
+pub record Occurrence : Type 0 where
+  pub before : List ℕ
+  pub rule : ℕ
+  pub after : List ℕ
+
+-- o is an occurrence in the string w
+abbrev pub Occurs : List Rule → List ℕ → Occurrence → Type 0
+Occurs rules w o = (o .rule < length rules) × (w ≡ o .before ++ (rule rules (o .rule) .left ++ o .after))
+
+-- Where an occurrence begins, and where it ends: how many symbols stand before it, and before its end.
+abbrev pub begins : Occurrence → ℕ
+begins o = length (o .before)
+
+abbrev pub ends : List Rule → Occurrence → ℕ
+ends rules o = length (o .before) + length (rule rules (o .rule) .left)
+
+-- "take the one that ends first; of these the one that begins first; of these the lowest rule": o is taken before o′
+abbrev pub Sooner : List Rule → Occurrence → Occurrence → Type 0
+Sooner rules o o′ =
+    (ends rules o < ends rules o′)
+    ⊎ ((ends rules o ≡ ends rules o′) × ((begins o < begins o′) ⊎ ((begins o ≡ begins o′) × (o .rule < o′ .rule))))
+
+-- The rest of this file finds the occurrence that is taken. That it does so is the law `redex-first`, and that it
+-- finds one wherever there is one `redex-none` (proofs/Redex.antt).
+
+-- "the lowest rule" with the left side v
+unfoldable pub lowest : List Rule → List ℕ → Option ℕ
+lowest [] v = none
+lowest (r ∷ rules) v = cond (same (r .left) v) (some 0) (Option·map suc (lowest rules v))
+
+-- Of two occurrences that end together, the first of which begins before the second, the one that is taken:
+-- "the one that begins first". This is the only place that chooses.
+unfoldable pub tie : Option ℕ → Option ℕ → Option ℕ
+tie earlier later = orElse earlier later
+
+-- the rule of the occurrence that is taken among those that end where p ends
+unfoldable pub ending : List Rule → List ℕ → Option ℕ
+ending rules [] = none
+ending rules (x ∷ p) = tie (lowest rules (x ∷ p)) (ending rules p)
+
+-- the occurrence of rule i that ends where p ends, with q after it
+unfoldable pub endingAt : List Rule → List ℕ → List ℕ → ℕ → Occurrence
+endingAt rules p q i = record { before = take (length p - length (rule rules i .left)) p; rule = i; after = q }
+
+-- "take the one that ends first": of the occurrences in p ++ q that end behind p
+unfoldable pub scan : List Rule → List ℕ → List ℕ → Option Occurrence
+scan rules p [] = none
+scan rules p (a ∷ q) =
+    orElse (Option·map (endingAt rules (p ++ a ∷ []) q) (ending rules (p ++ a ∷ []))) (scan rules (p ++ a ∷ []) q)
+
+-- the occurrence that a rewrite of the string w takes
+unfoldable pub redex : List Rule → List ℕ → Option Occurrence
+redex rules w = scan rules [] w

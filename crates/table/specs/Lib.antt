@@ -1,0 +1,4 @@
+-- Document 01, "Table". Read in this order.
+pub mod States
+pub mod Table
+pub mod Compile
