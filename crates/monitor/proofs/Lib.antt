@@ -1,0 +1,5 @@
+pub mod Sums
+pub mod Machine
+pub mod Runs
+pub mod Simulation
+pub mod Cases

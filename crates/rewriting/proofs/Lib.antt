@@ -1,2 +1,4 @@
 pub mod Lists
 pub mod Ranges
+pub mod Scan
+pub mod Rewrites

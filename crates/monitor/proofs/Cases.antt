@@ -1,0 +1,24 @@
+-- The worked cases of document 01, computed from the definitions.
+-- Assumes nothing.
+use Prim.Native.Nat.{ℕ}
+use mathlib.Core.Path.{_≡_, refl}
+use mathlib.Core.List.{List, [], _∷_, map, flatMap}
+use mathlib.Core.Option.{orElse}
+use Rattle.rewriting.specs.Rules.{rule, rightInRange, ruleInRange, inRange}
+use Rattle.rewriting.specs.Occurrences.{lowest, tie, ending}
+use Rattle.rewriting.specs.Sample.{sample}
+use Rattle.image.specs.Image.{kind, size, symbolsOf, contents, body, imageOf, readRight, readRule, readRules, read, valid}
+use Rattle.image.specs.Refusals.{refusal}
+use Rattle.table.specs.States.{isPrefix, state, next, matching, prefixes, known, numbered, states, number}
+use Rattle.table.specs.Table.{matchWord, row, tableOf}
+use Rattle.monitor.specs.State.{empty, going, replace, settle, step}
+use Rattle.monitor.specs.Run.{noCounts, plus, countsOf, ended, counted, fits, proceed, tests, run}
+use Rattle.monitor.specs.Areas.{headOf, areaOf, bytesOf, statesAfter, wordsOf, lentOf, stateOf, noMatch, unmatched, closesWith, standsBy, holds, described}
+use Rattle.monitor.specs.Calls.{sized, fuelOf, lentChecks, isNone, fuelCheck, verdictCheck, callChecks, offered, outcome, answered, callOf, refusedBy}
+use Rattle.monitor.specs.Promise.{stringOf, before, eventsOf, logged}
+use Rattle.monitor.specs.Cases.{Case, Found, foundIn, answering, findFrom, find, over4, cases, documentCapacity}
+
+-- every value of the table
+pub cases-found : map (λ (c : Case). find documentCapacity (c .set) (c .calls)) cases ≡ map (λ (c : Case). c .found) cases
+unfolding orElse flatMap rule rightInRange ruleInRange inRange lowest tie ending sample kind size symbolsOf contents body imageOf readRight readRule readRules read valid refusal isPrefix state next matching prefixes known numbered states number matchWord row tableOf empty going replace settle step noCounts plus countsOf ended counted fits proceed tests run headOf areaOf bytesOf statesAfter wordsOf lentOf stateOf noMatch unmatched closesWith standsBy holds described sized fuelOf lentChecks isNone fuelCheck verdictCheck callChecks offered outcome answered callOf refusedBy stringOf before eventsOf logged foundIn answering findFrom find over4 cases
+cases-found = refl
