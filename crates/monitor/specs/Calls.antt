@@ -5,7 +5,7 @@ use mathlib.Core.Bool.{Bool, true, false, not, _&&_}
 use mathlib.Core.Option.{Option, none, some}
 use mathlib.Core.List.{List, [], _∷_, _++_}
 use lib.Dec.{eqb, leb, ltb}
-use lib.ListN.{length}
+use lib.ListN.{length, replicate}
 use Rattle.rewriting.specs.Lists.{prefix}
 use Rattle.rewriting.specs.Rules.{RuleSet}
 use Rattle.image.specs.Image.{read, valid}
@@ -32,7 +32,11 @@ pub record Fresh : Type 0 where
 unfoldable pub freshened : ℕ → List ℕ → List ℕ → Option ℕ → Fresh
 freshened capacity bytes words (some n) =
     record { refused = some n; left = record { head = headOf empty; bytes = bytes; words = words } }
-freshened capacity bytes words none = record { refused = none; left = lentOf [] capacity empty }
+freshened capacity bytes words none =
+    record {
+      refused = none;
+      left = record { head = headOf empty; bytes = replicate capacity 0; words = replicate capacity 0 };
+    }
 
 unfoldable pub freshOf : ℕ → List ℕ → List ℕ → Fresh
 freshOf capacity bytes words = freshened capacity bytes words (refusal ((sized capacity bytes words, 10) ∷ []))

@@ -1,4 +1,6 @@
 pub mod Lists
 pub mod Ranges
 pub mod Scan
+pub mod Redex
 pub mod Rewrites
+pub mod Computed

@@ -55,6 +55,18 @@ module _ (rules : List Rule) where
   scan-ending p a q e =
       map-eq-none-iff (endingAt rules (p ++ a ∷ []) q) (ending rules (p ++ a ∷ [])) .0 (or-else-none _ _ e .0)
 
+  -- what is found from p on ends with the next symbol, or is found behind it
+  pub scan-some : (p : List ℕ) (a : ℕ) (q : List ℕ) (o : Occurrence) → scan rules p (a ∷ q) ≡ some o
+      → ((i : ℕ) × (ending rules (p ++ a ∷ []) ≡ some i) × (endingAt rules (p ++ a ∷ []) q i ≡ o))
+      ⊎ ((ending rules (p ++ a ∷ []) ≡ none) × (scan rules (p ++ a ∷ []) q ≡ some o))
+  scan-some p a q o e = go (ending rules (p ++ a ∷ [])) refl
+    where
+      go : (f : Option ℕ) → ending rules (p ++ a ∷ []) ≡ f
+          → ((i : ℕ) × (ending rules (p ++ a ∷ []) ≡ some i) × (endingAt rules (p ++ a ∷ []) q i ≡ o))
+          ⊎ ((ending rules (p ++ a ∷ []) ≡ none) × (scan rules (p ++ a ∷ []) q ≡ some o))
+      go none last = inr (last, sym (scan-next p a q last) ∙ e)
+      go (some i) last = inl (i, last, (cc (scan-found p a q i last)))
+
   -- where nothing ends in u, the search goes on behind it
   pub scan-none : (p u v : List ℕ) → scan rules p u ≡ none → scan rules p (u ++ v) ≡ scan rules (p ++ u) v
   scan-none p [] v e = rw append-nil

@@ -4,7 +4,7 @@ use Prim.Native.Nat.{ℕ, _≤_}
 use mathlib.Core.Path.{_≡_, refl, sym, _∙_}
 use mathlib.Core.Bool.{Bool, true, false, _||_}
 use mathlib.Core.Logic.{_⊎_, inl, inr}
-use mathlib.Core.Option.{Option, none, orElse}
+use mathlib.Core.Option.{Option, none, some, orElse}
 use mathlib.Core.List.{List, [], _∷_, _++_, append-nil}
 use native.Mathlib.Omega.{arith}
 use lib.ListN.{length, length-append}
@@ -71,17 +71,29 @@ lowest-none (r ∷ rules) v e = go (same (r .left) v) refl (prefix v (r .left)) 
         absurd (omega arith)
     go false p false q h ih = rw (p, ih h)
 
+-- where nothing begins earlier, what begins later is taken
+pub tie-none : (later : Option ℕ) → tie none later ≡ later
+unfolding tie orElse
+tie-none later = refl
+
+-- one of the two is taken
+pub tie-either : (earlier later : Option ℕ) → (tie earlier later ≡ earlier) ⊎ (tie earlier later ≡ later)
+unfolding tie orElse
+tie-either none later = inr refl
+tie-either (some i) later = inl refl
+
 -- the match word found at the state is that of the whole string
 pub matching-state : (rules : List Rule) (p : List ℕ) → matching rules (state rules p) ≡ ending rules p
-unfolding matching state ending tie orElse
+unfolding matching state ending
 matching-state rules [] = refl
 matching-state rules (x ∷ p) = go (isPrefix rules (x ∷ p)) refl (matching-state rules p)
   where
     go : (b : Bool) → isPrefix rules (x ∷ p) ≡ b → matching rules (state rules p) ≡ ending rules p
         → matching rules (state rules (x ∷ p)) ≡ ending rules (x ∷ p)
     go true e ih = rw e
-    go false e ih = rw (e, lowest-none rules (x ∷ p) e) ih
+    go false e ih = rw (e, lowest-none rules (x ∷ p) e, tie-none) ih
 
+-- and so is the match word of the next state
 pub matching-next : (rules : List Rule) (s : List ℕ) (a : ℕ) → matching rules (next rules (state rules s) a) ≡ ending rules (s ++ a ∷ [])
 matching-next rules s a = rw state-snoc (matching-state rules (s ++ a ∷ []))
 

@@ -1,0 +1,162 @@
+-- Laws of the table: how long it is, what stands in each of its words, and that each fits 16 bits.
+-- Assumes nothing.
+use Prim.Native.Nat.{ℕ, suc, _+_, _*_, _≤_, _<_}
+use mathlib.Core.Path.{_≡_, refl, _∙_}
+use mathlib.Core.Bool.{Bool, true, false}
+use mathlib.Core.Logic.{_⊎_, inl, inr}
+use mathlib.Core.Option.{Option, none, some}
+use mathlib.Core.List.{List, [], _∷_, map, flatMap}
+use native.Mathlib.Omega.{arith}
+use native.Mathlib.Nat.{suc-mul, mul-le-mul, mul-le-mul-right}
+use lib.Dec.{ltb}
+use lib.ListN.{length, getD, length-append, length-map, List·getD-append}
+use lib.Seq.{getD-append-add}
+use borrow.Author.Tests.{lt-ltb}
+use Rattle.rewriting.specs.Lists.{same, prefix, below, upTo}
+use Rattle.rewriting.specs.Rules.{Rule, RuleSet, inRange}
+use Rattle.rewriting.specs.Occurrences.{lowest, ending}
+use Rattle.rewriting.proofs.Lists.{and-both, all-append, length-upTo}
+use Rattle.rewriting.proofs.Ranges.{ranges}
+use Rattle.table.specs.States.{next, matching, states, number}
+use Rattle.table.specs.Table.{matchWord, row, tableOf}
+use Rattle.table.proofs.Lists.{getD-map, all-map, all-flatMap, length-flatMap, getD-flatMap, getD-upTo, begins-at}
+use Rattle.table.proofs.Matching.{tie-either}
+use Rattle.table.proofs.States.{next-below, few-states}
+
+length-row : (set : RuleSet) (q : List ℕ) → length (row set q) ≡ set .symbols
+unfolding row
+length-row set q = rw (length-map, length-upTo)
+
+-- "Words written: 2 + N + N × S"
+pub length-table : (set : RuleSet) → length (tableOf set) ≡ 2 + length (states (set .rules)) + length (states (set .rules)) * set .symbols
+unfolding tableOf
+length-table set =
+    rw (length-append, length-map, length-flatMap (row set) (set .symbols) (length-row set)) (omega arith)
+
+-- "at most 16,931"
+pub table-length : (set : RuleSet) → inRange set ≡ true → length (tableOf set) ≤ 16931
+table-length set e =
+    let few = few-states set e in
+    let product = mul-le-mul few (ranges set e .few-symbols) in
+    rw length-table (omega arith)
+
+pub table-states : (set : RuleSet) → getD (tableOf set) 0 0 ≡ length (states (set .rules))
+unfolding tableOf
+table-states set = refl
+
+pub table-symbols : (set : RuleSet) → getD (tableOf set) 1 0 ≡ set .symbols
+unfolding tableOf
+table-symbols set = refl
+
+-- the match words, one for each state
+abbrev matchWords : RuleSet → List ℕ
+matchWords set = map (λ q. matchWord (matching (set .rules) q)) (states (set .rules))
+
+length-matchWords : (set : RuleSet) → length (matchWords set) ≡ length (states (set .rules))
+length-matchWords set = length-map (states (set .rules)) (λ q. matchWord (matching (set .rules) q))
+
+-- the match word of state i
+pub table-match : (set : RuleSet) (i : ℕ) → i < length (states (set .rules))
+    → getD (tableOf set) (2 + i) 0 ≡ matchWord (matching (set .rules) (getD (states (set .rules)) i []))
+unfolding tableOf
+table-match set i h =
+    let at : 2 + i ≡ suc (suc i) = omega arith in
+    let m = length-matchWords set in
+    rw at
+    (List·getD-append (matchWords set) (flatMap (row set) (states (set .rules))) 0 i (omega arith)
+    ∙ getD-map (λ q. matchWord (matching (set .rules) q)) (states (set .rules)) i [] 0 h)
+
+row-at : (set : RuleSet) (q : List ℕ) (a : ℕ) → a < set .symbols
+    → getD (row set q) a 0 ≡ number (states (set .rules)) (next (set .rules) q a)
+unfolding row
+row-at set q a h =
+    let m = length-upTo (set .symbols) in
+    getD-map (λ a. number (states (set .rules)) (next (set .rules) q a)) (upTo (set .symbols)) a 0 0 (omega arith)
+    ∙ rw (getD-upTo (set .symbols) a 0 h)
+
+-- the next state of state i on symbol a
+pub table-next : (set : RuleSet) (i a : ℕ) → i < length (states (set .rules)) → a < set .symbols
+    → getD (tableOf set) (2 + length (states (set .rules)) + i * set .symbols + a) 0
+    ≡ number (states (set .rules)) (next (set .rules) (getD (states (set .rules)) i []) a)
+unfolding tableOf
+table-next set i a h below =
+    let m = length-matchWords set in
+    let at : 2 + length (states (set .rules)) + i * set .symbols + a ≡ suc (suc (length (matchWords set) + (i * set .symbols + a))) = omega arith in
+    rw at
+    (getD-append-add (matchWords set) (flatMap (row set) (states (set .rules))) (i * set .symbols + a) 0
+    ∙ getD-flatMap (row set) (set .symbols) (length-row set) (states (set .rules)) i a [] 0 h below
+    ∙ row-at set (getD (states (set .rules)) i []) a below)
+
+-- it is the number of a state
+pub table-next-below : (set : RuleSet) (i a : ℕ) → i < length (states (set .rules)) → a < set .symbols
+    → getD (tableOf set) (2 + length (states (set .rules)) + i * set .symbols + a) 0 < length (states (set .rules))
+table-next-below set i a h below =
+    rw (table-next set i a h below) (next-below (set .rules) (getD (states (set .rules)) i []) a)
+
+-- The same of any table that begins with the words of tableOf.
+pub begins-match : (set : RuleSet) (t : List ℕ) → prefix (tableOf set) t ≡ true → (i : ℕ) → i < length (states (set .rules))
+    → getD t (2 + i) 0 ≡ matchWord (matching (set .rules) (getD (states (set .rules)) i []))
+begins-match set t e i h =
+    let m = length-table set in
+    begins-at (tableOf set) t e (2 + i) 0 (omega arith) ∙ table-match set i h
+
+pub begins-next : (set : RuleSet) (t : List ℕ) → prefix (tableOf set) t ≡ true
+    → (i a : ℕ) → i < length (states (set .rules)) → a < set .symbols
+    → getD t (2 + length (states (set .rules)) + i * set .symbols + a) 0
+    ≡ number (states (set .rules)) (next (set .rules) (getD (states (set .rules)) i []) a)
+begins-next set t e i a h below =
+    let m = length-table set in
+    let rows : suc i * set .symbols ≤ length (states (set .rules)) * set .symbols = mul-le-mul-right (set .symbols) h in
+    let fits = rw suc-mul at rows in
+    begins-at (tableOf set) t e (2 + length (states (set .rules)) + i * set .symbols + a) 0 (omega arith) ∙ table-next set i a h below
+
+few-lowest : (rules : List Rule) (v : List ℕ) → matchWord (lowest rules v) ≤ length rules
+unfolding lowest matchWord
+few-lowest [] v = omega arith
+few-lowest (r ∷ rules) v = go (same (r .left) v) refl (lowest rules v) refl (few-lowest rules v)
+  where
+    go : (b : Bool) → same (r .left) v ≡ b → (o : Option ℕ) → lowest rules v ≡ o → matchWord o ≤ length rules
+        → matchWord (lowest (r ∷ rules) v) ≤ suc (length rules)
+    go true e o p h = rw e (omega arith)
+    go false e none p h = rw (e, p) (omega arith)
+    go false e (some i) p h = rw (e, p) (omega arith)
+
+-- a match word is at most the number of rules
+pub few-matching : (rules : List Rule) (q : List ℕ) → matchWord (matching rules q) ≤ length rules
+unfolding matching ending matchWord
+few-matching rules [] = omega arith
+few-matching rules (x ∷ q) = go (tie-either (lowest rules (x ∷ q)) (ending rules q)) (few-matching rules q)
+  where
+    go : (matching rules (x ∷ q) ≡ lowest rules (x ∷ q)) ⊎ (matching rules (x ∷ q) ≡ ending rules q)
+        → matchWord (ending rules q) ≤ length rules → matchWord (matching rules (x ∷ q)) ≤ length rules
+    go (inl e) h = rw e (few-lowest rules (x ∷ q))
+    go (inr e) h = rw e h
+
+row-fits : (set : RuleSet) → inRange set ≡ true → (q : List ℕ) → below 65536 (row set q) ≡ true
+unfolding row
+row-fits set e q = all-map word (λ x. ltb x 65536) fits (upTo (set .symbols))
+  where
+    word : ℕ → ℕ
+    word a = number (states (set .rules)) (next (set .rules) q a)
+
+    fits : (a : ℕ) → ltb (word a) 65536 ≡ true
+    fits a = lt-ltb (word a) 65536 (omega (arith, few-states set e, next-below (set .rules) q a))
+
+matchWords-fit : (set : RuleSet) → inRange set ≡ true → below 65536 (matchWords set) ≡ true
+matchWords-fit set e = all-map word (λ x. ltb x 65536) fits (states (set .rules))
+  where
+    word : List ℕ → ℕ
+    word q = matchWord (matching (set .rules) q)
+
+    fits : (q : List ℕ) → ltb (word q) 65536 ≡ true
+    fits q = lt-ltb (word q) 65536 (omega (arith, ranges set e, few-matching (set .rules) q))
+
+-- each word fits 16 bits
+pub words-fit : (set : RuleSet) → inRange set ≡ true → below 65536 (tableOf set) ≡ true
+unfolding tableOf
+words-fit set e =
+    let rows : below 65536 (flatMap (row set) (states (set .rules))) ≡ true =
+    all-flatMap (row set) (λ x. ltb x 65536) (row-fits set e) (states (set .rules)) in
+    and-both (lt-ltb (length (states (set .rules))) 65536 (omega (arith, few-states set e)))
+    (and-both (lt-ltb (set .symbols) 65536 (omega (arith, ranges set e)))
+    (all-append (λ x. ltb x 65536) (matchWords set) (flatMap (row set) (states (set .rules))) (matchWords-fit set e) rows))
