@@ -13,9 +13,10 @@ use borrow.Author.Tests.{ltb-true, lt-ltb, leb-true, le-leb, eqb-false, not-true
 use Rattle.rewriting.specs.Lists.{below, prefix}
 use Rattle.rewriting.specs.Rules.{Rule, RuleSet}
 use Rattle.rewriting.proofs.Lists.{and-both}
-use Rattle.rewriting.proofs.Ranges.{Ranges}
+use Rattle.rewriting.proofs.Ranges.{Ranges, ranges}
 use Rattle.image.specs.Image.{read, valid}
 use Rattle.image.specs.Refusals.{Check, refusal}
+use Rattle.image.proofs.Image.{valid-in-range}
 use Rattle.image.proofs.Refusals.{refusal-pass, refusal-passed, refusal-rest, refusal-append-none}
 use Rattle.table.specs.Table.{tableOf}
 use Rattle.monitor.specs.declared.Standing.{Standing}
@@ -29,18 +30,24 @@ use Rattle.monitor.specs.Calls.{Call, Offer, GoOn, Outcome, fuelOf, size
 use Rattle.monitor.specs.Promise.{eventsOf}
 use Rattle.monitor.proofs.Machine.{Reaches, Stay, more}
 use Rattle.monitor.proofs.Runs.{Ran, ran}
-use Rattle.monitor.proofs.Simulation.{Faithful}
-use Rattle.monitor.proofs.Areas.{state-lent, sized-lent, described-lent}
+use Rattle.monitor.proofs.Legal.{Legal, legal-more, legal-reaches}
+use Rattle.monitor.proofs.Areas.{state-lent, sized-lent}
+use Rattle.monitor.proofs.Described.{Described, described-lent, is-described}
 
--- what a call c on the state s leaves, with the outcome o
+-- What is lent holds a state that is legal and within the capacity.
+pub record Holding (set : RuleSet) (capacity : ℕ) (l : Lent) : Type 0 where
+  pub state : State
+  pub written : l ≡ lentOf (set .rules) capacity state
+  pub legal : Legal set state
+  pub room : fits capacity state ≡ true
+
+-- What a call c on the state s leaves, with the outcome o.
 pub record Next (set : RuleSet) (capacity : ℕ) (s : State) (c : Call) (o : Outcome) : Type 0 where
-  pub after : State
-  pub left : o .left ≡ lentOf (set .rules) capacity after
-  pub reached : Reaches (set .rules) (more s (eventsOf (refusedBy (o .answer)) c)) (o .counts) after
-  pub room : fits capacity after ≡ true
+  pub after : Holding set capacity (o .left)
+  pub reached : Reaches (set .rules) (more s (eventsOf (refusedBy (o .answer)) c)) (o .counts) (after .state)
   pub symbols : below (set .symbols) (eventsOf (refusedBy (o .answer)) c) ≡ true
   pub quiet : o .answer ≡ Answer.Quiet
-      ↔ ((refusedBy (o .answer) ≡ none) × (after .waiting ≡ []) × (after .verdict ≡ Standing.None))
+      ↔ ((refusedBy (o .answer) ≡ none) × (after .state .waiting ≡ []) × (after .state .verdict ≡ Standing.None))
 
 pub more-nil : (s : State) → more s [] ≡ s
 unfolding more
@@ -68,10 +75,10 @@ accepted-event set ranges capacity s (Offer event fuel) e h =
     (le-leb _ _ next, and-both (lt-ltb _ _ symbol) refl)
 
 -- the call runs, or is refused by the checks of its own
-pub next-of : (set : RuleSet) → Ranges set → (capacity : ℕ) (s : State) → fits capacity s ≡ true → (c : Call)
+next-of : (set : RuleSet) → Ranges set → (capacity : ℕ) (s : State) → Legal set s → fits capacity s ≡ true → (c : Call)
     → Next set capacity s c (answered set capacity (lentOf (set .rules) capacity s) (callChecks set capacity (headOf s) c) c)
 unfolding answered outcome refusedBy eventsOf
-next-of set ranges capacity s h c =
+next-of set ranges capacity s f h c =
     rw (state-lent (set .rules) capacity s) (go (refusal (callChecks set capacity (headOf s) c)) refl)
   where
     l : Lent
@@ -86,34 +93,65 @@ next-of set ranges capacity s h c =
     go : (o : Option ℕ) → refusal (callChecks set capacity (headOf s) c) ≡ o → Next set capacity s c (outcome set capacity l o r)
     go (some n) e =
         record {
-          after = s;
-          left = refl;
+          after = record { state = s; written = refl; legal = f; room = h };
           reached = rw more-nil Stay;
-          room = h;
           symbols = refl;
           quiet = (
             λ (p : Answer.Refused n ≡ Answer.Quiet). let z : _≡_ {A = ℕ} 0 1 = cc in absurd (omega arith),
-            λ (p : (some n ≡ none) × (s .waiting ≡ []) × (s .verdict ≡ Standing.None)). let z : _≡_ {A = ℕ} 0 1 = cc in absurd (omega arith),
+            λ (p : (some n ≡ none) × (s .waiting ≡ []) × (s .verdict ≡ Standing.None)).
+                let z : _≡_ {A = ℕ} 0 1 = cc in absurd (omega arith),
           );
         }
     go none e =
+        let room : fits capacity (offered s c) ≡ true = accepted-event set ranges capacity s c e h .0 in
+        let symbols : below (set .symbols) (eventsOf none c) ≡ true = accepted-event set ranges capacity s c e h .1 in
+        let legal : Legal set (offered s c) = rw offered-more (legal-more set s (eventsOf none c) symbols f) in
         record {
-          after = r .state;
-          left = refl;
+          after =
+              record {
+                state = r .state;
+                written = refl;
+                legal = legal-reaches set ranges (done .reached) legal;
+                room = done .room room;
+              };
           reached = rw (done .accepted, ← offered-more) (done .reached);
-          room = done .room (accepted-event set ranges capacity s c e h .0);
-          symbols = rw (done .accepted) (accepted-event set ranges capacity s c e h .1);
+          symbols = rw (done .accepted) symbols;
           quiet = (
             λ p. (done .accepted, done .quiet .0 p .0, done .quiet .0 p .1),
             λ p. done .quiet .1 (p .1, p .2),
           );
         }
 
--- the checks behind 7, 9, 10 and 11 pass
-pub lent-passes : (capacity : ℕ) (image table : List ℕ) → valid image ≡ true
-    → prefix (tableOf (read image)) table ≡ true → (w : List ℕ) (c : Counts) (s : State) → fits capacity s ≡ true
-    → Faithful (read image) w c s
-    → refusal (lentChecks capacity image table (lentOf (read image .rules) capacity s)) ≡ none
-unfolding lentChecks refusal
-lent-passes capacity image table good right w c s h f =
-    rw (good, right, sized-lent (read image .rules) capacity s h, described-lent (read image) capacity w c s h f)
+-- The checks behind 10 and 11 take nothing else.
+pub passed-holding : (capacity : ℕ) (image table : List ℕ) (l : Lent) → refusal (lentChecks capacity image table l) ≡ none
+    → Holding (read image) capacity l
+unfolding lentChecks
+passed-holding capacity image table l e =
+    let e₁₀ : _ = refusal-rest _ _ _ (refusal-rest _ _ _ e) in
+    let d : Described (read image) capacity l =
+    is-described (read image) capacity l (refusal-passed _ _ _ e₁₀) (refusal-passed _ _ _ (refusal-rest _ _ _ e₁₀))
+    in
+    record { state = stateOf l; written = sym (d .written); legal = d .legal; room = d .room }
+
+module _ (capacity : ℕ) (image table : List ℕ) (good : valid image ≡ true) (right : prefix (tableOf (read image)) table ≡ true) where
+  in-range : Ranges (read image)
+  in-range = ranges (read image) (valid-in-range image good)
+
+  -- They pass, and so do those behind 7 and 9.
+  pub holding-passes : (l : Lent) → Holding (read image) capacity l → refusal (lentChecks capacity image table l) ≡ none
+  unfolding lentChecks refusal
+  holding-passes l h =
+      rw (h .written)
+      (rw (good, right, sized-lent (read image .rules) capacity (h .state) (h .room), described-lent (read image) capacity (h .state) (h .room) (h .legal)))
+
+  -- So a call is answered by the checks of its own alone.
+  pub replies : (l : Lent) → Holding (read image) capacity l → (c : Call)
+      → callOf capacity image table l c ≡ answered (read image) capacity l (callChecks (read image) capacity (l .head) c) c
+  unfolding callOf answered
+  replies l h c = rw (refusal-append-none _ _ (holding-passes l h))
+
+  -- What it leaves holds a state again.
+  pub next : (l : Lent) (h : Holding (read image) capacity l) (c : Call)
+      → Next (read image) capacity (h .state) c (callOf capacity image table l c)
+  unfolding lentOf
+  next l h c = rw (replies l h c, h .written) (next-of (read image) in-range capacity (h .state) (h .legal) (h .room) c)

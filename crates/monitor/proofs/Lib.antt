@@ -1,8 +1,11 @@
 pub mod Sums
 pub mod Machine
 pub mod Runs
+pub mod Legal
 pub mod Simulation
 pub mod Areas
+pub mod Described
 pub mod Calls
 pub mod ListTheorem
+pub mod Batch
 pub mod Cases

@@ -1,23 +1,26 @@
 -- Lists of calls, and demand 3: what is promised of every one of them. `list-theorem` (proofs/ListTheorem.antt) proves it.
-use Prim.Native.Nat.{ℕ, zero, _+_, _*_, _≤_}
+use Prim.Native.Nat.{ℕ, zero, _+_, _*_, _≤_, _<_}
 use mathlib.Core.Path.{_≡_}
 use mathlib.Core.Bool.{Bool, true, false}
-use mathlib.Core.Logic.{_↔_}
+use mathlib.Core.Logic.{_↔_, _⊎_}
 use mathlib.Core.Option.{Option, none, some}
-use mathlib.Core.List.{List, [], _∷_, _++_}
-use lib.ListN.{length}
+use mathlib.Core.List.{List, [], _∷_, _++_, map}
+use lib.ListN.{length, getD, take}
 use Rattle.rewriting.specs.Lists.{prefix}
 use Rattle.rewriting.specs.Rules.{RuleSet}
 use Rattle.rewriting.specs.Occurrences.{Occurrence, Occurs}
 use Rattle.rewriting.specs.Rewriter.{fed, rewrites}
 use Rattle.image.specs.Image.{read, valid}
+use Rattle.image.specs.Refusals.{refusal}
 use Rattle.table.specs.Table.{tableOf}
+use Rattle.table.specs.Compile.{over}
 use Rattle.monitor.specs.declared.Standing.{Standing}
 use Rattle.monitor.specs.declared.Answer.{Answer}
 use Rattle.monitor.specs.declared.Counts.{Counts}
 use Rattle.monitor.specs.Run.{noCounts, plus}
 use Rattle.monitor.specs.Areas.{Lent, stateOf}
-use Rattle.monitor.specs.Calls.{Call, Offer, GoOn, Outcome, callOf, callChecks, answered, refusedBy, freshOf}
+use Rattle.monitor.specs.Calls.{Call, Offer, GoOn, Outcome, callOf, lentChecks, callChecks, answered, refusedBy, answerNumber, freshOf}
+use Rattle.monitor.specs.Batch.{Batched}
 
 -- the string that a monitor holds: "settled, then waiting"
 unfoldable pub stringOf : Lent → List ℕ
@@ -59,6 +62,13 @@ play capacity image table g [] = g
 play capacity image table g (c ∷ calls) =
     play capacity image table (logged g c (callOf capacity image table (g .left) c)) calls
 
+-- the answers of the calls
+unfoldable pub answersOf : ℕ → List ℕ → List ℕ → Lent → List Call → List Answer
+answersOf capacity image table l [] = []
+answersOf capacity image table l (c ∷ calls) =
+    let o : Outcome = callOf capacity image table l c in
+    o .answer ∷ answersOf capacity image table (o .left) calls
+
 -- What is promised of call c, made with what l is lent as, and its outcome o.
 pub record Answered (set : RuleSet) (capacity : ℕ) (l : Lent) (c : Call) (o : Outcome) : Type 0 where
   -- It is refused just where document 01 says, and by 12, 13, 14 or 15 alone; an accepted one has the answer and the
@@ -86,6 +96,10 @@ pub record Kept (capacity : ℕ) (image table : List ℕ) (l : Lent) (calls : Li
   pub bound :
       let g : Log = play capacity image table (before l) calls in
       g .counts .steps ≤ length (g .accepted) + 8 * g .counts .rewrites
+  -- What is lent stays as described: the checks behind 7, 9, 10 and 11 pass, and none of these refusals ever comes.
+  pub described :
+      let g : Log = play capacity image table (before l) calls in
+      refusal (lentChecks capacity image table (g .left)) ≡ none
   -- each call of the list
   pub each : (earlier : List Call) (c : Call) (later : List Call) → calls ≡ earlier ++ c ∷ later →
       let m : Lent = play capacity image table (before l) earlier .left in
@@ -112,3 +126,24 @@ DemandThree =
     → freshOf capacity bytes words .refused ≡ none
     → Promise (valid image) (prefix (tableOf (read image)) table) capacity image table
     (freshOf capacity bytes words .left) calls
+
+-- the offers of a batch
+unfoldable pub offersOf : ℕ → List ℕ → List Call
+offersOf fuel events = map (λ event. Offer event fuel) events
+
+-- What is promised of a batch that is not refused, whatever is lent: it is the offers one after another, up to the first
+-- that is refused with 12, 14 or 15.
+pub record OneByOne (capacity : ℕ) (image table : List ℕ) (l : Lent) (events : List ℕ) (fuel : ℕ) (answers : List ℕ) (b : Batched) : Type 0 where
+  pub few : b .accepted ≤ length events
+  -- the accepted offers, as a list of calls: what they leave, and their sums
+  pub played : play capacity image table (before l) (offersOf fuel (take (b .accepted) events))
+      ≡ record { left = b .left; accepted = take (b .accepted) events; counts = b .counts }
+  -- their answers, a byte each; later answer bytes stay
+  pub bytes : b .answers
+      ≡ over (map answerNumber (answersOf capacity image table l (offersOf fuel (take (b .accepted) events)))) answers
+  -- all are accepted, or the next one is refused
+  pub stops : ((b .stop ≡ 0) × (b .accepted ≡ length events))
+      ⊎ ((b .accepted < length events)
+      × ((b .stop ≡ 12) ⊎ (b .stop ≡ 14) ⊎ (b .stop ≡ 15))
+      × (callOf capacity image table (b .left) (Offer (getD events (b .accepted) 0) fuel)
+      ≡ record { answer = Answer.Refused (b .stop); counts = noCounts; left = b .left }))
