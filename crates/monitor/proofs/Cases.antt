@@ -14,11 +14,21 @@ use Rattle.table.specs.Table.{matchWord, row, tableOf}
 use Rattle.monitor.specs.State.{empty, going, replace, settle, step}
 use Rattle.monitor.specs.Run.{noCounts, plus, countsOf, ended, counted, fits, proceed, tests, run}
 use Rattle.monitor.specs.Areas.{headOf, areaOf, bytesOf, statesAfter, wordsOf, lentOf, stateOf, noMatch, unmatched, closesWith, standsBy, holds, described}
-use Rattle.monitor.specs.Calls.{sized, fuelOf, lentChecks, isNone, fuelCheck, verdictCheck, callChecks, offered, outcome, answered, callOf, refusedBy}
-use Rattle.monitor.specs.Promise.{stringOf, before, eventsOf, logged}
-use Rattle.monitor.specs.Cases.{Case, Found, foundIn, answering, findFrom, find, over4, cases, documentCapacity}
+use Rattle.monitor.specs.Calls.{sized, freshened, freshOf, fuelOf, lentChecks, isNone, fuelCheck, verdictCheck, callChecks, offered, outcome, answered, callOf, refusedBy}
+use Rattle.monitor.specs.Promise.{stringOf, before, eventsOf, logged, play, answersOf}
+use Rattle.monitor.specs.Cases.{Case, foundIn, find, worked, abcd, cases, growing, edges}
 
--- every value of the table
-pub cases-found : map (λ (c : Case). find documentCapacity (c .set) (c .calls)) cases ≡ map (λ (c : Case). c .found) cases
-unfolding orElse flatMap rule rightInRange ruleInRange inRange lowest tie ending sample kind size symbolsOf contents body imageOf readRight readRule readRules read valid refusal isPrefix state next matching prefixes known numbered states number matchWord row tableOf empty going replace settle step noCounts plus countsOf ended counted fits proceed tests run headOf areaOf bytesOf statesAfter wordsOf lentOf stateOf noMatch unmatched closesWith standsBy holds described sized fuelOf lentChecks isNone fuelCheck verdictCheck callChecks offered outcome answered callOf refusedBy stringOf before eventsOf logged foundIn answering findFrom find over4 cases
+-- every definition that a computed case goes through
+computes : Unit {0}
+unfolding orElse flatMap rule rightInRange ruleInRange inRange lowest tie ending sample kind size symbolsOf contents body imageOf readRight readRule readRules read valid refusal isPrefix state next matching prefixes known numbered states number matchWord row tableOf empty going replace settle step noCounts plus countsOf ended counted fits proceed tests run headOf areaOf bytesOf statesAfter wordsOf lentOf stateOf noMatch unmatched closesWith standsBy holds described sized freshened freshOf fuelOf lentChecks isNone fuelCheck verdictCheck callChecks offered outcome answered callOf refusedBy stringOf before eventsOf logged play answersOf foundIn find worked abcd
+computes = tt
+
+-- every value of the table of worked cases
+pub cases-found : map (λ (c : Case). find (c .set) (c .calls)) cases ≡ map (λ (c : Case). c .found) cases
+unfolding computes cases
 cases-found = refl
+
+-- and of the table of edges
+pub edges-found : map (λ (c : Case). find (c .set) (c .calls)) edges ≡ map (λ (c : Case). c .found) edges
+unfolding computes growing edges
+edges-found = refl

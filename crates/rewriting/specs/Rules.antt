@@ -17,6 +17,10 @@ pub record Rule : Type 0 where
   pub left : List ℕ
   pub right : Right
 
+infix 20 _⇒_
+abbrev pub _⇒_ : List ℕ → Right → Rule
+left ⇒ right = record { left = left; right = right }
+
 -- "A symbol is a number 0..S−1; the first E are events. There are 0..64 rules": S, E, V, and the rules in their order
 pub record RuleSet : Type 0 where
   pub symbols : ℕ
@@ -26,7 +30,7 @@ pub record RuleSet : Type 0 where
 
 -- "numbered from 0": the rule with number i. No rule beyond the last is ever asked for; both its sides are empty
 unfoldable pub rule : List Rule → ℕ → Rule
-rule rules i = getD rules i (record { left = []; right = Put [] })
+rule rules i = getD rules i ([] ⇒ Put [])
 
 -- "a string of 0..8 symbols or a verdict 0..V−1"
 unfoldable pub rightInRange : RuleSet → Right → Bool
