@@ -5,12 +5,11 @@ use mathlib.Core.Path.{_≡_, refl}
 use mathlib.Core.Bool.{true, false}
 use mathlib.Core.List.{[], _∷_, _++_, flatMap}
 use lib.ListN.{length, take, set, replicate}
-use Rattle.rewriting.specs.Rules.{Put, RuleSet, rightInRange, ruleInRange, inRange}
+use Rattle.rewriting.specs.Rules.{Put, _⇒_, symbolsOf, RuleSet, rightInRange, ruleInRange, inRange}
 use Rattle.rewriting.specs.Sample.{sample}
 use Rattle.image.specs.Image.{
   kind,
   size,
-  symbolsOf,
   contents,
   body,
   imageOf,
@@ -50,7 +49,7 @@ widest n =
       symbols = 32;
       events = 32;
       verdicts = 16;
-      rules = replicate n (record { left = replicate 8 31; right = Put (replicate 8 31) });
+      rules = replicate n (replicate 8 31 ⇒ Put (replicate 8 31));
     }
 
 -- 64 such rules are in range, and their image has exactly 1,284 bytes: the bound of `longest` is reached.

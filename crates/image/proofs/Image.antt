@@ -7,18 +7,17 @@ use mathlib.Core.Bool.{Bool, true}
 use mathlib.Core.Logic.{_↔_}
 use mathlib.Core.List.{List, [], _∷_, _++_, append-assoc, flatMap}
 use native.Mathlib.Omega.{arith}
-use lib.Dec.{leb, ltb}
+use lib.Dec.{ltb}
 use lib.ListN.{length, take, drop, length-append}
 use lib.Seq.{take-append-seam, drop-append-seam, drop-append-add, drop-at}
-use borrow.Author.Tests.{leb-true, ltb-true, lt-ltb}
+use borrow.Author.Tests.{ltb-true, lt-ltb}
 use Rattle.rewriting.specs.Lists.{all, below, same}
-use Rattle.rewriting.specs.Rules.{Right, Put, Close, Rule, RuleSet, rightInRange, ruleInRange, inRange}
-use Rattle.rewriting.proofs.Lists.{and-left, and-right, and-both, all-append, same-eq, eq-same}
-use Rattle.rewriting.proofs.Ranges.{RuleRanges, rule-ranges, Ranges, ranges}
+use Rattle.rewriting.specs.Rules.{Right, Put, Close, symbolsOf, Rule, RuleSet, rightInRange, ruleInRange, inRange}
+use Rattle.rewriting.proofs.Lists.{and-left, and-right, and-both, all-append, all-flatMap, below-weaken, same-eq, eq-same}
+use Rattle.rewriting.proofs.Ranges.{length-right, right-below, RuleRanges, rule-ranges, Ranges, ranges}
 use Rattle.image.specs.Image.{
   kind,
   size,
-  symbolsOf,
   contents,
   body,
   imageOf,
@@ -117,21 +116,11 @@ length-image set =
     let n : length (flatMap contents (set .rules)) ≡ 4 * length (set .rules) = length-contents (set .rules) in
     simp length-append (omega arith)
 
--- a right side in range has at most 8 symbols, each below S, and its length or verdict is at most 16
-pub length-right : (set : RuleSet) (x : Right) → rightInRange set x ≡ true → length (symbolsOf x) ≤ 8
-unfolding rightInRange symbolsOf
-length-right set (Put v) e = leb-true (length v) 8 (and-left (leb (length v) 8) (below (set .symbols) v) e)
-length-right set (Close v) e = omega arith
-
-pub right-below : (set : RuleSet) (x : Right) → rightInRange set x ≡ true → below (set .symbols) (symbolsOf x) ≡ true
-unfolding rightInRange symbolsOf
-right-below set (Put v) e = and-right (leb (length v) 8) (below (set .symbols) v) e
-right-below set (Close v) e = refl
-
+-- the length or verdict of a right side in range is at most 16
 pub size-right : (set : RuleSet) (x : Right) → set .verdicts ≤ 16 → rightInRange set x ≡ true → size x ≤ 16
-unfolding rightInRange size
+unfolding rightInRange size symbolsOf
 size-right set (Put v) few e =
-    let short : length v ≤ 8 = leb-true (length v) 8 (and-left (leb (length v) 8) (below (set .symbols) v) e) in
+    let short : length (symbolsOf (Put v)) ≤ 8 = length-right set (Put v) e in
     omega arith
 size-right set (Close v) few e = let lt : v < set .verdicts = ltb-true v (set .verdicts) e in omega arith
 
@@ -164,24 +153,6 @@ longest b e =
     let set : RuleSet = read b in
     let h : Ranges set = ranges set (valid-in-range b e) in
     omega (arith, ap length (valid-encoding b e), length-image set, length-bodies set (set .rules) (h .all-rules))
-
--- numbers below m are below any n that is not smaller
-pub below-weaken : (m n : ℕ) (xs : List ℕ) → m ≤ n → below m xs ≡ true → below n xs ≡ true
-below-weaken m n [] h e = refl
-below-weaken m n (x ∷ xs) h e =
-    let lt : x < m = ltb-true x m (and-left (ltb x m) (below m xs) e) in
-    and-both (lt-ltb x n (omega arith)) (below-weaken m n xs h (and-right (ltb x m) (below m xs) e))
-
--- a test that each part passes, all parts together pass
-pub all-flatMap :
-    {A B : Type 0} (good : A → Bool) (test : B → Bool) (part : A → List B)
-    → ((x : A) → good x ≡ true → all test (part x) ≡ true)
-    → (xs : List A) → all good xs ≡ true → all test (flatMap part xs) ≡ true
-unfolding flatMap
-all-flatMap good test part each [] e = refl
-all-flatMap good test part each (x ∷ xs) e =
-    all-append test (part x) (flatMap part xs) (each x (and-left (good x) (all good xs) e))
-    (all-flatMap good test part each xs (and-right (good x) (all good xs) e))
 
 -- the contents and the body of a rule in range are bytes
 module _ (set : RuleSet) (h : Ranges set) (r : Rule) (e : ruleInRange set r ≡ true) where

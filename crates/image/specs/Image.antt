@@ -11,7 +11,7 @@ use mathlib.Core.List.{List, [], _∷_, _++_, flatMap}
 use lib.Dec.{eqb}
 use lib.ListN.{length, getD, take, drop}
 use Rattle.rewriting.specs.Lists.{same}
-use Rattle.rewriting.specs.Rules.{Right, Put, Close, Rule, RuleSet, inRange}
+use Rattle.rewriting.specs.Rules.{Right, Put, Close, symbolsOf, Rule, RuleSet, inRange}
 
 -- "kind (0 string, 1 verdict)"
 unfoldable pub kind : Right → ℕ
@@ -22,11 +22,6 @@ kind (Close v) = 1
 unfoldable pub size : Right → ℕ
 size (Put v) = length v
 size (Close v) = v
-
--- "for kind 0, its right symbols"
-unfoldable pub symbolsOf : Right → List ℕ
-symbolsOf (Put v) = v
-symbolsOf (Close v) = []
 
 -- "4 bytes a rule: left length; kind (0 string, 1 verdict); right length or verdict; 0"
 unfoldable pub contents : Rule → List ℕ

@@ -1,7 +1,7 @@
 -- Areas: what is written from a state has the capacity's length and is read back as that state, and fresh writes the empty
 -- state.
 -- Assumes nothing.
-use Prim.Native.Nat.{ℕ, zero, suc, _+_, _-_, _≤_}
+use Prim.Native.Nat.{ℕ, suc, _+_, _-_, _≤_}
 use mathlib.Core.Path.{_≡_, refl, ap}
 use mathlib.Core.Bool.{true}
 use mathlib.Core.Option.{Option, none, some}

@@ -1,29 +1,27 @@
 -- A batch is the offers one after another, whatever is lent.
 -- Assumes nothing.
-use Prim.Native.Nat.{ℕ, zero, suc, _+_, _≤_, _<_}
-use mathlib.Core.Path.{_≡_, refl, sym, ap, _∙_}
+use Prim.Native.Nat.{ℕ, suc, _+_, _≤_, _<_}
+use mathlib.Core.Path.{_≡_, refl, sym, ap}
 use mathlib.Core.Bool.{Bool, true, false, not, cond}
 use mathlib.Core.Logic.{_⊎_, inl, inr, ⊎-elim}
 use mathlib.Core.Option.{Option, none, some}
 use mathlib.Core.List.{List, [], _∷_, _++_, map, append-nil, append-assoc}
 use native.Mathlib.Omega.{arith}
 use lib.Dec.{eqb, leb, ltb}
-use lib.ListN.{length, getD, take, length-map}
+use lib.ListN.{length, getD, take}
 use Rattle.rewriting.specs.Lists.{prefix}
 use Rattle.rewriting.specs.Rules.{RuleSet}
 use Rattle.image.specs.Image.{read, valid}
-use Rattle.image.specs.Refusals.{Check, refusal}
+use Rattle.image.specs.Refusals.{refusal}
 use Rattle.image.proofs.Refusals.{refusal-passed, refusal-rest, refusal-none-left, refusal-none-right}
 use Rattle.table.specs.Table.{tableOf}
 use Rattle.table.specs.Compile.{over}
 use Rattle.monitor.specs.declared.Head.{Head}
 use Rattle.monitor.specs.declared.Answer.{Answer}
-use Rattle.monitor.specs.declared.Counts.{Counts}
-use Rattle.monitor.specs.State.{State}
 use Rattle.monitor.specs.Run.{Run, noCounts, plus, run}
 use Rattle.monitor.specs.Areas.{Lent, stateOf}
-use Rattle.monitor.specs.Calls.{Call, Offer, GoOn, Outcome, lentChecks, isNone, fuelCheck, verdictCheck, callChecks, fuelOf, offered, outcome, answered, callOf, offerOf, refusedBy, answerNumber}
-use Rattle.monitor.specs.Batch.{Offers, stopped, andThen, offers, batchChecks, Batched, batched, batchOf}
+use Rattle.monitor.specs.Calls.{Call, Offer, Outcome, lentChecks, isNone, fuelCheck, verdictCheck, callChecks, fuelOf, offered, outcome, answered, callOf, offerOf, refusedBy, answerNumber}
+use Rattle.monitor.specs.Batch.{Offers, stopped, andThen, offers, batchChecks, batched, batchOf}
 use Rattle.monitor.specs.Promise.{Log, before, eventsOf, logged, play, answersOf, offersOf, OneByOne}
 use Rattle.monitor.proofs.Sums.{none-plus, plus-none, plus-assoc}
 use Rattle.monitor.proofs.Runs.{ran}

@@ -1,32 +1,29 @@
 -- One call made with the areas of a state: what it leaves is again the areas of a state, one that the machine reaches.
 -- Assumes nothing.
-use Prim.Native.Nat.{ℕ, zero, suc, _+_, _≤_, _<_}
-use mathlib.Core.Path.{_≡_, refl, sym, ap, _∙_}
-use mathlib.Core.Bool.{Bool, true, false, not, _&&_}
+use Prim.Native.Nat.{ℕ, _+_, _≤_, _<_}
+use mathlib.Core.Path.{_≡_, refl, sym}
+use mathlib.Core.Bool.{true}
 use mathlib.Core.Logic.{_↔_}
 use mathlib.Core.Option.{Option, none, some}
 use mathlib.Core.List.{List, [], _∷_, _++_, append-nil}
 use native.Mathlib.Omega.{arith}
-use lib.Dec.{eqb, leb, ltb}
 use lib.ListN.{length, length-append}
 use borrow.Author.Tests.{ltb-true, lt-ltb, leb-true, le-leb, eqb-false, not-true}
 use Rattle.rewriting.specs.Lists.{below, prefix}
-use Rattle.rewriting.specs.Rules.{Rule, RuleSet}
+use Rattle.rewriting.specs.Rules.{RuleSet}
 use Rattle.rewriting.proofs.Lists.{and-both}
 use Rattle.rewriting.proofs.Ranges.{Ranges, ranges}
 use Rattle.image.specs.Image.{read, valid}
-use Rattle.image.specs.Refusals.{Check, refusal}
+use Rattle.image.specs.Refusals.{refusal}
 use Rattle.image.proofs.Image.{valid-in-range}
-use Rattle.image.proofs.Refusals.{refusal-pass, refusal-passed, refusal-rest, refusal-append-none}
+use Rattle.image.proofs.Refusals.{refusal-passed, refusal-rest, refusal-append-none}
 use Rattle.table.specs.Table.{tableOf}
 use Rattle.monitor.specs.declared.Standing.{Standing}
-use Rattle.monitor.specs.declared.Head.{Head}
 use Rattle.monitor.specs.declared.Answer.{Answer}
-use Rattle.monitor.specs.declared.Counts.{Counts}
 use Rattle.monitor.specs.State.{State}
-use Rattle.monitor.specs.Run.{Run, noCounts, fits, run}
-use Rattle.monitor.specs.Areas.{Lent, headOf, lentOf, stateOf, described}
-use Rattle.monitor.specs.Calls.{Call, Offer, GoOn, Outcome, fuelOf, sized, lentChecks, fuelCheck, verdictCheck, callChecks, offered, outcome, answered, callOf, refusedBy}
+use Rattle.monitor.specs.Run.{Run, fits, run}
+use Rattle.monitor.specs.Areas.{Lent, headOf, lentOf, stateOf}
+use Rattle.monitor.specs.Calls.{Call, Offer, GoOn, Outcome, fuelOf, lentChecks, fuelCheck, verdictCheck, callChecks, offered, outcome, answered, callOf, refusedBy}
 use Rattle.monitor.specs.Promise.{eventsOf}
 use Rattle.monitor.proofs.Machine.{Reaches, Stay, more}
 use Rattle.monitor.proofs.Runs.{Ran, ran}

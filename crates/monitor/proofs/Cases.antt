@@ -1,13 +1,12 @@
 -- The worked cases of document 01, computed from the definitions.
 -- Assumes nothing.
-use Prim.Native.Nat.{ℕ}
 use mathlib.Core.Path.{_≡_, refl}
-use mathlib.Core.List.{List, [], _∷_, map, flatMap}
+use mathlib.Core.List.{map, flatMap}
 use mathlib.Core.Option.{orElse}
-use Rattle.rewriting.specs.Rules.{rule, rightInRange, ruleInRange, inRange}
+use Rattle.rewriting.specs.Rules.{symbolsOf, rule, rightInRange, ruleInRange, inRange}
 use Rattle.rewriting.specs.Occurrences.{lowest, tie, ending}
 use Rattle.rewriting.specs.Sample.{sample}
-use Rattle.image.specs.Image.{kind, size, symbolsOf, contents, body, imageOf, readRight, readRule, readRules, read, valid}
+use Rattle.image.specs.Image.{kind, size, contents, body, imageOf, readRight, readRule, readRules, read, valid}
 use Rattle.image.specs.Refusals.{refusal}
 use Rattle.table.specs.States.{isPrefix, state, next, matching, prefixes, known, numbered, states, number}
 use Rattle.table.specs.Table.{matchWord, row, tableOf}

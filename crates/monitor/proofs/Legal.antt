@@ -1,25 +1,24 @@
 -- Legal states: those that the check behind refusal 11 takes, but for the capacity. A step leads from one to another.
 -- Assumes nothing.
-use Prim.Native.Nat.{ℕ, suc, _+_, _-_, _≤_}
+use Prim.Native.Nat.{ℕ, _-_, _≤_}
 use mathlib.Core.Path.{_≡_, refl}
-use mathlib.Core.Bool.{Bool, true, false, _&&_}
+use mathlib.Core.Bool.{Bool, true}
 use mathlib.Core.Option.{Option, none, some}
 use mathlib.Core.List.{List, [], _∷_, _++_, append-assoc}
 use native.Mathlib.Omega.{arith}
-use lib.Dec.{leb, ltb}
+use lib.Dec.{ltb}
 use lib.ListN.{length, take, drop, length-append, take-append-drop}
 use lib.Seq.{append-snoc, take-append-le}
 use borrow.Author.Tests.{eq-eqb, lt-ltb}
 use Rattle.rewriting.specs.Lists.{below}
-use Rattle.rewriting.specs.Rules.{Right, Put, Close, Rule, RuleSet, rule, rightInRange}
+use Rattle.rewriting.specs.Rules.{Right, Put, Close, symbolsOf, Rule, RuleSet, rule, rightInRange}
 use Rattle.rewriting.specs.Occurrences.{scan, redex, ending}
 use Rattle.rewriting.proofs.Lists.{and-both, and-right, all-append, all-left, all-right}
-use Rattle.rewriting.proofs.Ranges.{Ranges, rule-at}
+use Rattle.rewriting.proofs.Ranges.{right-below, Ranges, rule-at}
 use Rattle.rewriting.proofs.Scan.{scan-snoc, redex-take, EndsWith, ending-left}
 use Rattle.table.proofs.Matching.{matching-next}
-use Rattle.monitor.specs.declared.Standing.{Standing}
 use Rattle.monitor.specs.declared.Counts.{Counts}
-use Rattle.monitor.specs.State.{State, Step, going, replace, settle, step}
+use Rattle.monitor.specs.State.{State, going, replace, settle, step}
 use Rattle.monitor.specs.Areas.{closesWith, standsBy}
 use Rattle.monitor.proofs.Machine.{Reaches, Stay, On, more}
 
@@ -68,7 +67,7 @@ module _ (set : RuleSet) (ranges : Ranges set) (s : List ℕ) (a : ℕ) (q : Lis
 
   -- rule i's left side ends with a
   legal-some : (i : ℕ) → ending (set .rules) (s ++ a ∷ []) ≡ some i → Legal set (settle (set .rules) (s ++ a ∷ []) q (some i) .to)
-  unfolding settle going replace rightInRange standsBy closesWith
+  unfolding settle going replace symbolsOf standsBy closesWith
   legal-some i e = go (rule rules i .right) refl
     where
       rules : List Rule
@@ -104,7 +103,7 @@ module _ (set : RuleSet) (ranges : Ranges set) (s : List ℕ) (a : ℕ) (q : Lis
       go (Put v) h =
           record {
             clean = clean;
-            symbols = symbols v (and-right (leb (length v) 8) (below (set .symbols) v) (rw h at in-range));
+            symbols = symbols v (rw h at (right-below set (rule rules i .right) in-range));
             stands = refl;
           }
       go (Close v) h =

@@ -1,17 +1,16 @@
 -- What a run does, whatever the rules, the capacity, the fuel and the state: it takes steps of the machine, at most as
 -- many as it has fuel for, keeps within the capacity, and answers Quiet exactly when nothing waits and no verdict stands.
 -- Assumes nothing.
-use Prim.Native.Nat.{ℕ, zero, suc, _+_, _≤_}
-use mathlib.Core.Path.{_≡_, refl, sym, ap, _∙_}
+use Prim.Native.Nat.{ℕ, zero, suc, _≤_}
+use mathlib.Core.Path.{_≡_, refl}
 use mathlib.Core.Bool.{Bool, true, false, cond}
 use mathlib.Core.Logic.{_↔_}
 use mathlib.Core.Option.{Option, none, some}
-use mathlib.Core.List.{List, [], _∷_, _++_}
+use mathlib.Core.List.{List, [], _∷_}
 use native.Mathlib.Omega.{arith}
 use Rattle.rewriting.specs.Rules.{Rule}
 use Rattle.monitor.specs.declared.Standing.{Standing}
 use Rattle.monitor.specs.declared.Answer.{Answer}
-use Rattle.monitor.specs.declared.Counts.{Counts}
 use Rattle.monitor.specs.State.{State, Step, step}
 use Rattle.monitor.specs.Run.{Run, noCounts, plus, countsOf, ended, counted, fits, proceed, tests, run}
 use Rattle.monitor.specs.Calls.{refusedBy}

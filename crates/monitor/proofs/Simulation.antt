@@ -25,7 +25,7 @@ use Rattle.monitor.specs.State.{State, going, replace, settle, step}
 use Rattle.monitor.specs.Run.{noCounts, plus, countsOf}
 use Rattle.monitor.specs.Promise.{verdictOf}
 use Rattle.monitor.proofs.Machine.{Reaches, Stay, On}
-use Rattle.monitor.proofs.Legal.{Legal, legal-waiting, legal-reaches}
+use Rattle.monitor.proofs.Legal.{legal-waiting, legal-reaches}
 
 -- what is so of a state t that is reached from w with the counts c
 pub record Faithful (rules : List Rule) (w : List ℕ) (c : Counts) (t : State) : Type 0 where

@@ -1,7 +1,6 @@
 -- Counts add up in any grouping.
 -- Assumes nothing.
-use Prim.Native.Nat.{ℕ, _+_}
-use mathlib.Core.Path.{_≡_, refl}
+use mathlib.Core.Path.{_≡_}
 use native.Mathlib.Nat.{zero-add, add-zero, add-assoc}
 use Rattle.monitor.specs.declared.Counts.{Counts}
 use Rattle.monitor.specs.Run.{noCounts, plus}

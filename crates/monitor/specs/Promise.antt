@@ -1,5 +1,5 @@
 -- Lists of calls, and demand 3: what is promised of every one of them. `list-theorem` (proofs/ListTheorem.antt) proves it.
-use Prim.Native.Nat.{ℕ, zero, _+_, _*_, _≤_, _<_}
+use Prim.Native.Nat.{ℕ, _+_, _*_, _≤_, _<_}
 use mathlib.Core.Path.{_≡_}
 use mathlib.Core.Bool.{Bool, true, false}
 use mathlib.Core.Logic.{_↔_, _⊎_}

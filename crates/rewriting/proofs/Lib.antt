@@ -1,5 +1,6 @@
 pub mod Lists
 pub mod Ranges
+pub mod Choice
 pub mod Scan
 pub mod Redex
 pub mod Rewrites

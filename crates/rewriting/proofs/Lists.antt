@@ -1,16 +1,17 @@
 -- Laws of the tests on lists: what each says when it passes, and that it passes where that holds.
 -- Assumes nothing.
-use Prim.Native.Nat.{ℕ, zero, suc, _+_, _≤_, _<_}
+use Prim.Native.Nat.{ℕ, zero, suc, _+_, _*_, _≤_, _<_}
 use mathlib.Core.Path.{_≡_, refl, sym, ap, _∙_}
 use mathlib.Core.Bool.{Bool, true, false, _&&_, _||_}
 use mathlib.Core.Logic.{_⊎_, inl, inr}
-use mathlib.Core.List.{List, [], _∷_, _++_, append-nil, append-assoc}
+use mathlib.Core.List.{List, [], _∷_, _++_, map, flatMap}
 use native.Mathlib.Omega.{arith}
-use native.Mathlib.Nat.{le-of-suc-le-suc, not-suc-le-zero}
+use native.Mathlib.Nat.{le-of-suc-le-suc, not-suc-le-zero, zero-mul, suc-mul}
 use lib.Dec.{eqb, leb, ltb}
-use lib.ListN.{length, getD, drop, length-append}
-use borrow.Author.Tests.{eqb-true, eq-eqb, leb-true, le-leb, ltb-true, lt-ltb}
-use Rattle.rewriting.specs.Lists.{all, any, same, prefix, between, below, upTo}
+use lib.ListN.{length, getD, drop, length-append, List·getD-append}
+use lib.Seq.{getD-at, getD-append-add}
+use borrow.Author.Tests.{eqb-true, eq-eqb, leb-true, ltb-true, ltb-false, lt-ltb}
+use Rattle.rewriting.specs.Lists.{all, same, prefix, between, below, upTo}
 
 pub and-left : (a b : Bool) → (a && b) ≡ true → a ≡ true
 and-left true b e = refl
@@ -40,6 +41,10 @@ module _ {A : Type 0} (test : A → Bool) where
   all-append (x ∷ xs) ys p q =
       and-both (and-left (test x) (all test xs) p) (all-append xs ys (and-right (test x) (all test xs) p) q)
 
+  pub all-map : {B : Type 0} (f : B → A) → ((x : B) → test (f x) ≡ true) → (xs : List B) → all test (map f xs) ≡ true
+  all-map f h [] = refl
+  all-map f h (x ∷ xs) = and-both (h x) (all-map f h xs)
+
   pub all-left : (xs ys : List A) → all test (xs ++ ys) ≡ true → all test xs ≡ true
   all-left [] ys p = refl
   all-left (x ∷ xs) ys p =
@@ -53,6 +58,10 @@ module _ {A : Type 0} (test : A → Bool) where
   all-at [] d p i h = absurd (not-suc-le-zero h)
   all-at (x ∷ xs) d p zero h = and-left (test x) (all test xs) p
   all-at (x ∷ xs) d p (suc i) h = all-at xs d (and-right (test x) (all test xs) p) i (le-of-suc-le-suc h)
+
+pub all-true : {A : Type 0} (xs : List A) → all (λ x. true) xs ≡ true
+all-true [] = refl
+all-true (x ∷ xs) = all-true xs
 
 pub same-eq : (s t : List ℕ) → same s t ≡ true → s ≡ t
 same-eq [] [] e = refl
@@ -99,3 +108,67 @@ between-high low n high e = leb-true n high (and-right (leb low n) (leb n high) 
 pub length-upTo : (n : ℕ) → length (upTo n) ≡ n
 length-upTo zero = refl
 length-upTo (suc n) = let ih : length (upTo n) ≡ n = length-upTo n in simp length-append (omega arith)
+
+-- numbers below m are below any n that is not smaller
+pub below-weaken : (m n : ℕ) (xs : List ℕ) → m ≤ n → below m xs ≡ true → below n xs ≡ true
+below-weaken m n [] h e = refl
+below-weaken m n (x ∷ xs) h e =
+    let lt : x < m = ltb-true x m (and-left (ltb x m) (below m xs) e) in
+    and-both (lt-ltb x n (omega arith)) (below-weaken m n xs h (and-right (ltb x m) (below m xs) e))
+
+-- a test that each part passes, all parts together pass
+pub all-flatMap :
+    {A B : Type 0} (good : A → Bool) (test : B → Bool) (part : A → List B)
+    → ((x : A) → good x ≡ true → all test (part x) ≡ true)
+    → (xs : List A) → all good xs ≡ true → all test (flatMap part xs) ≡ true
+unfolding flatMap
+all-flatMap good test part each [] e = refl
+all-flatMap good test part each (x ∷ xs) e =
+    all-append test (part x) (flatMap part xs) (each x (and-left (good x) (all good xs) e))
+    (all-flatMap good test part each xs (and-right (good x) (all good xs) e))
+
+module _ {A B : Type 0} (f : A → B) where
+  pub getD-map : (xs : List A) (i : ℕ) (d : A) (e : B) → i < length xs → getD (map f xs) i e ≡ f (getD xs i d)
+  getD-map [] i d e h = absurd (not-suc-le-zero h)
+  getD-map (x ∷ xs) zero d e h = refl
+  getD-map (x ∷ xs) (suc i) d e h = getD-map xs i d e (le-of-suc-le-suc h)
+
+module _ {A B : Type 0} (f : A → List B) where
+  -- rows of n elements each
+  pub length-flatMap : (n : ℕ) → ((x : A) → length (f x) ≡ n) → (xs : List A) → length (flatMap f xs) ≡ length xs * n
+  unfolding flatMap
+  length-flatMap n h [] = sym (zero-mul n)
+  length-flatMap n h (x ∷ xs) =
+      let ih = length-flatMap n h xs in
+      let e = h x in
+      rw (length-append, suc-mul) (omega arith)
+
+  pub getD-flatMap : (n : ℕ) → ((x : A) → length (f x) ≡ n) → (xs : List A) (i a : ℕ) (d : A) (e : B) → i < length xs → a < n
+      → getD (flatMap f xs) (i * n + a) e ≡ getD (f (getD xs i d)) a e
+  unfolding flatMap
+  getD-flatMap n h [] i a d e lt below = absurd (not-suc-le-zero lt)
+  getD-flatMap n h (x ∷ xs) zero a d e lt below =
+      let m = h x in
+      let here : 0 * n + a ≡ a = omega arith in
+      rw here (List·getD-append (f x) (flatMap f xs) e a (omega arith))
+  getD-flatMap n h (x ∷ xs) (suc i) a d e lt below =
+      let m = h x in
+      let on : suc i * n + a ≡ length (f x) + (i * n + a) = rw suc-mul (omega arith) in
+      rw (on, getD-append-add) (getD-flatMap n h xs i a d e (le-of-suc-le-suc lt) below)
+
+pub getD-upTo : (n a d : ℕ) → a < n → getD (upTo n) a d ≡ a
+getD-upTo zero a d h = absurd (not-suc-le-zero h)
+getD-upTo (suc n) a d h = go (ltb a n) refl (getD-upTo n a d)
+  where
+    go : (b : Bool) → ltb a n ≡ b → (a < n → getD (upTo n) a d ≡ a) → getD (upTo (suc n)) a d ≡ a
+    go true e ih =
+        let lt : a < n = ltb-true a n e in
+        let m = length-upTo n in
+        List·getD-append (upTo n) (n ∷ []) d a (omega arith) ∙ ih lt
+    go false e ih =
+        let here : n ≡ a = omega (arith, ltb-false a n e) in
+        getD-at (upTo n) n [] d a (length-upTo n ∙ here) ∙ here
+
+-- what stands in the beginning of a list
+pub begins-at : (s t : List ℕ) → prefix s t ≡ true → (i d : ℕ) → i < length s → getD t i d ≡ getD s i d
+begins-at s t e i d h = ap (λ (l : List ℕ). getD l i d) (prefix-rest s t e) ∙ List·getD-append s (drop (length s) t) d i h

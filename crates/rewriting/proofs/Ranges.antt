@@ -2,14 +2,26 @@
 -- Assumes nothing.
 use Prim.Native.Nat.{ℕ, _≤_, _<_}
 use mathlib.Core.Path.{_≡_, refl}
-use mathlib.Core.Bool.{Bool, true, false, _&&_}
-use mathlib.Core.List.{List, []}
-use lib.Dec.{leb, ltb}
+use mathlib.Core.Bool.{Bool, true, _&&_}
+use mathlib.Core.List.{[]}
+use native.Mathlib.Omega.{arith}
+use lib.Dec.{leb}
 use lib.ListN.{length, getD}
-use borrow.Author.Tests.{leb-true, ltb-true}
+use borrow.Author.Tests.{leb-true}
 use Rattle.rewriting.specs.Lists.{all, below, between}
-use Rattle.rewriting.specs.Rules.{Right, Put, Close, Rule, RuleSet, rule, rightInRange, ruleInRange, inRange}
+use Rattle.rewriting.specs.Rules.{Right, Put, Close, symbolsOf, Rule, _⇒_, RuleSet, rule, rightInRange, ruleInRange, inRange}
 use Rattle.rewriting.proofs.Lists.{and-left, and-right, all-at, between-low, between-high}
+
+-- a right side in range has at most 8 symbols, each below S
+pub length-right : (set : RuleSet) (x : Right) → rightInRange set x ≡ true → length (symbolsOf x) ≤ 8
+unfolding rightInRange symbolsOf
+length-right set (Put v) e = leb-true (length v) 8 (and-left (leb (length v) 8) (below (set .symbols) v) e)
+length-right set (Close v) e = omega arith
+
+pub right-below : (set : RuleSet) (x : Right) → rightInRange set x ≡ true → below (set .symbols) (symbolsOf x) ≡ true
+unfolding rightInRange symbolsOf
+right-below set (Put v) e = and-right (leb (length v) 8) (below (set .symbols) v) e
+right-below set (Close v) e = refl
 
 -- a left side has 1..8 symbols, each below S, and its right side is in range
 pub record RuleRanges (set : RuleSet) (r : Rule) : Type 0 where
@@ -69,5 +81,5 @@ ranges set e =
 pub rule-at : (set : RuleSet) → Ranges set → (i : ℕ) → i < length (set .rules) → RuleRanges set (rule (set .rules) i)
 unfolding rule
 rule-at set h i lt =
-    rule-ranges set (getD (set .rules) i (record { left = []; right = Put [] }))
-    (all-at (ruleInRange set) (set .rules) (record { left = []; right = Put [] }) (h .all-rules) i lt)
+    rule-ranges set (getD (set .rules) i ([] ⇒ Put []))
+    (all-at (ruleInRange set) (set .rules) ([] ⇒ Put []) (h .all-rules) i lt)

@@ -13,7 +13,8 @@ use lib.Seq.{append-snoc, take-at, drop-at}
 use Rattle.rewriting.specs.Rules.{Rule, RuleSet, rule, inRange}
 use Rattle.rewriting.specs.Occurrences.{Occurrence, Occurs, Sooner, ends, lowest, ending, endingAt, scan, redex}
 use Rattle.rewriting.proofs.Ranges.{ranges, rule-at}
-use Rattle.rewriting.proofs.Scan.{tie-some, tie-earlier, tie-none, lowest-left, lowest-none, EndsWith, ending-left, scan-next, scan-some, scan-ending}
+use Rattle.rewriting.proofs.Choice.{tie-some, tie-earlier, tie-none}
+use Rattle.rewriting.proofs.Scan.{lowest-left, lowest-none, EndsWith, ending-left, scan-next, scan-some, scan-ending}
 
 -- "A left side has 1..8 symbols.": none is empty
 abbrev pub NonEmpty : List Rule → Type 0

@@ -7,15 +7,10 @@ use mathlib.Core.Option.{Option, none, some, bind, bind-eq-some-iff, map-eq-some
 use mathlib.Core.List.{List}
 use native.Mathlib.Omega.{arith}
 use native.Mathlib.Nat.{add-zero, add-suc}
-use lib.Dec.{leb}
-use lib.ListN.{length}
-use borrow.Author.Tests.{leb-true}
-use Rattle.rewriting.specs.Lists.{below}
-use Rattle.rewriting.specs.Rules.{Right, Put, Close, Rule, RuleSet, rule, rightInRange, inRange}
+use Rattle.rewriting.specs.Rules.{Right, Put, Close, symbolsOf, Rule, RuleSet, rule, rightInRange, inRange}
 use Rattle.rewriting.specs.Occurrences.{Occurrence, redex}
 use Rattle.rewriting.specs.Rewriter.{Rewriter, replaced, unlessVerdict, rewrite, rewrites}
-use Rattle.rewriting.proofs.Lists.{and-left}
-use Rattle.rewriting.proofs.Ranges.{Ranges, ranges, rule-at}
+use Rattle.rewriting.proofs.Ranges.{length-right, Ranges, ranges, rule-at}
 use Rattle.rewriting.proofs.Redex.{redex-occurs}
 
 -- where a rewrite is taken, no verdict stands in its way
@@ -70,9 +65,8 @@ module _ (rules : List Rule) where
 -- a right side in range puts in at most 8 symbols
 replaced-put : (set : RuleSet) (put : ℕ) (o : Occurrence) (r : Right) → rightInRange set r ≡ true
     → replaced put o r .put ≤ put + 8
-unfolding replaced rightInRange
-replaced-put set put o (Put v) e =
-    omega (arith, leb-true (length v) 8 (and-left (leb (length v) 8) (below (set .symbols) v) e))
+unfolding replaced symbolsOf
+replaced-put set put o (Put v) e = omega (arith, length-right set (Put v) e)
 replaced-put set put o (Close v) e = omega arith
 
 -- and so does a rewrite

@@ -12,29 +12,15 @@ use lib.ListN.{length, take, drop, length-append, take-append-drop}
 use lib.Seq.{append-snoc, take-at}
 use Rattle.rewriting.specs.Lists.{same}
 use Rattle.rewriting.specs.Rules.{Rule, rule}
-use Rattle.rewriting.specs.Occurrences.{Occurrence, lowest, tie, ending, endingAt, scan, redex}
+use Rattle.rewriting.specs.Occurrences.{Occurrence, lowest, ending, endingAt, scan, redex}
 use Rattle.rewriting.proofs.Lists.{same-eq, eq-same}
+use Rattle.rewriting.proofs.Choice.{tie-some}
 
 -- `orElse` finds nothing only where neither does
 or-else-none : {A : Type 0} (x y : Option A) → orElse x y ≡ none → (x ≡ none) × (y ≡ none)
 unfolding orElse
 or-else-none none y e = (refl, e)
 or-else-none (some a) y e = let z : _≡_ {A = ℕ} 0 1 = cc in absurd (omega arith)
-
--- The laws of `tie`: it takes one of the two where there is one, and the earlier of both. No other law opens it.
-pub tie-some : (earlier later : Option ℕ) (i : ℕ) → tie earlier later ≡ some i → (earlier ≡ some i) ⊎ (later ≡ some i)
-unfolding tie orElse
-tie-some none later i e = inr e
-tie-some (some j) later i e = inl e
-
-pub tie-earlier : (earlier later : Option ℕ) (i j : ℕ) → tie earlier later ≡ some i → earlier ≡ some j → i ≡ j
-unfolding tie orElse
-tie-earlier none later i j e p = let z : _≡_ {A = ℕ} 0 1 = cc in absurd (omega arith)
-tie-earlier (some k) later i j e p = cc
-
-pub tie-none : (earlier later : Option ℕ) → tie earlier later ≡ none → (earlier ≡ none) × (later ≡ none)
-unfolding tie
-tie-none earlier later e = or-else-none earlier later e
 
 module _ (rules : List Rule) where
   -- one symbol on, where no left side ends with it

@@ -12,6 +12,11 @@ pub data Right : Type 0 where
   Put : List ℕ → Right
   Close : ℕ → Right
 
+-- the symbols that a right side puts in: none for a verdict
+unfoldable pub symbolsOf : Right → List ℕ
+symbolsOf (Put v) = v
+symbolsOf (Close v) = []
+
 -- left side → right side
 pub record Rule : Type 0 where
   pub left : List ℕ

@@ -2,24 +2,18 @@
 -- Assumes nothing.
 use Prim.Native.Nat.{ℕ, _≤_}
 use mathlib.Core.Path.{_≡_, refl}
-use mathlib.Core.Bool.{Bool, true, false}
+use mathlib.Core.Bool.{true}
 use mathlib.Core.Option.{Option, none, some}
-use mathlib.Core.List.{List, [], _∷_}
+use mathlib.Core.List.{List}
 use native.Mathlib.Omega.{arith}
-use lib.Dec.{leb}
 use lib.ListN.{length, length-append, length-drop}
 use borrow.Author.Tests.{leb-true}
 use Rattle.image.specs.Image.{read, valid}
-use Rattle.image.specs.Refusals.{Check, refusal}
+use Rattle.image.specs.Refusals.{refusal}
+use Rattle.image.proofs.Refusals.{refusal-passed, refusal-rest}
 use Rattle.table.specs.declared.Compiled.the-variants.{Words, Refused}
 use Rattle.table.specs.Table.{tableOf}
 use Rattle.table.specs.Compile.{over, compileChecks, compiled, compileOf}
-
--- nothing is refused: the first check holds, and the others refuse nothing
-passes : (b : Bool) (n : ℕ) (checks : List Check) → refusal ((b, n) ∷ checks) ≡ none → (b ≡ true) × (refusal checks ≡ none)
-unfolding refusal
-passes true n checks e = (refl, e)
-passes false n checks e = let z : _≡_ {A = ℕ} 0 1 = cc in absurd (omega arith)
 
 -- a refusal leaves the area
 pub compile-refused : (image area : List ℕ) (n : ℕ) → refusal (compileChecks image area) ≡ some n
@@ -30,14 +24,11 @@ compile-refused image area n e = rw e
 -- what is not refused is a rule image whose table fits the area
 pub accepted-valid : (image area : List ℕ) → refusal (compileChecks image area) ≡ none → valid image ≡ true
 unfolding compileChecks
-accepted-valid image area e = passes (valid image) 7 ((leb (length (tableOf (read image))) (length area), 8) ∷ []) e .0
+accepted-valid image area e = refusal-passed _ _ _ e
 
 pub accepted-fits : (image area : List ℕ) → refusal (compileChecks image area) ≡ none → length (tableOf (read image)) ≤ length area
 unfolding compileChecks
-accepted-fits image area e =
-    let fits : Bool = leb (length (tableOf (read image))) (length area) in
-    leb-true (length (tableOf (read image))) (length area)
-    (passes fits 8 [] (passes (valid image) 7 ((fits, 8) ∷ []) e .1) .0)
+accepted-fits image area e = leb-true _ _ (refusal-passed _ _ _ (refusal-rest _ _ _ e))
 
 -- otherwise the table is written over the beginning of the area, and its number of words answered
 pub compile-accepted : (image area : List ℕ) → refusal (compileChecks image area) ≡ none

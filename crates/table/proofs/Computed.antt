@@ -2,15 +2,15 @@
 -- Assumes nothing.
 use Prim.Native.Nat.{ℕ}
 use mathlib.Core.Path.{_≡_, refl}
-use mathlib.Core.Bool.{true, false}
 use mathlib.Core.Option.{orElse}
 use mathlib.Core.List.{List, [], _∷_, _++_, flatMap}
 use lib.ListN.{length, replicate}
-use Rattle.rewriting.specs.Rules.{rightInRange, ruleInRange, inRange}
 use Rattle.rewriting.specs.Occurrences.{lowest, tie, ending}
 use Rattle.rewriting.specs.Sample.{sample}
-use Rattle.image.specs.Image.{kind, size, symbolsOf, contents, body, imageOf, readRight, readRule, readRules, read, valid}
+use Rattle.image.specs.Image.{imageOf}
 use Rattle.image.specs.Refusals.{refusal}
+use Rattle.image.proofs.Image.{read-image}
+use Rattle.image.proofs.Computed.{sample-valid, longer-refused}
 use Rattle.table.specs.declared.Compiled.the-variants.{Words, Refused}
 use Rattle.table.specs.States.{isPrefix, state, next, matching, prefixes, known, numbered, states, number}
 use Rattle.table.specs.Table.{matchWord, row, tableOf}
@@ -41,38 +41,25 @@ sample-table = refl
 pub sample-words : length (tableOf sample) ≡ 32
 sample-words = rw sample-table
 
--- the sample's image is read back as the sample, and a byte behind it breaks the layout
-sample-read : read (imageOf sample) ≡ sample
-unfolding sample imageOf contents body kind size symbolsOf read readRules readRule readRight flatMap
-sample-read = refl
-
-sample-valid : valid (imageOf sample) ≡ true
-unfolding sample valid inRange ruleInRange rightInRange imageOf contents body kind size symbolsOf read readRules readRule readRight flatMap
-sample-valid = refl
-
-sample-broken : valid (imageOf sample ++ 0 ∷ []) ≡ false
-unfolding sample valid inRange ruleInRange rightInRange imageOf contents body kind size symbolsOf read readRules readRule readRight flatMap
-sample-broken = refl
-
 -- compile of it into 32 words
 pub sample-compiled : compileOf (imageOf sample) (replicate 32 9) ≡ record { answer = Words 32; area = sampleTable }
 unfolding compileOf compileChecks compiled refusal over
-sample-compiled = rw (sample-valid, sample-read, sample-table)
+sample-compiled = rw (sample-valid, read-image sample, sample-table)
 
 -- into 33 words: the last word stays
 pub sample-beyond : compileOf (imageOf sample) (replicate 33 9) ≡ record { answer = Words 32; area = sampleTable ++ 9 ∷ [] }
 unfolding compileOf compileChecks compiled refusal over
-sample-beyond = rw (sample-valid, sample-read, sample-table)
+sample-beyond = rw (sample-valid, read-image sample, sample-table)
 
 -- into 31 words: refused, and nothing is written
 pub sample-too-short : compileOf (imageOf sample) (replicate 31 9) ≡ record { answer = Refused 8; area = replicate 31 9 }
 unfolding compileOf compileChecks compiled refusal
-sample-too-short = rw (sample-valid, sample-read, sample-table)
+sample-too-short = rw (sample-valid, read-image sample, sample-table)
 
 -- a broken image is refused by 7 whatever the area, and so also where 8 would refuse it
 pub broken-refused : (area : List ℕ) → compileOf (imageOf sample ++ 0 ∷ []) area ≡ record { answer = Refused 7; area = area }
 unfolding compileOf compileChecks compiled refusal
-broken-refused area = rw sample-broken
+broken-refused area = rw (longer-refused 0)
 
 -- no rules: the empty string is the one state
 pub empty-states : states [] ≡ [] ∷ []

@@ -4,7 +4,7 @@ use Prim.Native.Nat.{ℕ, _≤_}
 use mathlib.Core.Path.{_≡_, refl, sym, _∙_}
 use mathlib.Core.Bool.{Bool, true, false, _||_}
 use mathlib.Core.Logic.{_⊎_, inl, inr}
-use mathlib.Core.Option.{Option, none, some, orElse}
+use mathlib.Core.Option.{none}
 use mathlib.Core.List.{List, [], _∷_, _++_, append-nil}
 use native.Mathlib.Omega.{arith}
 use lib.ListN.{length, length-append}
@@ -12,6 +12,7 @@ use Rattle.rewriting.specs.Lists.{same, prefix}
 use Rattle.rewriting.specs.Rules.{Rule}
 use Rattle.rewriting.specs.Occurrences.{lowest, tie, ending}
 use Rattle.rewriting.proofs.Lists.{or-cases, or-left, or-right, same-eq, prefix-append, prefix-shorter}
+use Rattle.rewriting.proofs.Choice.{tie-later}
 use Rattle.table.specs.States.{isPrefix, state, next, matching}
 
 -- a beginning of a prefix of a left side is one too
@@ -56,10 +57,10 @@ state-snoc rules (x ∷ p) a = go (isPrefix rules (x ∷ p)) refl (state-snoc ru
     go false e ih = rw (e, isPrefix-longer rules (x ∷ p) (a ∷ []) e) ih
 
 -- what is no prefix of a left side is no left side
-pub lowest-none : (rules : List Rule) (v : List ℕ) → isPrefix rules v ≡ false → lowest rules v ≡ none
+pub lowest-no-prefix : (rules : List Rule) (v : List ℕ) → isPrefix rules v ≡ false → lowest rules v ≡ none
 unfolding isPrefix lowest
-lowest-none [] v e = refl
-lowest-none (r ∷ rules) v e = go (same (r .left) v) refl (prefix v (r .left)) refl e (lowest-none rules v)
+lowest-no-prefix [] v e = refl
+lowest-no-prefix (r ∷ rules) v e = go (same (r .left) v) refl (prefix v (r .left)) refl e (lowest-no-prefix rules v)
   where
     go : (b : Bool) → same (r .left) v ≡ b → (c : Bool) → prefix v (r .left) ≡ c → (c || isPrefix rules v) ≡ false
         → (isPrefix rules v ≡ false → lowest rules v ≡ none) → lowest (r ∷ rules) v ≡ none
@@ -71,17 +72,6 @@ lowest-none (r ∷ rules) v e = go (same (r .left) v) refl (prefix v (r .left)) 
         absurd (omega arith)
     go false p false q h ih = rw (p, ih h)
 
--- where nothing begins earlier, what begins later is taken
-pub tie-none : (later : Option ℕ) → tie none later ≡ later
-unfolding tie orElse
-tie-none later = refl
-
--- one of the two is taken
-pub tie-either : (earlier later : Option ℕ) → (tie earlier later ≡ earlier) ⊎ (tie earlier later ≡ later)
-unfolding tie orElse
-tie-either none later = inr refl
-tie-either (some i) later = inl refl
-
 -- the match word found at the state is that of the whole string
 pub matching-state : (rules : List Rule) (p : List ℕ) → matching rules (state rules p) ≡ ending rules p
 unfolding matching state ending
@@ -91,7 +81,7 @@ matching-state rules (x ∷ p) = go (isPrefix rules (x ∷ p)) refl (matching-st
     go : (b : Bool) → isPrefix rules (x ∷ p) ≡ b → matching rules (state rules p) ≡ ending rules p
         → matching rules (state rules (x ∷ p)) ≡ ending rules (x ∷ p)
     go true e ih = rw e
-    go false e ih = rw (e, lowest-none rules (x ∷ p) e, tie-none) ih
+    go false e ih = rw (e, lowest-no-prefix rules (x ∷ p) e, tie-later) ih
 
 -- and so is the match word of the next state
 pub matching-next : (rules : List Rule) (s : List ℕ) (a : ℕ) → matching rules (next rules (state rules s) a) ≡ ending rules (s ++ a ∷ [])

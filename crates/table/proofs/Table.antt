@@ -2,25 +2,23 @@
 -- Assumes nothing.
 use Prim.Native.Nat.{ℕ, suc, _+_, _*_, _≤_, _<_}
 use mathlib.Core.Path.{_≡_, refl, _∙_}
-use mathlib.Core.Bool.{Bool, true, false}
-use mathlib.Core.Logic.{_⊎_, inl, inr}
+use mathlib.Core.Bool.{true}
 use mathlib.Core.Option.{Option, none, some}
-use mathlib.Core.List.{List, [], _∷_, map, flatMap}
+use mathlib.Core.List.{List, [], map, flatMap}
 use native.Mathlib.Omega.{arith}
 use native.Mathlib.Nat.{suc-mul, mul-le-mul, mul-le-mul-right}
 use lib.Dec.{ltb}
 use lib.ListN.{length, getD, length-append, length-map, List·getD-append}
 use lib.Seq.{getD-append-add}
 use borrow.Author.Tests.{lt-ltb}
-use Rattle.rewriting.specs.Lists.{same, prefix, below, upTo}
+use Rattle.rewriting.specs.Lists.{prefix, below, upTo}
 use Rattle.rewriting.specs.Rules.{Rule, RuleSet, inRange}
-use Rattle.rewriting.specs.Occurrences.{lowest, ending}
-use Rattle.rewriting.proofs.Lists.{and-both, all-append, length-upTo}
+use Rattle.rewriting.specs.Occurrences.{ending}
+use Rattle.rewriting.proofs.Lists.{and-both, all-append, all-map, all-flatMap, all-true, length-upTo, getD-upTo, getD-map, length-flatMap, getD-flatMap, begins-at}
 use Rattle.rewriting.proofs.Ranges.{ranges}
+use Rattle.rewriting.proofs.Scan.{ending-left}
 use Rattle.table.specs.States.{next, matching, states, number}
 use Rattle.table.specs.Table.{matchWord, row, tableOf}
-use Rattle.table.proofs.Lists.{getD-map, all-map, all-flatMap, length-flatMap, getD-flatMap, getD-upTo, begins-at}
-use Rattle.table.proofs.Matching.{tie-either}
 use Rattle.table.proofs.States.{next-below, few-states}
 
 length-row : (set : RuleSet) (q : List ℕ) → length (row set q) ≡ set .symbols
@@ -110,31 +108,18 @@ begins-next set t e i a h below =
     let fits = rw suc-mul at rows in
     begins-at (tableOf set) t e (2 + length (states (set .rules)) + i * set .symbols + a) 0 (omega arith) ∙ table-next set i a h below
 
-few-lowest : (rules : List Rule) (v : List ℕ) → matchWord (lowest rules v) ≤ length rules
-unfolding lowest matchWord
-few-lowest [] v = omega arith
-few-lowest (r ∷ rules) v = go (same (r .left) v) refl (lowest rules v) refl (few-lowest rules v)
-  where
-    go : (b : Bool) → same (r .left) v ≡ b → (o : Option ℕ) → lowest rules v ≡ o → matchWord o ≤ length rules
-        → matchWord (lowest (r ∷ rules) v) ≤ suc (length rules)
-    go true e o p h = rw e (omega arith)
-    go false e none p h = rw (e, p) (omega arith)
-    go false e (some i) p h = rw (e, p) (omega arith)
-
 -- a match word is at most the number of rules
 pub few-matching : (rules : List Rule) (q : List ℕ) → matchWord (matching rules q) ≤ length rules
-unfolding matching ending matchWord
-few-matching rules [] = omega arith
-few-matching rules (x ∷ q) = go (tie-either (lowest rules (x ∷ q)) (ending rules q)) (few-matching rules q)
+unfolding matching matchWord
+few-matching rules q = go (ending rules q) refl
   where
-    go : (matching rules (x ∷ q) ≡ lowest rules (x ∷ q)) ⊎ (matching rules (x ∷ q) ≡ ending rules q)
-        → matchWord (ending rules q) ≤ length rules → matchWord (matching rules (x ∷ q)) ≤ length rules
-    go (inl e) h = rw e (few-lowest rules (x ∷ q))
-    go (inr e) h = rw e h
+    go : (m : Option ℕ) → ending rules q ≡ m → matchWord m ≤ length rules
+    go none e = omega arith
+    go (some i) e = ending-left rules q i e .is-rule
 
 row-fits : (set : RuleSet) → inRange set ≡ true → (q : List ℕ) → below 65536 (row set q) ≡ true
 unfolding row
-row-fits set e q = all-map word (λ x. ltb x 65536) fits (upTo (set .symbols))
+row-fits set e q = all-map (λ x. ltb x 65536) word fits (upTo (set .symbols))
   where
     word : ℕ → ℕ
     word a = number (states (set .rules)) (next (set .rules) q a)
@@ -143,7 +128,7 @@ row-fits set e q = all-map word (λ x. ltb x 65536) fits (upTo (set .symbols))
     fits a = lt-ltb (word a) 65536 (omega (arith, few-states set e, next-below (set .rules) q a))
 
 matchWords-fit : (set : RuleSet) → inRange set ≡ true → below 65536 (matchWords set) ≡ true
-matchWords-fit set e = all-map word (λ x. ltb x 65536) fits (states (set .rules))
+matchWords-fit set e = all-map (λ x. ltb x 65536) word fits (states (set .rules))
   where
     word : List ℕ → ℕ
     word q = matchWord (matching (set .rules) q)
@@ -156,7 +141,9 @@ pub words-fit : (set : RuleSet) → inRange set ≡ true → below 65536 (tableO
 unfolding tableOf
 words-fit set e =
     let rows : below 65536 (flatMap (row set) (states (set .rules))) ≡ true =
-    all-flatMap (row set) (λ x. ltb x 65536) (row-fits set e) (states (set .rules)) in
+    all-flatMap (λ q. true) (λ x. ltb x 65536) (row set) (λ q _. row-fits set e q) (states (set .rules))
+    (all-true (states (set .rules)))
+    in
     and-both (lt-ltb (length (states (set .rules))) 65536 (omega (arith, few-states set e)))
     (and-both (lt-ltb (set .symbols) 65536 (omega (arith, ranges set e)))
     (all-append (λ x. ltb x 65536) (matchWords set) (flatMap (row set) (states (set .rules))) (matchWords-fit set e) rows))

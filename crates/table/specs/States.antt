@@ -1,5 +1,5 @@
 -- States of the matching table. A state is a string here, and gets its number only where the table is written.
-use Prim.Native.Nat.{ℕ, zero, suc}
+use Prim.Native.Nat.{ℕ, suc}
 use mathlib.Core.Bool.{Bool, cond}
 use mathlib.Core.Option.{Option}
 use mathlib.Core.List.{List, [], _∷_, _++_, map, flatMap}
