@@ -15,7 +15,7 @@ use Rattle.rewriting.specs.Rules.{Rule}
 use Rattle.rewriting.proofs.Lists.{and-both}
 use Rattle.image.specs.Refusals.{refusal}
 use Rattle.table.specs.States.{states, number, next}
-use Rattle.monitor.specs.State.{State, empty}
+use Rattle.monitor.specs.State.{State, going, empty}
 use Rattle.monitor.specs.Run.{fits}
 use Rattle.monitor.specs.Areas.{headOf, areaOf, bytesOf, statesAfter, wordsOf, lentOf, stateOf}
 use Rattle.monitor.specs.Calls.{sized, freshOf, freshened}
@@ -71,11 +71,11 @@ area-empty capacity = simp (sub-zero, append-nil)
 
 -- what is lent after fresh holds the empty state
 pub fresh-lent : (rules : List Rule) (capacity : ℕ) (bytes words : List ℕ) → freshOf capacity bytes words .refused ≡ none
-    → freshOf capacity bytes words .left ≡ lentOf rules capacity empty
-unfolding freshOf freshened lentOf bytesOf wordsOf statesAfter empty
+    → freshOf capacity bytes words .lent ≡ lentOf rules capacity empty
+unfolding freshOf freshened lentOf bytesOf wordsOf statesAfter empty going
 fresh-lent rules capacity bytes words h = go (refusal ((sized capacity bytes words, 10) ∷ [])) h
   where
     go : (o : Option ℕ) → freshened capacity bytes words o .refused ≡ none
-        → freshened capacity bytes words o .left ≡ lentOf rules capacity empty
+        → freshened capacity bytes words o .lent ≡ lentOf rules capacity empty
     go none e = rw area-empty
     go (some n) e = let z : _≡_ {A = ℕ} 0 1 = cc in absurd (omega arith)

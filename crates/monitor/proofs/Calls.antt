@@ -24,7 +24,7 @@ use Rattle.monitor.specs.State.{State}
 use Rattle.monitor.specs.Run.{Run, fits, run}
 use Rattle.monitor.specs.Areas.{Lent, headOf, lentOf, stateOf}
 use Rattle.monitor.specs.Calls.{Call, Offer, GoOn, Outcome, fuelOf, lentChecks, fuelCheck, verdictCheck, callChecks, offered, outcome, answered, callOf, refusedBy}
-use Rattle.monitor.specs.Promise.{eventsOf}
+use Rattle.monitor.specs.Play.{eventsOf}
 use Rattle.monitor.proofs.Machine.{Reaches, Stay, more}
 use Rattle.monitor.proofs.Runs.{Ran, ran}
 use Rattle.monitor.proofs.Legal.{Legal, legal-more, legal-reaches}
@@ -40,7 +40,7 @@ pub record Holding (set : RuleSet) (capacity : ℕ) (l : Lent) : Type 0 where
 
 -- What a call c on the state s leaves, with the outcome o.
 pub record Next (set : RuleSet) (capacity : ℕ) (s : State) (c : Call) (o : Outcome) : Type 0 where
-  pub after : Holding set capacity (o .left)
+  pub after : Holding set capacity (o .lent)
   pub reached : Reaches (set .rules) (more s (eventsOf (refusedBy (o .answer)) c)) (o .counts) (after .state)
   pub symbols : below (set .symbols) (eventsOf (refusedBy (o .answer)) c) ≡ true
   pub quiet : o .answer ≡ Answer.Quiet

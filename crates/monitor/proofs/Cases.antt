@@ -10,16 +10,18 @@ use Rattle.image.specs.Image.{kind, size, contents, body, imageOf, readRight, r
 use Rattle.image.specs.Refusals.{refusal}
 use Rattle.table.specs.States.{isPrefix, state, next, matching, prefixes, known, numbered, states, number}
 use Rattle.table.specs.Table.{matchWord, row, tableOf}
+use Rattle.table.specs.Compile.{over}
 use Rattle.monitor.specs.State.{empty, going, replace, settle, step}
 use Rattle.monitor.specs.Run.{noCounts, plus, countsOf, ended, counted, fits, proceed, tests, run}
 use Rattle.monitor.specs.Areas.{headOf, areaOf, bytesOf, statesAfter, wordsOf, lentOf, stateOf, noMatch, unmatched, closesWith, standsBy, holds, described}
-use Rattle.monitor.specs.Calls.{sized, freshened, freshOf, fuelOf, lentChecks, isNone, fuelCheck, verdictCheck, callChecks, offered, outcome, answered, callOf, refusedBy}
-use Rattle.monitor.specs.Promise.{stringOf, before, eventsOf, logged, play, answersOf}
-use Rattle.monitor.specs.Cases.{Case, foundIn, find, worked, abcd, cases, growing, edges}
+use Rattle.monitor.specs.Calls.{sized, freshened, freshOf, fuelOf, lentChecks, isNone, fuelCheck, verdictCheck, callChecks, offered, outcome, answered, callOf, offerOf, refusedBy, answerNumber}
+use Rattle.monitor.specs.Batch.{stopped, andThen, offers, batchChecks, batched, batchOf}
+use Rattle.monitor.specs.Play.{stringOf, noCalls, eventsOf, logged, play, answersOf}
+use Rattle.monitor.specs.Cases.{Case, fresh, foundIn, find, worked, abcd, cases, growing, edges, BatchCase, findBatch, batch, batches}
 
 -- every definition that a computed case goes through
 computes : Unit {0}
-unfolding orElse flatMap rule rightInRange ruleInRange inRange lowest tie ending sample kind size symbolsOf contents body imageOf readRight readRule readRules read valid refusal isPrefix state next matching prefixes known numbered states number matchWord row tableOf empty going replace settle step noCounts plus countsOf ended counted fits proceed tests run headOf areaOf bytesOf statesAfter wordsOf lentOf stateOf noMatch unmatched closesWith standsBy holds described sized freshened freshOf fuelOf lentChecks isNone fuelCheck verdictCheck callChecks offered outcome answered callOf refusedBy stringOf before eventsOf logged play answersOf foundIn find worked abcd
+unfolding orElse flatMap rule rightInRange ruleInRange inRange lowest tie ending sample kind size symbolsOf contents body imageOf readRight readRule readRules read valid refusal isPrefix state next matching prefixes known numbered states number matchWord row tableOf empty going replace settle step noCounts plus countsOf ended counted fits proceed tests run headOf areaOf bytesOf statesAfter wordsOf lentOf stateOf noMatch unmatched closesWith standsBy holds described sized freshened freshOf fuelOf lentChecks isNone fuelCheck verdictCheck callChecks offered outcome answered callOf refusedBy stringOf noCalls eventsOf logged play answersOf fresh foundIn find worked abcd
 computes = tt
 
 -- every value of the table of worked cases
@@ -31,3 +33,9 @@ cases-found = refl
 pub edges-found : map (λ (c : Case). find (c .set) (c .calls)) edges ≡ map (λ (c : Case). c .found) edges
 unfolding computes growing edges
 edges-found = refl
+
+-- and of the table of batches
+pub batches-found : map (λ (c : BatchCase). findBatch (c .set) (c .events) (c .fuel) (c .answers)) batches
+    ≡ map (λ (c : BatchCase). c .found) batches
+unfolding computes over stopped andThen offers offerOf answerNumber batchChecks batched batchOf findBatch batch growing batches
+batches-found = refl

@@ -6,6 +6,8 @@ pub mod Simulation
 pub mod Areas
 pub mod Described
 pub mod Calls
+pub mod CallTheorem
 pub mod ListTheorem
-pub mod Batch
+pub mod BatchTheorem
 pub mod Cases
+pub mod Inhabited

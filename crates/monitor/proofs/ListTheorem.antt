@@ -21,12 +21,12 @@ use Rattle.image.specs.Refusals.{refusal}
 use Rattle.image.proofs.Image.{valid-in-range}
 use Rattle.image.proofs.Refusals.{refusal-append-some}
 use Rattle.table.specs.Table.{tableOf}
-use Rattle.monitor.specs.declared.Answer.{Answer}
 use Rattle.monitor.specs.State.{empty, going}
 use Rattle.monitor.specs.Run.{noCounts, plus, fits}
 use Rattle.monitor.specs.Areas.{Lent, headOf, lentOf}
-use Rattle.monitor.specs.Calls.{Call, Outcome, freshOf, lentChecks, outcome, answered, callOf, refusedBy}
-use Rattle.monitor.specs.Promise.{stringOf, Log, before, eventsOf, logged, play, Answered, Kept, AllRefused, Promise, DemandThree}
+use Rattle.monitor.specs.Calls.{Call, Outcome, freshOf, lentChecks, outcome, answered, callOf, refusedBy, refusalOf}
+use Rattle.monitor.specs.Play.{stringOf, Log, noCalls, eventsOf, logged, play}
+use Rattle.monitor.specs.Promise.{Agrees, Answered, Kept, AllRefused, Promise, DemandThree}
 use Rattle.monitor.proofs.Machine.{Reaches, Stay, more, reaches-more, reaches-then}
 use Rattle.monitor.proofs.Legal.{legal-waiting}
 use Rattle.monitor.proofs.Simulation.{Faithful, faithful}
@@ -36,13 +36,13 @@ use Rattle.monitor.proofs.Calls.{Next, Holding, holding-passes, replies
 -- After any list of calls, the machine reaches the state that is lent from all accepted events, waiting, with the counts
 -- that the calls reported.
 pub record Held (set : RuleSet) (capacity : ℕ) (g : Log) : Type 0 where
-  pub holding : Holding set capacity (g .left)
+  pub holding : Holding set capacity (g .lent)
   pub reached : Reaches (set .rules) (going [] (g .accepted)) (g .counts) (holding .state)
   pub symbols : below (set .symbols) (g .accepted) ≡ true
 
 -- nothing is called yet
-held-fresh : (set : RuleSet) (capacity : ℕ) (l : Lent) → l ≡ lentOf (set .rules) capacity empty → Held set capacity (before l)
-unfolding before going empty fits
+held-fresh : (set : RuleSet) (capacity : ℕ) (l : Lent) → l ≡ lentOf (set .rules) capacity empty → Held set capacity (noCalls l)
+unfolding noCalls going empty fits
 held-fresh set capacity l e =
     record {
       holding =
@@ -59,13 +59,13 @@ length-zero (x ∷ l) e = absurd (omega arith)
 module _ (capacity : ℕ) (image table : List ℕ) (good : valid image ≡ true) (right : prefix (tableOf (read image)) table ≡ true) where
   -- one call more
   held-logged : (g : Log) → Held (read image) capacity g → (c : Call)
-      → Held (read image) capacity (logged g c (callOf capacity image table (g .left) c))
+      → Held (read image) capacity (logged g c (callOf capacity image table (g .lent) c))
   unfolding logged going more
   held-logged g h c =
-      let n : Next (read image) capacity (h .holding .state) c (callOf capacity image table (g .left) c) =
-      next capacity image table good right (g .left) (h .holding) c
+      let n : Next (read image) capacity (h .holding .state) c (callOf capacity image table (g .lent) c) =
+      next capacity image table good right (g .lent) (h .holding) c
       in
-      let events : List ℕ = eventsOf (refusedBy (callOf capacity image table (g .left) c .answer)) c in
+      let events : List ℕ = eventsOf (refusedBy (callOf capacity image table (g .lent) c .answer)) c in
       record {
         holding = n .after;
         reached = reaches-then (reaches-more events (h .reached)) (n .reached);
@@ -76,7 +76,7 @@ module _ (capacity : ℕ) (image table : List ℕ) (good : valid image ≡ true)
   unfolding play
   held-play [] g h = h
   held-play (c ∷ calls) g h =
-      held-play calls (logged g c (callOf capacity image table (g .left) c)) (held-logged g h c)
+      held-play calls (logged g c (callOf capacity image table (g .lent) c)) (held-logged g h c)
 
   -- the string that is lent
   string-held : (l : Lent) (h : Holding (read image) capacity l) → stringOf l ≡ h .state .settled ++ h .state .waiting
@@ -93,8 +93,8 @@ module _ (capacity : ℕ) (image table : List ℕ) (good : valid image ≡ true)
           λ p. n .quiet .1 (p .0, length-zero (after .state .waiting) (rw (after .written) at (p .1)), rw (after .written) at (p .2)),
         );
         rests =
-            λ p. redex-none (read image .rules) (non-empty (read image) (valid-in-range image good)) (stringOf (o .left))
-            (rw (string-held (o .left) after, n .quiet .0 p .1, append-nil) (after .legal .clean));
+            λ p. redex-none (read image .rules) (non-empty (read image) (valid-in-range image good)) (stringOf (o .lent))
+            (rw (string-held (o .lent) after, n .quiet .0 p .1, append-nil) (after .legal .clean));
       }
     where
       o : Outcome
@@ -103,48 +103,48 @@ module _ (capacity : ℕ) (image table : List ℕ) (good : valid image ≡ true)
       n : Next (read image) capacity (h .state) c o
       n = next capacity image table good right l h c
 
-      after : Holding (read image) capacity (o .left)
+      after : Holding (read image) capacity (o .lent)
       after = n .after
 
-  kept : (l : Lent) (calls : List Call) → Held (read image) capacity (before l) → Kept capacity image table l calls
+  agrees : (g : Log) → Held (read image) capacity g → Agrees (read image .rules) g
   unfolding lentOf headOf fed
-  kept l calls h =
+  agrees g h =
+      let f : Faithful (read image .rules) (g .accepted) (g .counts) (h .holding .state) =
+      faithful (read image) (ranges (read image) (valid-in-range image good)) (g .accepted) (h .symbols) (h .reached)
+      in
       record {
-        rewriter = rw (string-held (g .left) (held .holding), held .holding .written) (f .rewriter);
-        balance = rw (held .holding .written) (f .balance);
+        rewriter = rw (string-held (g .lent) (h .holding), h .holding .written) (f .rewriter);
+        balance = rw (h .holding .written) (f .balance);
         bound =
             omega
             (arith, f .balance, put-bound (read image) (valid-in-range image good) (g .counts .rewrites) (fed (g .accepted)) _ (f .rewriter));
-        described = holding-passes capacity image table good right (g .left) (held .holding);
+      }
+
+  kept : (l : Lent) (calls : List Call) → Held (read image) capacity (noCalls l) → Kept capacity image table l calls
+  kept l calls h =
+      let held : Held (read image) capacity (play capacity image table (noCalls l) calls) = held-play calls (noCalls l) h in
+      record {
+        agrees = agrees (play capacity image table (noCalls l) calls) held;
+        described =
+            holding-passes capacity image table good right (play capacity image table (noCalls l) calls .lent) (held .holding);
         each =
             λ earlier c later _.
-            each-answered (play capacity image table (before l) earlier .left) (held-play earlier (before l) h .holding) c;
+            each-answered (play capacity image table (noCalls l) earlier .lent) (held-play earlier (noCalls l) h .holding) c;
       }
-    where
-      g : Log
-      g = play capacity image table (before l) calls
-
-      held : Held (read image) capacity g
-      held = held-play calls (before l) h
-
-      f : Faithful (read image .rules) (g .accepted) (g .counts) (held .holding .state)
-      f =
-          faithful (read image) (ranges (read image) (valid-in-range image good)) (g .accepted) (held .symbols)
-          (held .reached)
 
 -- what is lent is refused at every call
 module _ (n capacity : ℕ) (image table : List ℕ) (l : Lent) (fails : refusal (lentChecks capacity image table l) ≡ some n) where
-  refused-call : (c : Call) → callOf capacity image table l c ≡ record { answer = Answer.Refused n; counts = noCounts; left = l }
+  refused-call : (c : Call) → callOf capacity image table l c ≡ refusalOf n l
   unfolding callOf answered outcome
   refused-call c = rw (refusal-append-some _ _ n fails)
 
-  unchanged : (calls : List Call) → play capacity image table (before l) calls ≡ before l
-  unfolding play before logged refusedBy eventsOf plus noCounts
+  unchanged : (calls : List Call) → play capacity image table (noCalls l) calls ≡ noCalls l
+  unfolding play noCalls logged refusedBy eventsOf plus noCounts
   unchanged [] = refl
   unchanged (c ∷ calls) = rw (refused-call c) (unchanged calls)
 
   all-refused : (calls : List Call) → AllRefused n capacity image table l calls
-  unfolding before
+  unfolding noCalls
   all-refused calls =
       record { unchanged = unchanged calls; each = λ earlier c later _. rw (unchanged earlier) (refused-call c) }
 
@@ -154,7 +154,7 @@ unfolding lentChecks refusal
 list-theorem capacity image table bytes words calls h = go (valid image) refl (prefix (tableOf (read image)) table) refl
   where
     l : Lent
-    l = freshOf capacity bytes words .left
+    l = freshOf capacity bytes words .lent
 
     go : (v : Bool) → valid image ≡ v → (t : Bool) → prefix (tableOf (read image)) table ≡ t
         → Promise v t capacity image table l calls

@@ -23,7 +23,7 @@ use Rattle.monitor.specs.declared.Standing.{Standing}
 use Rattle.monitor.specs.declared.Counts.{Counts}
 use Rattle.monitor.specs.State.{State, going, replace, settle, step}
 use Rattle.monitor.specs.Run.{noCounts, plus, countsOf}
-use Rattle.monitor.specs.Promise.{verdictOf}
+use Rattle.monitor.specs.Play.{verdictOf}
 use Rattle.monitor.proofs.Machine.{Reaches, Stay, On}
 use Rattle.monitor.proofs.Legal.{legal-waiting, legal-reaches}
 

@@ -18,21 +18,21 @@ pub record Offers : Type 0 where
   pub stop : ℕ
   pub answers : List ℕ
   pub counts : Counts
-  pub left : Lent
+  pub lent : Lent
 
 unfoldable pub stopped : ℕ → Lent → Offers
-stopped n l = record { stop = n; answers = []; counts = noCounts; left = l }
+stopped n l = record { stop = n; answers = []; counts = noCounts; lent = l }
 
 -- the offer with outcome o, then the others, unless o is a refusal
 unfoldable pub andThen : Outcome → Option ℕ → (Lent → Offers) → Offers
-andThen o (some n) others = stopped n (o .left)
+andThen o (some n) others = stopped n (o .lent)
 andThen o none others =
-    let rest : Offers = others (o .left) in
+    let rest : Offers = others (o .lent) in
     record {
       stop = rest .stop;
       answers = answerNumber (o .answer) ∷ rest .answers;
       counts = plus (o .counts) (rest .counts);
-      left = rest .left;
+      lent = rest .lent;
     }
 
 -- "the offers one after another up to the first refused with 12, 14 or 15"
@@ -58,11 +58,11 @@ pub record Batched : Type 0 where
   pub accepted : ℕ
   pub counts : Counts
   pub answers : List ℕ
-  pub left : Lent
+  pub lent : Lent
 
 unfoldable pub batched : Option ℕ → Lent → List ℕ → Offers → Batched
 batched (some n) l answers b =
-    record { refused = some n; stop = 0; accepted = 0; counts = noCounts; answers = answers; left = l }
+    record { refused = some n; stop = 0; accepted = 0; counts = noCounts; answers = answers; lent = l }
 batched none l answers b =
     record {
       refused = none;
@@ -70,7 +70,7 @@ batched none l answers b =
       accepted = length (b .answers);
       counts = b .counts;
       answers = over (b .answers) answers;
-      left = b .left;
+      lent = b .lent;
     }
 
 -- "Later answer bytes stay. No events: 0 accepted."

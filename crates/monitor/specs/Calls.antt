@@ -27,15 +27,15 @@ sized capacity bytes words = eqb (length bytes) capacity && eqb (length words) c
 -- returns the empty one."
 pub record Fresh : Type 0 where
   pub refused : Option ℕ
-  pub left : Lent
+  pub lent : Lent
 
 unfoldable pub freshened : ℕ → List ℕ → List ℕ → Option ℕ → Fresh
 freshened capacity bytes words (some n) =
-    record { refused = some n; left = record { head = headOf empty; bytes = bytes; words = words } }
+    record { refused = some n; lent = record { head = headOf empty; bytes = bytes; words = words } }
 freshened capacity bytes words none =
     record {
       refused = none;
-      left = record { head = headOf empty; bytes = replicate capacity 0; words = replicate capacity 0 };
+      lent = record { head = headOf empty; bytes = replicate capacity 0; words = replicate capacity 0 };
     }
 
 unfoldable pub freshOf : ℕ → List ℕ → List ℕ → Fresh
@@ -92,13 +92,17 @@ offered s (GoOn fuel) = s
 pub record Outcome : Type 0 where
   pub answer : Answer
   pub counts : Counts
-  pub left : Lent
+  pub lent : Lent
 
--- "Every refusal returns its number, the head as given, any counts 0, and changes nothing lent." Otherwise the call runs.
+-- "Every refusal returns its number, the head as given, any counts 0, and changes nothing lent."
+abbrev pub refusalOf : ℕ → Lent → Outcome
+refusalOf n l = record { answer = Answer.Refused n; counts = noCounts; lent = l }
+
+-- a refusal, or what the run leads to
 unfoldable pub outcome : RuleSet → ℕ → Lent → Option ℕ → Run → Outcome
-outcome set capacity l (some n) r = record { answer = Answer.Refused n; counts = noCounts; left = l }
+outcome set capacity l (some n) r = refusalOf n l
 outcome set capacity l none r =
-    record { answer = r .answer; counts = r .counts; left = lentOf (set .rules) capacity (r .state) }
+    record { answer = r .answer; counts = r .counts; lent = lentOf (set .rules) capacity (r .state) }
 
 -- a call that refuses by the checks given, and otherwise runs
 unfoldable pub answered : RuleSet → ℕ → Lent → List Check → Call → Outcome

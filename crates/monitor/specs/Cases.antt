@@ -1,6 +1,7 @@
--- Document 01's worked cases C1 to C9 as one table, and its edges as another. `cases-found` and `edges-found`
--- (proofs/Cases.antt) compute every value from the definitions.
+-- Document 01's worked cases C1 to C9 as one table, its edges as another, and batches as a third. `cases-found`,
+-- `edges-found` and `batches-found` (proofs/Cases.antt) compute every value from the definitions.
 use Prim.Native.Nat.{ℕ}
+use mathlib.Core.Option.{Option, none, some}
 use mathlib.Core.List.{List, [], _∷_}
 use lib.ListN.{replicate}
 use Rattle.rewriting.specs.Rules.{Put, Close, _⇒_, Rule, RuleSet}
@@ -12,11 +13,16 @@ use Rattle.monitor.specs.declared.Answer.{Answer}
 use Rattle.monitor.specs.declared.Counts.{Counts}
 use Rattle.monitor.specs.Areas.{Lent}
 use Rattle.monitor.specs.Calls.{Call, Offer, GoOn, freshOf}
-use Rattle.monitor.specs.Promise.{Log, before, play, answersOf, stringOf}
+use Rattle.monitor.specs.Batch.{Batched, batchOf}
+use Rattle.monitor.specs.Play.{Log, noCalls, play, answersOf, stringOf}
 
 -- document 01's capacity
 abbrev pub documentCapacity : ℕ
 documentCapacity = 2048
+
+-- a fresh monitor
+unfoldable pub fresh : Lent
+fresh = freshOf documentCapacity (replicate documentCapacity 0) (replicate documentCapacity 0) .lent
 
 -- what is found after a list of calls: the answer of each, the sums of their counts, the string, the waiting count, the
 -- verdict and its rule
@@ -33,19 +39,17 @@ foundIn answers g =
     record {
       answers = answers;
       counts = g .counts;
-      string = stringOf (g .left);
-      waiting = g .left .head .waiting;
-      verdict = g .left .head .verdict;
-      rule = g .left .head .rule;
+      string = stringOf (g .lent);
+      waiting = g .lent .head .waiting;
+      verdict = g .lent .head .verdict;
+      rule = g .lent .head .rule;
     }
 
 -- what a list of calls finds on a fresh monitor of these rules
 unfoldable pub find : RuleSet → List Call → Found
 find set calls =
-    let zeros : List ℕ = replicate documentCapacity 0 in
-    let l : Lent = freshOf documentCapacity zeros zeros .left in
-    foundIn (answersOf documentCapacity (imageOf set) (tableOf set) l calls)
-    (play documentCapacity (imageOf set) (tableOf set) (before l) calls)
+    foundIn (answersOf documentCapacity (imageOf set) (tableOf set) fresh calls)
+    (play documentCapacity (imageOf set) (tableOf set) (noCalls fresh) calls)
 
 pub record Case : Type 0 where
   pub set : RuleSet
@@ -128,4 +132,79 @@ edges =
     ∷ worked sample (Offer 1 1 ∷ Offer 3 65536 ∷ Offer 0 65536 ∷ Offer 0 1 ∷ GoOn 65536 ∷ GoOn 1 ∷ [])
     (Answer.Verdict 0 ∷ Answer.Refused 12 ∷ Answer.Refused 13 ∷ Answer.Refused 14 ∷ Answer.Refused 13 ∷ Answer.Refused 14 ∷ [])
     1 1 0 [] 0 (Standing.Verdict 0) 2
+    ∷ []
+
+-- what a batch finds on a fresh monitor: the refusal, what stopped it, the count accepted, the summed counts, the answer
+-- bytes at exit, and the string
+pub record FoundBatch : Type 0 where
+  pub refused : Option ℕ
+  pub stop : ℕ
+  pub accepted : ℕ
+  pub counts : Counts
+  pub answers : List ℕ
+  pub string : List ℕ
+
+unfoldable pub findBatch : RuleSet → List ℕ → ℕ → List ℕ → FoundBatch
+findBatch set events fuel answers =
+    let b : Batched = batchOf documentCapacity (imageOf set) (tableOf set) fresh events fuel answers in
+    record {
+      refused = b .refused;
+      stop = b .stop;
+      accepted = b .accepted;
+      counts = b .counts;
+      answers = b .answers;
+      string = stringOf (b .lent);
+    }
+
+pub record BatchCase : Type 0 where
+  pub set : RuleSet
+  pub events : List ℕ
+  pub fuel : ℕ
+  pub answers : List ℕ
+  pub found : FoundBatch
+
+-- rules, events, fuel and the answer bytes at entry; then what they find: refusal, stop, accepted; steps, rewrites, put
+-- back; answer bytes at exit, string
+unfoldable pub batch : RuleSet → List ℕ → ℕ → List ℕ → Option ℕ → ℕ → ℕ → ℕ → ℕ → ℕ → List ℕ → List ℕ → BatchCase
+batch set events fuel answers refused stop accepted steps rewrites put bytes string =
+    record {
+      set = set;
+      events = events;
+      fuel = fuel;
+      answers = answers;
+      found =
+          record {
+            refused = refused;
+            stop = stop;
+            accepted = accepted;
+            counts = record { steps = steps; rewrites = rewrites; put = put };
+            answers = bytes;
+            string = string;
+          };
+    }
+
+unfoldable pub batches : List BatchCase
+batches =
+    -- the sample's day: lock, take, free, take. "Later answer bytes stay."
+    batch sample (0 ∷ 1 ∷ 2 ∷ 1 ∷ []) 1000 (9 ∷ 9 ∷ 9 ∷ 9 ∷ 9 ∷ [])
+    none 0 4 5 3 1 (0 ∷ 0 ∷ 0 ∷ 16 ∷ 9 ∷ []) []
+    -- an event behind the verdict: stopped by 14
+    ∷ batch sample (1 ∷ 0 ∷ []) 1000 (9 ∷ 9 ∷ [])
+    none 14 1 1 1 0 (16 ∷ 9 ∷ []) []
+    -- held is no event: stopped by 12, also behind a verdict
+    ∷ batch sample (0 ∷ 3 ∷ 1 ∷ []) 0 (9 ∷ 9 ∷ 9 ∷ [])
+    none 12 1 0 0 0 (1 ∷ 9 ∷ 9 ∷ []) (0 ∷ [])
+    ∷ batch sample (1 ∷ 3 ∷ []) 1000 (9 ∷ 9 ∷ [])
+    none 12 1 1 1 0 (16 ∷ 9 ∷ []) []
+    -- no room: stopped by 15
+    ∷ batch growing (0 ∷ 0 ∷ []) 2048 (9 ∷ 9 ∷ [])
+    none 15 1 2047 2047 4094 (2 ∷ 9 ∷ []) (replicate 2048 0)
+    -- "No events: 0 accepted."
+    ∷ batch sample [] 65535 (9 ∷ [])
+    none 0 0 0 0 0 (9 ∷ []) []
+    -- 16 with an answer byte too few; 13 before it, and before 12
+    ∷ batch sample (0 ∷ 1 ∷ []) 65535 (9 ∷ [])
+    (some 16) 0 0 0 0 0 (9 ∷ []) []
+    ∷ batch sample (3 ∷ 1 ∷ []) 65536 (9 ∷ [])
+    (some 13) 0 0 0 0 0 (9 ∷ []) []
     ∷ []

@@ -4,5 +4,6 @@ pub mod Run
 pub mod Areas
 pub mod Calls
 pub mod Batch
+pub mod Play
 pub mod Promise
 pub mod Cases

@@ -15,13 +15,13 @@ pub record State : Type 0 where
   pub verdict : Standing
   pub rule : ℕ
 
--- "Fresh sets both counts to 0, no verdict"
-unfoldable pub empty : State
-empty = record { settled = []; waiting = []; verdict = Standing.None; rule = 0 }
-
 -- a state with no verdict
 unfoldable pub going : List ℕ → List ℕ → State
 going settled waiting = record { settled = settled; waiting = waiting; verdict = Standing.None; rule = 0 }
+
+-- "Fresh sets both counts to 0, no verdict"
+unfoldable pub empty : State
+empty = going [] []
 
 -- what one step leads to, whether it matched (0 or 1 rewrites), and how many symbols it put back
 pub record Step : Type 0 where
