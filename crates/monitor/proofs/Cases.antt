@@ -1,4 +1,4 @@
--- The worked cases of document 01, computed from the definitions.
+-- The worked cases of document 01 and its edges, computed from the definitions.
 -- Assumes nothing.
 use mathlib.Core.Path.{_≡_, refl}
 use mathlib.Core.List.{map, flatMap}
@@ -11,13 +11,15 @@ use Rattle.image.specs.Refusals.{refusal}
 use Rattle.table.specs.States.{isPrefix, state, next, matching, prefixes, known, numbered, states, number}
 use Rattle.table.specs.Table.{matchWord, row, tableOf}
 use Rattle.table.specs.Compile.{over}
+use Rattle.monitor.specs.declared.Answer.{Answer}
 use Rattle.monitor.specs.State.{empty, going, replace, settle, step}
 use Rattle.monitor.specs.Run.{noCounts, plus, countsOf, ended, counted, fits, proceed, tests, run}
 use Rattle.monitor.specs.Areas.{headOf, areaOf, bytesOf, statesAfter, wordsOf, lentOf, stateOf, noMatch, unmatched, closesWith, standsBy, holds, described}
-use Rattle.monitor.specs.Calls.{sized, freshened, freshOf, fuelOf, lentChecks, isNone, fuelCheck, verdictCheck, callChecks, offered, outcome, answered, callOf, offerOf, refusedBy, answerNumber}
+use Rattle.monitor.specs.Calls.{sized, freshened, freshOf, fuelOf, lentChecks, isNone, fuelCheck, verdictCheck, callChecks, offered, outcome, answered, callOf, offerOf, goOnOf, refusedBy, answerNumber}
 use Rattle.monitor.specs.Batch.{stopped, andThen, offers, batchChecks, batched, batchOf}
 use Rattle.monitor.specs.Play.{stringOf, noCalls, eventsOf, logged, play, answersOf}
-use Rattle.monitor.specs.Cases.{Case, fresh, foundIn, find, worked, abcd, cases, growing, edges, BatchCase, findBatch, batch, batches}
+use Rattle.monitor.specs.Cases.{Case, fresh, foundIn, find, worked, abcd, cases, documentCapacity}
+use Rattle.monitor.specs.Edges.{growing, edges, BatchCase, findBatch, batch, batches, lending, goingOn, asDescribed, asDescribedAnswers, notAsDescribed, Lending, wrong, inOrder, inOrderAnswers}
 
 -- every definition that a computed case goes through
 computes : Unit {0}
@@ -39,3 +41,18 @@ pub batches-found : map (λ (c : BatchCase). findBatch (c .set) (c .events) (c .
     ≡ map (λ (c : BatchCase). c .found) batches
 unfolding computes over stopped andThen offers offerOf answerNumber batchChecks batched batchOf findBatch batch growing batches
 batches-found = refl
+
+-- what is as described is taken, with or without a verdict
+pub described-taken : map goingOn asDescribed ≡ asDescribedAnswers
+unfolding computes goOnOf lending goingOn asDescribed asDescribedAnswers
+described-taken = refl
+
+-- each way in which head and areas can be other than described is refused with 11
+pub undescribed-refused : map goingOn notAsDescribed ≡ map (λ l. Answer.Refused 11) notAsDescribed
+unfolding computes goOnOf lending goingOn notAsDescribed
+undescribed-refused = refl
+
+-- 7, then 9, then 10, then 11, of an offer that 12 and 13 would refuse too
+pub refusals-in-order : map (λ (x : Lending). offerOf documentCapacity (x .image) (x .table) (x .lent) 3 65536 .answer) inOrder ≡ inOrderAnswers
+unfolding computes offerOf wrong inOrder inOrderAnswers
+refusals-in-order = refl

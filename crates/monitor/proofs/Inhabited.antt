@@ -3,21 +3,20 @@
 -- Assumes nothing.
 use Prim.Native.Nat.{ℕ}
 use mathlib.Core.Path.{_≡_, refl}
-use mathlib.Core.Bool.{true, false}
+use mathlib.Core.Bool.{true}
 use mathlib.Core.Option.{none}
 use mathlib.Core.List.{List, [], _∷_, _++_, append-nil}
 use lib.ListN.{replicate}
 use Rattle.rewriting.specs.Lists.{prefix}
 use Rattle.rewriting.specs.Sample.{sample}
 use Rattle.rewriting.proofs.Lists.{prefix-append}
-use Rattle.image.specs.Image.{imageOf, read, valid}
+use Rattle.image.specs.Image.{imageOf, read}
 use Rattle.image.specs.Refusals.{refusal}
 use Rattle.image.proofs.Image.{read-image}
 use Rattle.image.proofs.Computed.{sample-valid, longer-refused}
 use Rattle.table.specs.Table.{tableOf}
-use Rattle.monitor.specs.Areas.{Lent}
 use Rattle.monitor.specs.Calls.{Call, sized, freshened, freshOf}
-use Rattle.monitor.specs.Promise.{Kept, AllRefused, Promise}
+use Rattle.monitor.specs.Promise.{Kept, AllRefused}
 use Rattle.monitor.specs.Cases.{documentCapacity, fresh}
 use Rattle.monitor.proofs.ListTheorem.{list-theorem}
 

@@ -1,7 +1,6 @@
--- Document 01's worked cases C1 to C9 as one table, its edges as another, and batches as a third. `cases-found`,
--- `edges-found` and `batches-found` (proofs/Cases.antt) compute every value from the definitions.
+-- Document 01's worked cases C1 to C9, as one table. `cases-found` (proofs/Cases.antt) computes every value of it from the
+-- definitions.
 use Prim.Native.Nat.{ℕ}
-use mathlib.Core.Option.{Option, none, some}
 use mathlib.Core.List.{List, [], _∷_}
 use lib.ListN.{replicate}
 use Rattle.rewriting.specs.Rules.{Put, Close, _⇒_, Rule, RuleSet}
@@ -12,8 +11,7 @@ use Rattle.monitor.specs.declared.Standing.{Standing}
 use Rattle.monitor.specs.declared.Answer.{Answer}
 use Rattle.monitor.specs.declared.Counts.{Counts}
 use Rattle.monitor.specs.Areas.{Lent}
-use Rattle.monitor.specs.Calls.{Call, Offer, GoOn, freshOf}
-use Rattle.monitor.specs.Batch.{Batched, batchOf}
+use Rattle.monitor.specs.Calls.{Call, Offer, freshOf}
 use Rattle.monitor.specs.Play.{Log, noCalls, play, answersOf, stringOf}
 
 -- document 01's capacity
@@ -109,102 +107,4 @@ cases =
     -- C9: a → fail; a, then a: Verdict; refused 14
     ∷ worked (abcd ((0 ∷ [] ⇒ Close 0) ∷ [])) (Offer 0 1000 ∷ Offer 0 1000 ∷ [])
     (Answer.Verdict 0 ∷ Answer.Refused 14 ∷ []) 1 1 0 [] 0 (Standing.Verdict 0) 0
-    ∷ []
-
--- a → a a
-unfoldable pub growing : RuleSet
-growing = abcd ((0 ∷ [] ⇒ Put (0 ∷ 0 ∷ [])) ∷ [])
-
--- the edges
-unfoldable pub edges : List Case
-edges =
-    -- "a → a a with fuel 2,047 is Spent,"
-    worked growing (Offer 0 2047 ∷ [])
-    (Answer.Spent ∷ []) 2047 2047 4094 (replicate 2048 0) 2048 Standing.None 0
-    -- "with 2,048 Full after 2,047 steps; the next offer is refused 15, a go-on with fuel 1 is Full with 0 steps." One
-    -- with fuel 0 is Spent.
-    ∷ worked growing (Offer 0 2048 ∷ Offer 0 1 ∷ GoOn 1 ∷ GoOn 0 ∷ [])
-    (Answer.Full ∷ Answer.Refused 15 ∷ Answer.Full ∷ Answer.Spent ∷ []) 2047 2047 4094 (replicate 2048 0) 2048 Standing.None 0
-    -- "Fuel 65,535 is taken, 65,536 refused."
-    ∷ worked (abcd []) (Offer 0 65535 ∷ Offer 0 65536 ∷ GoOn 65535 ∷ GoOn 65536 ∷ [])
-    (Answer.Quiet ∷ Answer.Refused 13 ∷ Answer.Quiet ∷ Answer.Refused 13 ∷ []) 1 0 0 (0 ∷ []) 0 Standing.None 0
-    -- the refusals in their order: 12, 13, 14
-    ∷ worked sample (Offer 1 1 ∷ Offer 3 65536 ∷ Offer 0 65536 ∷ Offer 0 1 ∷ GoOn 65536 ∷ GoOn 1 ∷ [])
-    (Answer.Verdict 0 ∷ Answer.Refused 12 ∷ Answer.Refused 13 ∷ Answer.Refused 14 ∷ Answer.Refused 13 ∷ Answer.Refused 14 ∷ [])
-    1 1 0 [] 0 (Standing.Verdict 0) 2
-    ∷ []
-
--- what a batch finds on a fresh monitor: the refusal, what stopped it, the count accepted, the summed counts, the answer
--- bytes at exit, and the string
-pub record FoundBatch : Type 0 where
-  pub refused : Option ℕ
-  pub stop : ℕ
-  pub accepted : ℕ
-  pub counts : Counts
-  pub answers : List ℕ
-  pub string : List ℕ
-
-unfoldable pub findBatch : RuleSet → List ℕ → ℕ → List ℕ → FoundBatch
-findBatch set events fuel answers =
-    let b : Batched = batchOf documentCapacity (imageOf set) (tableOf set) fresh events fuel answers in
-    record {
-      refused = b .refused;
-      stop = b .stop;
-      accepted = b .accepted;
-      counts = b .counts;
-      answers = b .answers;
-      string = stringOf (b .lent);
-    }
-
-pub record BatchCase : Type 0 where
-  pub set : RuleSet
-  pub events : List ℕ
-  pub fuel : ℕ
-  pub answers : List ℕ
-  pub found : FoundBatch
-
--- rules, events, fuel and the answer bytes at entry; then what they find: refusal, stop, accepted; steps, rewrites, put
--- back; answer bytes at exit, string
-unfoldable pub batch : RuleSet → List ℕ → ℕ → List ℕ → Option ℕ → ℕ → ℕ → ℕ → ℕ → ℕ → List ℕ → List ℕ → BatchCase
-batch set events fuel answers refused stop accepted steps rewrites put bytes string =
-    record {
-      set = set;
-      events = events;
-      fuel = fuel;
-      answers = answers;
-      found =
-          record {
-            refused = refused;
-            stop = stop;
-            accepted = accepted;
-            counts = record { steps = steps; rewrites = rewrites; put = put };
-            answers = bytes;
-            string = string;
-          };
-    }
-
-unfoldable pub batches : List BatchCase
-batches =
-    -- the sample's day: lock, take, free, take. "Later answer bytes stay."
-    batch sample (0 ∷ 1 ∷ 2 ∷ 1 ∷ []) 1000 (9 ∷ 9 ∷ 9 ∷ 9 ∷ 9 ∷ [])
-    none 0 4 5 3 1 (0 ∷ 0 ∷ 0 ∷ 16 ∷ 9 ∷ []) []
-    -- an event behind the verdict: stopped by 14
-    ∷ batch sample (1 ∷ 0 ∷ []) 1000 (9 ∷ 9 ∷ [])
-    none 14 1 1 1 0 (16 ∷ 9 ∷ []) []
-    -- held is no event: stopped by 12, also behind a verdict
-    ∷ batch sample (0 ∷ 3 ∷ 1 ∷ []) 0 (9 ∷ 9 ∷ 9 ∷ [])
-    none 12 1 0 0 0 (1 ∷ 9 ∷ 9 ∷ []) (0 ∷ [])
-    ∷ batch sample (1 ∷ 3 ∷ []) 1000 (9 ∷ 9 ∷ [])
-    none 12 1 1 1 0 (16 ∷ 9 ∷ []) []
-    -- no room: stopped by 15
-    ∷ batch growing (0 ∷ 0 ∷ []) 2048 (9 ∷ 9 ∷ [])
-    none 15 1 2047 2047 4094 (2 ∷ 9 ∷ []) (replicate 2048 0)
-    -- "No events: 0 accepted."
-    ∷ batch sample [] 65535 (9 ∷ [])
-    none 0 0 0 0 0 (9 ∷ []) []
-    -- 16 with an answer byte too few; 13 before it, and before 12
-    ∷ batch sample (0 ∷ 1 ∷ []) 65535 (9 ∷ [])
-    (some 16) 0 0 0 0 0 (9 ∷ []) []
-    ∷ batch sample (3 ∷ 1 ∷ []) 65536 (9 ∷ [])
-    (some 13) 0 0 0 0 0 (9 ∷ []) []
     ∷ []

@@ -7,3 +7,4 @@ pub mod Batch
 pub mod Play
 pub mod Promise
 pub mod Cases
+pub mod Edges
