@@ -5,7 +5,7 @@ use mathlib.Core.Bool.{true}
 use mathlib.Core.Option.{none, some, orElse, bind}
 use mathlib.Core.List.{[], _∷_, _++_}
 use native.Mathlib.Omega.{arith}
-use Rattle.rewriting.specs.Rules.{rule, rightInRange, ruleInRange, inRange}
+use Rattle.rewriting.specs.Rules.{Close, _⇒_, rule, rightInRange, ruleInRange, inRange}
 use Rattle.rewriting.specs.Occurrences.{Occurs, lowest, tie, ending, endingAt, scan, redex}
 use Rattle.rewriting.specs.Rewriter.{fed, replaced, unlessVerdict, rewrite, rewrites}
 use Rattle.rewriting.specs.Sample.{sample}
@@ -62,6 +62,11 @@ redex-lock-take-free = refl
 redex-lock-free : redex (sample .rules) (0 ∷ 2 ∷ []) ≡ none
 unfolding redex scan ending tie lowest orElse sample
 redex-lock-free = refl
+
+-- of two rules with one left side, the lowest
+redex-equal-rules : redex ((0 ∷ [] ⇒ Close 0) ∷ (0 ∷ [] ⇒ Close 1) ∷ []) (0 ∷ []) ≡ some (record { before = []; rule = 0; after = [] })
+unfolding redex scan endingAt ending tie lowest orElse rule
+redex-equal-rules = refl
 
 -- another occurrence in `lock take free`: `take`
 take-occurs : Occurs (sample .rules) (0 ∷ 1 ∷ 2 ∷ []) (record { before = 0 ∷ []; rule = 2; after = 2 ∷ [] })
