@@ -2,9 +2,10 @@
 -- Assumes nothing.
 use Prim.Native.Nat.{ℕ}
 use mathlib.Core.Path.{_≡_, refl}
-use mathlib.Core.Option.{orElse}
+use mathlib.Core.Option.{some, orElse}
 use mathlib.Core.List.{List, [], _∷_, _++_, flatMap}
 use lib.ListN.{length, replicate}
+use Rattle.rewriting.specs.Rules.{Put, Close, _⇒_}
 use Rattle.rewriting.specs.Occurrences.{lowest, tie, ending}
 use Rattle.rewriting.specs.Sample.{sample}
 use Rattle.image.specs.Image.{imageOf}
@@ -61,11 +62,16 @@ pub broken-refused : (area : List ℕ) → compileOf (imageOf sample ++ 0 ∷ []
 unfolding compileOf compileChecks compiled refusal
 broken-refused area = rw (longer-refused 0)
 
+-- C5: the state b a a is no left side, and matches a a, which ends it
+pub inner-match : matching ((1 ∷ 0 ∷ 0 ∷ 2 ∷ [] ⇒ Close 0) ∷ (0 ∷ 0 ∷ [] ⇒ Put []) ∷ []) (1 ∷ 0 ∷ 0 ∷ []) ≡ some 1
+unfolding matching ending tie lowest orElse
+inner-match = refl
+
 -- no rules: the empty string is the one state
 pub empty-states : states [] ≡ [] ∷ []
 unfolding states numbered flatMap
 empty-states = refl
 
 pub empty-table : tableOf (record { symbols = 1; events = 1; verdicts = 2; rules = [] }) ≡ 1 ∷ 1 ∷ 0 ∷ 0 ∷ []
-unfolding tableOf matchWord row states numbered number next matching state isPrefix ending flatMap
+unfolding tableOf matchWord row states numbered number next matching state isPrefix lowest ending flatMap
 empty-table = refl

@@ -21,7 +21,7 @@ unfoldable pub next : List Rule → List ℕ → ℕ → List ℕ
 next rules q a = state rules (q ++ a ∷ [])
 
 -- the rule that state q matches: "the rule with the longest left side that is a suffix of q's string, the lowest rule
--- among equals", which is the choice among occurrences that end together
+-- among equals". That is the choice among occurrences that end together (`ending-longest`, rewriting/proofs/Redex.antt).
 unfoldable pub matching : List Rule → List ℕ → Option ℕ
 matching rules q = ending rules q
 
