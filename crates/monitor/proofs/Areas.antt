@@ -1,20 +1,21 @@
 -- Areas: what is written from a state has the capacity's length and is read back as that state, and fresh writes the empty
 -- state.
 -- Assumes nothing.
-use Prim.Native.Nat.{ℕ, suc, _+_, _-_, _≤_}
-use mathlib.Core.Path.{_≡_, refl, ap}
+use Prim.Native.Nat.{ℕ, zero, suc, _+_, _-_, _≤_, _<_}
+use mathlib.Core.Path.{_≡_, refl, ap, _∙_}
 use mathlib.Core.Bool.{true}
 use mathlib.Core.Option.{Option, none, some}
 use mathlib.Core.List.{List, [], _∷_, _++_, map, append-assoc, append-nil}
 use native.Mathlib.Omega.{arith}
-use native.Mathlib.Nat.{sub-zero}
-use lib.ListN.{length, take, drop, replicate, length-append, length-replicate, length-map}
-use lib.Seq.{take-append-seam, drop-at}
+use native.Mathlib.Nat.{sub-zero, le-of-suc-le-suc, not-suc-le-zero}
+use lib.ListN.{length, getD, take, drop, replicate, length-append, length-replicate, length-map, List·getD-append}
+use lib.Seq.{append-snoc, take-append-seam, drop-at}
 use borrow.Author.Tests.{eq-eqb, leb-true}
 use Rattle.rewriting.specs.Rules.{Rule}
-use Rattle.rewriting.proofs.Lists.{and-both}
+use Rattle.rewriting.proofs.Lists.{and-both, getD-map}
 use Rattle.image.specs.Refusals.{refusal}
-use Rattle.table.specs.States.{states, number, next}
+use Rattle.table.specs.States.{states, number, state, next}
+use Rattle.table.proofs.Matching.{state-snoc}
 use Rattle.monitor.specs.State.{State, going, empty}
 use Rattle.monitor.specs.Run.{fits}
 use Rattle.monitor.specs.Areas.{headOf, areaOf, bytesOf, statesAfter, wordsOf, lentOf, stateOf}
@@ -52,6 +53,26 @@ pub length-states-after : (rules : List Rule) (q s : List ℕ) → length (state
 unfolding statesAfter
 length-states-after rules q [] = refl
 length-states-after rules q (a ∷ s) = ap suc (length-states-after rules (next rules q a) s)
+
+-- the state after each settled symbol is the state of the string up to it
+states-after : (rules : List Rule) (p s : List ℕ) (i : ℕ) → i < length s
+    → getD (statesAfter rules (state rules p) s) i [] ≡ state rules (p ++ take (suc i) s)
+unfolding statesAfter
+states-after rules p [] i h = absurd (not-suc-le-zero h)
+states-after rules p (a ∷ s) zero h = state-snoc rules p a
+states-after rules p (a ∷ s) (suc i) h =
+    rw (state-snoc, ← append-snoc p a (take (suc i) s)) (states-after rules (p ++ a ∷ []) s i (le-of-suc-le-suc h))
+
+-- "word i below a is the table's state after i + 1 settled symbols"
+pub word-at : (rules : List Rule) (capacity : ℕ) (s : State) (i : ℕ) → i < length (s .settled)
+    → getD (wordsOf rules capacity s) i 0 ≡ number (states rules) (state rules (take (suc i) (s .settled)))
+unfolding wordsOf areaOf state
+word-at rules capacity s i h =
+    let after : List (List ℕ) = statesAfter rules [] (s .settled) in
+    let n : length after ≡ length (s .settled) = length-states-after rules [] (s .settled) in
+    List·getD-append (map (number (states rules)) after) _ 0 i (simp length-map (omega arith))
+    ∙ getD-map (number (states rules)) after i [] 0 (omega arith)
+    ∙ ap (number (states rules)) (states-after rules [] (s .settled) i h)
 
 -- the check behind refusal 10
 pub sized-lent : (rules : List Rule) (capacity : ℕ) (s : State) → fits capacity s ≡ true

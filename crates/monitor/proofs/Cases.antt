@@ -19,7 +19,7 @@ use Rattle.monitor.specs.Calls.{sized, freshened, freshOf, fuelOf, lentC
 use Rattle.monitor.specs.Batch.{stopped, andThen, offers, batchChecks, batched, batchOf}
 use Rattle.monitor.specs.Play.{stringOf, noCalls, eventsOf, logged, play, answersOf}
 use Rattle.monitor.specs.Cases.{Case, fresh, foundIn, find, worked, abcd, cases, documentCapacity}
-use Rattle.monitor.specs.Edges.{growing, edges, BatchCase, findBatch, batch, batches, lending, goingOn, asDescribed, asDescribedAnswers, notAsDescribed, Lending, wrong, inOrder, inOrderAnswers}
+use Rattle.monitor.specs.Edges.{day, growing, edges, BatchCase, findBatch, batch, batches, lending, goingOn, asDescribed, asDescribedAnswers, notAsDescribed, Lending, wrong, inOrder, inOrderAnswers}
 
 -- every definition that a computed case goes through
 computes : Unit {0}
@@ -30,6 +30,11 @@ computes = tt
 pub cases-found : map (λ (c : Case). find (c .set) (c .calls)) cases ≡ map (λ (c : Case). c .found) cases
 unfolding computes cases
 cases-found = refl
+
+-- and of the printed day
+pub day-found : map (λ (c : Case). find (c .set) (c .calls)) day ≡ map (λ (c : Case). c .found) day
+unfolding computes day
+day-found = refl
 
 -- and of the table of edges
 pub edges-found : map (λ (c : Case). find (c .set) (c .calls)) edges ≡ map (λ (c : Case). c .found) edges

@@ -21,6 +21,19 @@ use Rattle.monitor.specs.Cases.{documentCapacity, fresh, Case, worked, a
 unfoldable pub growing : RuleSet
 growing = abcd ((0 ∷ [] ⇒ Put (0 ∷ 0 ∷ [])) ∷ [])
 
+-- the day that document 01 prints for the sample, event by event; counts are sums over the calls so far
+unfoldable pub day : List Case
+day =
+    worked sample (Offer 0 1000 ∷ [])
+    (Answer.Quiet ∷ []) 1 0 0 (0 ∷ []) 0 Standing.None 0
+    ∷ worked sample (Offer 0 1000 ∷ Offer 1 1000 ∷ [])
+    (Answer.Quiet ∷ Answer.Quiet ∷ []) 3 1 1 (3 ∷ []) 0 Standing.None 0
+    ∷ worked sample (Offer 0 1000 ∷ Offer 1 1000 ∷ Offer 2 1000 ∷ [])
+    (Answer.Quiet ∷ Answer.Quiet ∷ Answer.Quiet ∷ []) 4 2 1 [] 0 Standing.None 0
+    ∷ worked sample (Offer 0 1000 ∷ Offer 1 1000 ∷ Offer 2 1000 ∷ Offer 1 1000 ∷ [])
+    (Answer.Quiet ∷ Answer.Quiet ∷ Answer.Quiet ∷ Answer.Verdict 0 ∷ []) 5 3 1 [] 0 (Standing.Verdict 0) 2
+    ∷ []
+
 -- the edges
 unfoldable pub edges : List Case
 edges =
