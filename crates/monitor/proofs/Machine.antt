@@ -1,12 +1,12 @@
 -- The monitor as one machine: which states its steps reach, with which counts, whatever the fuel and the capacity.
 -- Symbols that wait behind change no earlier step, so the events of later offers may as well wait from the start.
 -- Assumes nothing.
-use Prim.Native.Nat.{ℕ, _-_}
+use Prim.Native.Nat.{ℕ}
 use mathlib.Core.Path.{_≡_, refl, ap}
 use mathlib.Core.Option.{Option, none, some}
 use mathlib.Core.List.{List, [], _∷_, _++_, append-assoc}
-use lib.ListN.{length, take}
 use Rattle.rewriting.specs.Rules.{Right, Put, Close, Rule, rule}
+use Rattle.rewriting.specs.Occurrences.{cut}
 use Rattle.table.specs.States.{state, next, matching}
 use Rattle.monitor.specs.declared.Standing.{Standing}
 use Rattle.monitor.specs.declared.Counts.{Counts}
@@ -45,7 +45,7 @@ settle-more : (rules : List Rule) (p q e : List ℕ) (m : Option ℕ) → settle
 unfolding settle stepMore more going
 settle-more rules p q e none = refl
 settle-more rules p q e (some i) =
-    replace-more (take (length p - length (rule rules i .left)) p) q e i (rule rules i .right)
+    replace-more (cut rules p i) q e i (rule rules i .right)
 
 step-more : (rules : List Rule) (s : List ℕ) (a : ℕ) (q e : List ℕ) → step rules s a (q ++ e) ≡ stepMore (step rules s a q) e
 unfolding step

@@ -1,7 +1,7 @@
 -- The machine simulates the plain rewriter: whatever it reaches from the string w, waiting, holds the string and the
 -- verdict that the rewriter has after as many rewrites.
 -- Assumes nothing.
-use Prim.Native.Nat.{ℕ, suc, _+_, _-_}
+use Prim.Native.Nat.{ℕ, suc, _+_}
 use mathlib.Core.Path.{_≡_, refl}
 use mathlib.Core.Bool.{true}
 use mathlib.Core.Option.{Option, none, some}
@@ -9,11 +9,11 @@ use mathlib.Core.List.{List, [], _∷_, _++_}
 use native.Mathlib.Omega.{arith}
 use native.Mathlib.Numerals.{add-one}
 use native.Mathlib.Nat.{add-zero}
-use lib.ListN.{length, take, length-append}
+use lib.ListN.{length, length-append}
 use lib.Seq.{append-snoc}
 use Rattle.rewriting.specs.Lists.{below}
 use Rattle.rewriting.specs.Rules.{Right, Put, Close, Rule, RuleSet, rule}
-use Rattle.rewriting.specs.Occurrences.{redex, ending, endingAt}
+use Rattle.rewriting.specs.Occurrences.{redex, ending, cut, endingAt}
 use Rattle.rewriting.specs.Rewriter.{fed, replaced, unlessVerdict, rewrite, rewrites}
 use Rattle.rewriting.proofs.Ranges.{Ranges}
 use Rattle.rewriting.proofs.Scan.{redex-found}
@@ -51,8 +51,8 @@ module _ (rules : List Rule) (w : List ℕ) (c : Counts) (s : List ℕ) (a : ℕ
   unfolding settle going plus countsOf replace rewrite unlessVerdict replaced endingAt verdictOf
   faithful-some i clean e = go (rule rules i .right) refl
     where
-      cut : List ℕ
-      cut = take (length (s ++ a ∷ []) - length (rule rules i .left)) (s ++ a ∷ [])
+      kept : List ℕ
+      kept = cut rules (s ++ a ∷ []) i
 
       rewritten : rewrites rules (c .rewrites + 1) (fed w)
           ≡ some (replaced (c .put) (endingAt rules (s ++ a ∷ []) q i) (rule rules i .right))
@@ -63,7 +63,7 @@ module _ (rules : List Rule) (w : List ℕ) (c : Counts) (s : List ℕ) (a : ℕ
           (rw (redex-found rules s a q i clean e)))
 
       go : (r : Right) → rule rules i .right ≡ r
-          → Faithful rules w (plus c (countsOf (replace cut q i r))) (replace cut q i r .to)
+          → Faithful rules w (plus c (countsOf (replace kept q i r))) (replace kept q i r .to)
       go (Put v) h =
           record {
             rewriter = rw h at rewritten;

@@ -1,9 +1,10 @@
 -- What a monitor holds, as strings of symbols, and one step of it.
-use Prim.Native.Nat.{ℕ, _-_}
+use Prim.Native.Nat.{ℕ}
 use mathlib.Core.Option.{Option, none, some}
 use mathlib.Core.List.{List, [], _∷_, _++_}
-use lib.ListN.{length, take}
+use lib.ListN.{length}
 use Rattle.rewriting.specs.Rules.{Right, Put, Close, Rule, rule}
+use Rattle.rewriting.specs.Occurrences.{cut}
 use Rattle.table.specs.States.{state, next, matching}
 use Rattle.monitor.specs.declared.Standing.{Standing}
 
@@ -39,7 +40,7 @@ replace s q i (Close v) =
 -- "If that state matches rule l → r, the symbols of l are taken off": p is settled with the symbol just taken, q waits
 unfoldable pub settle : List Rule → List ℕ → List ℕ → Option ℕ → Step
 settle rules p q none = record { to = going p q; rewrites = 0; put = 0 }
-settle rules p q (some i) = replace (take (length p - length (rule rules i .left)) p) q i (rule rules i .right)
+settle rules p q (some i) = replace (cut rules p i) q i (rule rules i .right)
 
 -- "One step takes the first waiting symbol onto the settled string and finds its state from the word before it (state 0
 -- at the start)": s is settled, a waits first, q waits behind it

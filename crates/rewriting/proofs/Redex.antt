@@ -1,6 +1,6 @@
 -- Which occurrence a rewrite takes: the one that ends first, of these the one that begins first, of these the lowest rule.
 -- Assumes nothing.
-use Prim.Native.Nat.{ℕ, _-_, _≤_, _<_}
+use Prim.Native.Nat.{ℕ, _≤_, _<_}
 use mathlib.Core.Path.{_≡_, refl, sym, ap, subst, _∙_}
 use mathlib.Core.Bool.{true}
 use mathlib.Core.Logic.{_⊎_, inl, inr, ⊎-elim}
@@ -8,10 +8,10 @@ use mathlib.Core.Option.{Option, none, some}
 use mathlib.Core.List.{List, [], _∷_, _++_, append-assoc, append-cancel-right, tail-eq-of-cons-eq}
 use native.Mathlib.Omega.{arith}
 use native.Mathlib.Nat.{eq-or-lt-of-le}
-use lib.ListN.{length, take, length-append, length-take}
+use lib.ListN.{length, length-append, length-take}
 use lib.Seq.{append-snoc, take-at, drop-at}
 use Rattle.rewriting.specs.Rules.{Rule, RuleSet, rule, inRange}
-use Rattle.rewriting.specs.Occurrences.{Occurrence, Occurs, Sooner, ends, lowest, ending, endingAt, scan, redex}
+use Rattle.rewriting.specs.Occurrences.{Occurrence, Occurs, Sooner, ends, lowest, ending, cut, endingAt, scan, redex}
 use Rattle.rewriting.proofs.Ranges.{ranges, rule-at}
 use Rattle.rewriting.proofs.Choice.{tie-some, tie-earlier, tie-none}
 use Rattle.rewriting.proofs.Scan.{lowest-left, lowest-none, EndsWith, ending-left, scan-next, scan-some, scan-ending}
@@ -116,7 +116,7 @@ module _ (rules : List Rule) (some-left : NonEmpty rules) where
           → First rules (endingAt rules p q i) x
       equal n s h =
           let here = ends-here rules p q x occ n in
-          let front = take (length p - length (rule rules i .left)) p in
+          let front = cut rules p i in
           let begin : x .before ≡ front = append-cancel-right (x .before) front (rule rules i .left) (cc (here .0, t .ends)) in
           ⊎-elim (λ r. inl (λ k. record { before = begin k; rule = sym r k; after = sym (here .1) k }))
           (λ higher. inr (inr (omega (arith, end), inr (sym (ap length begin), higher)))) (eq-or-lt-of-le h)

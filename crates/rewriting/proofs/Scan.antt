@@ -12,7 +12,7 @@ use lib.ListN.{length, take, drop, length-append, take-append-drop}
 use lib.Seq.{append-snoc, take-at}
 use Rattle.rewriting.specs.Lists.{same}
 use Rattle.rewriting.specs.Rules.{Rule, rule}
-use Rattle.rewriting.specs.Occurrences.{Occurrence, lowest, ending, endingAt, scan, redex}
+use Rattle.rewriting.specs.Occurrences.{Occurrence, lowest, ending, cut, endingAt, scan, redex}
 use Rattle.rewriting.proofs.Lists.{same-eq, eq-same}
 use Rattle.rewriting.proofs.Choice.{tie-some}
 
@@ -148,7 +148,7 @@ pub record EndsWith (rules : List Rule) (p : List ℕ) (i : ℕ) : Type 0 where
   pub is-rule : i < length rules
   pub some-left : 1 ≤ length (rule rules i .left)
   pub fits : length (rule rules i .left) ≤ length p
-  pub ends : p ≡ take (length p - length (rule rules i .left)) p ++ rule rules i .left
+  pub ends : p ≡ cut rules p i ++ rule rules i .left
 
 -- any way to split p before the left side will do
 pub ends-with : (rules : List Rule) (p : List ℕ) (i : ℕ) → i < length rules → 1 ≤ length (rule rules i .left)
@@ -174,5 +174,5 @@ ending-left rules (x ∷ p) i e =
 
     longer : EndsWith rules p i → EndsWith rules (x ∷ p) i
     longer t =
-        ends-with rules (x ∷ p) i (t .is-rule) (t .some-left) (x ∷ take (length p - length (rule rules i .left)) p)
+        ends-with rules (x ∷ p) i (t .is-rule) (t .some-left) (x ∷ cut rules p i)
         (ap (λ (l : List ℕ). x ∷ l) (t .ends))

@@ -50,9 +50,13 @@ unfoldable pub ending : List Rule → List ℕ → Option ℕ
 ending rules [] = none
 ending rules (x ∷ p) = tie (lowest rules (x ∷ p)) (ending rules p)
 
+-- p without rule i's left side at its end
+abbrev pub cut : List Rule → List ℕ → ℕ → List ℕ
+cut rules p i = take (length p - length (rule rules i .left)) p
+
 -- the occurrence of rule i that ends where p ends, with q after it
 unfoldable pub endingAt : List Rule → List ℕ → List ℕ → ℕ → Occurrence
-endingAt rules p q i = record { before = take (length p - length (rule rules i .left)) p; rule = i; after = q }
+endingAt rules p q i = record { before = cut rules p i; rule = i; after = q }
 
 -- "take the one that ends first": of the occurrences in p ++ q that end behind p
 unfoldable pub scan : List Rule → List ℕ → List ℕ → Option Occurrence
