@@ -2,10 +2,16 @@
 -- Assumes nothing.
 use Prim.Native.Nat.{ℕ}
 use mathlib.Core.Path.{_≡_, refl}
+use mathlib.Core.Bool.{Bool, true, false, cond, _&&_}
+use mathlib.Core.Logic.{_↔_}
 use mathlib.Core.Option.{Option, none, some}
 use mathlib.Core.List.{List, [], _∷_, _++_}
 use native.Mathlib.Omega.{arith}
+use lib.Dec.{eqb}
+use lib.ListN.{length}
+use borrow.Author.Tests.{eqb-true, eq-eqb}
 use Rattle.rewriting.specs.Rules.{RuleSet}
+use Rattle.rewriting.proofs.Lists.{and-both, and-left, and-right}
 use Rattle.image.specs.Image.{read}
 use Rattle.image.specs.Refusals.{refusal}
 use Rattle.monitor.specs.State.{empty}
@@ -42,6 +48,26 @@ call-theorem capacity image table l c =
               let z : _≡_ {A = ℕ} 0 1 = cc in
               absurd (omega arith);
         }
+
+-- fresh takes areas of the capacity's length, and no others
+pub fresh-takes : (capacity : ℕ) (bytes words : List ℕ)
+    → freshOf capacity bytes words .refused ≡ none ↔ ((length bytes ≡ capacity) × (length words ≡ capacity))
+unfolding freshOf freshened sized refusal
+fresh-takes capacity bytes words = (λ e. lengths (sized capacity bytes words) refl e, taken)
+  where
+    a : Bool
+    a = eqb (length bytes) capacity
+
+    b : Bool
+    b = eqb (length words) capacity
+
+    lengths : (c : Bool) → (a && b) ≡ c → freshened capacity bytes words (cond c none (some 10)) .refused ≡ none
+        → (length bytes ≡ capacity) × (length words ≡ capacity)
+    lengths true p e = (eqb-true _ _ (and-left a b p), eqb-true _ _ (and-right a b p))
+    lengths false p e = let z : _≡_ {A = ℕ} 0 1 = cc in absurd (omega arith)
+
+    taken : (length bytes ≡ capacity) × (length words ≡ capacity) → freshOf capacity bytes words .refused ≡ none
+    taken h = rw (and-both (eq-eqb _ _ (h .0)) (eq-eqb _ _ (h .1)))
 
 -- "beside 10 it returns the empty one"
 pub fresh-refused : (capacity : ℕ) (bytes words : List ℕ) (n : ℕ) → freshOf capacity bytes words .refused ≡ some n
