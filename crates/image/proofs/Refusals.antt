@@ -2,9 +2,9 @@
 -- Assumes nothing.
 use Prim.Native.Nat.{ℕ}
 use mathlib.Core.Path.{_≡_, refl}
-use mathlib.Core.Bool.{Bool, true, false}
+use mathlib.Core.Bool.{Bool, true, false, cond}
 use mathlib.Core.Option.{none, some}
-use mathlib.Core.List.{List, [], _∷_, _++_}
+use mathlib.Core.List.{List, [], _∷_, _++_, map, List·Memᴰ, List·Memᴰ·head, List·Memᴰ·tail}
 use native.Mathlib.Omega.{arith}
 use Rattle.image.specs.Refusals.{Check, refusal}
 
@@ -67,3 +67,14 @@ pub refusal-none-right : (cs ds : List Check) → refusal (cs ++ ds) ≡ none �
 unfolding refusal
 refusal-none-right [] ds e = e
 refusal-none-right (c ∷ cs) ds e = refusal-none-right cs ds (refusal-rest (c .0) (c .1) (cs ++ ds) e)
+
+-- a refusal has the number of one of the checks
+pub refusal-number : (cs : List Check) (n : ℕ) → refusal cs ≡ some n → List·Memᴰ n (map (λ (c : Check). c .1) cs)
+unfolding refusal
+refusal-number [] n e = let z : _≡_ {A = ℕ} 0 1 = cc in absurd (omega arith)
+refusal-number (c ∷ cs) n e = go (c .0) e (refusal-number cs n)
+  where
+    go : (b : Bool) → cond b (refusal cs) (some (c .1)) ≡ some n
+        → (refusal cs ≡ some n → List·Memᴰ n (map (λ (d : Check). d .1) cs)) → List·Memᴰ n (c .1 ∷ map (λ (d : Check). d .1) cs)
+    go true p ih = List·Memᴰ·tail (ih p)
+    go false p ih = let q : n ≡ c .1 = cc in List·Memᴰ·head q

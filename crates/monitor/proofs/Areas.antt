@@ -16,9 +16,9 @@ use Rattle.rewriting.proofs.Lists.{and-both, getD-map}
 use Rattle.image.specs.Refusals.{refusal}
 use Rattle.table.specs.States.{states, number, state, next}
 use Rattle.table.proofs.Matching.{state-snoc}
-use Rattle.monitor.specs.State.{State, going, empty}
+use Rattle.monitor.specs.State.{State, active, empty}
 use Rattle.monitor.specs.Run.{fits}
-use Rattle.monitor.specs.Areas.{headOf, areaOf, bytesOf, statesAfter, wordsOf, lentOf, stateOf}
+use Rattle.monitor.specs.Areas.{headOf, areaOf, bytesOf, statesAfter, wordsOf, monitorOf, stateOf}
 use Rattle.monitor.specs.Calls.{sized, freshOf, freshened}
 
 -- an area has the capacity's length where its two ends have room
@@ -38,9 +38,9 @@ area-end capacity s q =
     rw (← append-assoc s zeros q) (drop-at (s ++ zeros) q (length (s ++ zeros ++ q) - length q) all-but)
 
 -- written, then read back
-pub state-lent : (rules : List Rule) (capacity : ℕ) (s : State) → stateOf (lentOf rules capacity s) ≡ s
-unfolding stateOf lentOf headOf bytesOf
-state-lent rules capacity s =
+pub state-back : (rules : List Rule) (capacity : ℕ) (s : State) → stateOf (monitorOf rules capacity s) ≡ s
+unfolding stateOf monitorOf headOf bytesOf
+state-back rules capacity s =
     λ i.
     record {
       settled = area-begin capacity (s .settled) (s .waiting) i;
@@ -75,10 +75,10 @@ word-at rules capacity s i h =
     ∙ ap (number (states rules)) (states-after rules [] (s .settled) i h)
 
 -- the check behind refusal 10
-pub sized-lent : (rules : List Rule) (capacity : ℕ) (s : State) → fits capacity s ≡ true
-    → sized capacity (lentOf rules capacity s .bytes) (lentOf rules capacity s .words) ≡ true
-unfolding sized lentOf bytesOf wordsOf fits
-sized-lent rules capacity s h =
+pub sized-written : (rules : List Rule) (capacity : ℕ) (s : State) → fits capacity s ≡ true
+    → sized capacity (monitorOf rules capacity s .bytes) (monitorOf rules capacity s .words) ≡ true
+unfolding sized monitorOf bytesOf wordsOf fits
+sized-written rules capacity s h =
     let room : length (s .settled) + length (s .waiting) ≤ capacity = leb-true _ _ h in
     let after : List (List ℕ) = statesAfter rules [] (s .settled) in
     and-both (eq-eqb _ _ (length-area capacity (s .settled) (s .waiting) room))
@@ -91,12 +91,12 @@ unfolding areaOf
 area-empty capacity = simp (sub-zero, append-nil)
 
 -- what is lent after fresh holds the empty state
-pub fresh-lent : (rules : List Rule) (capacity : ℕ) (bytes words : List ℕ) → freshOf capacity bytes words .refused ≡ none
-    → freshOf capacity bytes words .lent ≡ lentOf rules capacity empty
-unfolding freshOf freshened lentOf bytesOf wordsOf statesAfter empty going
-fresh-lent rules capacity bytes words h = go (refusal ((sized capacity bytes words, 10) ∷ [])) h
+pub fresh-written : (rules : List Rule) (capacity : ℕ) (bytes words : List ℕ) → freshOf capacity bytes words .refused ≡ none
+    → freshOf capacity bytes words .monitor ≡ monitorOf rules capacity empty
+unfolding freshOf freshened monitorOf bytesOf wordsOf statesAfter empty active
+fresh-written rules capacity bytes words h = go (refusal ((sized capacity bytes words, 10) ∷ [])) h
   where
     go : (o : Option ℕ) → freshened capacity bytes words o .refused ≡ none
-        → freshened capacity bytes words o .lent ≡ lentOf rules capacity empty
+        → freshened capacity bytes words o .monitor ≡ monitorOf rules capacity empty
     go none e = rw area-empty
     go (some n) e = let z : _≡_ {A = ℕ} 0 1 = cc in absurd (omega arith)

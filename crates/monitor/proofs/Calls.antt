@@ -22,25 +22,25 @@ use Rattle.monitor.specs.declared.Standing.{Standing}
 use Rattle.monitor.specs.declared.Answer.{Answer}
 use Rattle.monitor.specs.State.{State}
 use Rattle.monitor.specs.Run.{Run, fits, run}
-use Rattle.monitor.specs.Areas.{Lent, headOf, lentOf, stateOf}
-use Rattle.monitor.specs.Calls.{Call, Offer, GoOn, Outcome, fuelOf, lentChecks, fuelCheck, verdictCheck, callChecks, offered, outcome, answered, callOf, refusedBy}
+use Rattle.monitor.specs.Areas.{Monitor, headOf, monitorOf, stateOf}
+use Rattle.monitor.specs.Calls.{Call, Offer, GoOn, Outcome, fuelOf, lentChecks, fuelCheck, verdictCheck, callChecks, offered, outcome, decided, callOf, refusedBy}
 use Rattle.monitor.specs.Play.{eventsOf}
 use Rattle.monitor.proofs.Machine.{Reaches, Stay, more}
-use Rattle.monitor.proofs.Runs.{Ran, ran}
+use Rattle.monitor.proofs.Runs.{Ran, ran, stopped-accepted, stopped-quiet}
 use Rattle.monitor.proofs.Legal.{Legal, legal-more, legal-reaches}
-use Rattle.monitor.proofs.Areas.{state-lent, sized-lent}
-use Rattle.monitor.proofs.Described.{Described, described-lent, is-described}
+use Rattle.monitor.proofs.Areas.{state-back, sized-written}
+use Rattle.monitor.proofs.Described.{Described, described-written, is-described}
 
 -- What is lent holds a state that is legal and within the capacity.
-pub record Holding (set : RuleSet) (capacity : ℕ) (l : Lent) : Type 0 where
+pub record Holding (set : RuleSet) (capacity : ℕ) (m : Monitor) : Type 0 where
   pub state : State
-  pub written : l ≡ lentOf (set .rules) capacity state
+  pub written : m ≡ monitorOf (set .rules) capacity state
   pub legal : Legal set state
   pub room : fits capacity state ≡ true
 
 -- What a call c on the state s leaves, with the outcome o.
 pub record Next (set : RuleSet) (capacity : ℕ) (s : State) (c : Call) (o : Outcome) : Type 0 where
-  pub after : Holding set capacity (o .lent)
+  pub after : Holding set capacity (o .monitor)
   pub reached : Reaches (set .rules) (more s (eventsOf (refusedBy (o .answer)) c)) (o .counts) (after .state)
   pub symbols : below (set .symbols) (eventsOf (refusedBy (o .answer)) c) ≡ true
   pub quiet : o .answer ≡ Answer.Quiet
@@ -73,13 +73,13 @@ accepted-event set ranges capacity s (Offer event fuel) e h =
 
 -- the call runs, or is refused by the checks of its own
 next-of : (set : RuleSet) → Ranges set → (capacity : ℕ) (s : State) → Legal set s → fits capacity s ≡ true → (c : Call)
-    → Next set capacity s c (answered set capacity (lentOf (set .rules) capacity s) (callChecks set capacity (headOf s) c) c)
-unfolding answered outcome refusedBy eventsOf
+    → Next set capacity s c (decided set capacity (monitorOf (set .rules) capacity s) (callChecks set capacity (headOf s) c) c)
+unfolding decided outcome refusedBy eventsOf
 next-of set ranges capacity s f h c =
-    rw (state-lent (set .rules) capacity s) (go (refusal (callChecks set capacity (headOf s) c)) refl)
+    rw (state-back (set .rules) capacity s) (go (refusal (callChecks set capacity (headOf s) c)) refl)
   where
-    l : Lent
-    l = lentOf (set .rules) capacity s
+    m : Monitor
+    m = monitorOf (set .rules) capacity s
 
     r : Run
     r = run (set .rules) capacity (fuelOf c) (offered s c)
@@ -87,7 +87,7 @@ next-of set ranges capacity s f h c =
     done : Ran (set .rules) capacity (fuelOf c) (offered s c) r
     done = ran (set .rules) capacity (fuelOf c) (offered s c)
 
-    go : (o : Option ℕ) → refusal (callChecks set capacity (headOf s) c) ≡ o → Next set capacity s c (outcome set capacity l o r)
+    go : (o : Option ℕ) → refusal (callChecks set capacity (headOf s) c) ≡ o → Next set capacity s c (outcome set capacity m o r)
     go (some n) e =
         record {
           after = record { state = s; written = refl; legal = f; room = h };
@@ -103,52 +103,47 @@ next-of set ranges capacity s f h c =
         let room : fits capacity (offered s c) ≡ true = accepted-event set ranges capacity s c e h .0 in
         let symbols : below (set .symbols) (eventsOf none c) ≡ true = accepted-event set ranges capacity s c e h .1 in
         let legal : Legal set (offered s c) = rw offered-more (legal-more set s (eventsOf none c) symbols f) in
+        let accepted : refusedBy (r .answer) ≡ none =
+        stopped-accepted (set .rules) capacity (fuelOf c) (r .counts) (r .state) (r .answer) (done .stops)
+        in
+        let quiet : _ = stopped-quiet (set .rules) capacity (fuelOf c) (r .counts) (r .state) (r .answer) (done .stops) in
         record {
-          after =
-              record {
-                state = r .state;
-                written = refl;
-                legal = legal-reaches set ranges (done .reached) legal;
-                room = done .room room;
-              };
-          reached = rw (done .accepted, ← offered-more) (done .reached);
-          symbols = rw (done .accepted) symbols;
-          quiet = (
-            λ p. (done .accepted, done .quiet .0 p .0, done .quiet .0 p .1),
-            λ p. done .quiet .1 (p .1, p .2),
-          );
+          after = record { state = r .state; written = refl; legal = legal-reaches set ranges (done .reached) legal; room = done .room room };
+          reached = rw (accepted, ← offered-more) (done .reached);
+          symbols = rw accepted symbols;
+          quiet = (λ p. (accepted, quiet .0 p .0, quiet .0 p .1), λ p. quiet .1 (p .1, p .2));
         }
 
 -- The checks behind 10 and 11 take nothing else.
-pub passed-holding : (capacity : ℕ) (image table : List ℕ) (l : Lent) → refusal (lentChecks capacity image table l) ≡ none
-    → Holding (read image) capacity l
+pub passed-holding : (capacity : ℕ) (image table : List ℕ) (m : Monitor) → refusal (lentChecks capacity image table m) ≡ none
+    → Holding (read image) capacity m
 unfolding lentChecks
-passed-holding capacity image table l e =
+passed-holding capacity image table m e =
     let e₁₀ : _ = refusal-rest _ _ _ (refusal-rest _ _ _ e) in
-    let d : Described (read image) capacity l =
-    is-described (read image) capacity l (refusal-passed _ _ _ e₁₀) (refusal-passed _ _ _ (refusal-rest _ _ _ e₁₀))
+    let d : Described (read image) capacity m =
+    is-described (read image) capacity m (refusal-passed _ _ _ e₁₀) (refusal-passed _ _ _ (refusal-rest _ _ _ e₁₀))
     in
-    record { state = stateOf l; written = sym (d .written); legal = d .legal; room = d .room }
+    record { state = stateOf m; written = sym (d .written); legal = d .legal; room = d .room }
 
 module _ (capacity : ℕ) (image table : List ℕ) (good : valid image ≡ true) (right : prefix (tableOf (read image)) table ≡ true) where
   in-range : Ranges (read image)
   in-range = ranges (read image) (valid-in-range image good)
 
   -- They pass, and so do those behind 7 and 9.
-  pub holding-passes : (l : Lent) → Holding (read image) capacity l → refusal (lentChecks capacity image table l) ≡ none
+  pub holding-passes : (m : Monitor) → Holding (read image) capacity m → refusal (lentChecks capacity image table m) ≡ none
   unfolding lentChecks refusal
-  holding-passes l h =
+  holding-passes m h =
       rw (h .written)
-      (rw (good, right, sized-lent (read image .rules) capacity (h .state) (h .room), described-lent (read image) capacity (h .state) (h .room) (h .legal)))
+      (rw (good, right, sized-written (read image .rules) capacity (h .state) (h .room), described-written (read image) capacity (h .state) (h .room) (h .legal)))
 
-  -- So a call is answered by the checks of its own alone.
-  pub replies : (l : Lent) → Holding (read image) capacity l → (c : Call)
-      → callOf capacity image table l c ≡ answered (read image) capacity l (callChecks (read image) capacity (l .head) c) c
-  unfolding callOf answered
-  replies l h c = rw (refusal-append-none _ _ (holding-passes l h))
+  -- So a call is decided by the checks of its own alone.
+  pub replies : (m : Monitor) → Holding (read image) capacity m → (c : Call)
+      → callOf capacity image table m c ≡ decided (read image) capacity m (callChecks (read image) capacity (m .head) c) c
+  unfolding callOf decided
+  replies m h c = rw (refusal-append-none _ _ (holding-passes m h))
 
   -- What it leaves holds a state again.
-  pub next : (l : Lent) (h : Holding (read image) capacity l) (c : Call)
-      → Next (read image) capacity (h .state) c (callOf capacity image table l c)
-  unfolding lentOf
-  next l h c = rw (replies l h c, h .written) (next-of (read image) in-range capacity (h .state) (h .legal) (h .room) c)
+  pub next : (m : Monitor) (h : Holding (read image) capacity m) (c : Call)
+      → Next (read image) capacity (h .state) c (callOf capacity image table m c)
+  unfolding monitorOf
+  next m h c = rw (replies m h c, h .written) (next-of (read image) in-range capacity (h .state) (h .legal) (h .room) c)

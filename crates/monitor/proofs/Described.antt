@@ -19,10 +19,10 @@ use Rattle.table.specs.States.{state, next, matching}
 use Rattle.table.proofs.Matching.{state-snoc, matching-next}
 use Rattle.monitor.specs.State.{State}
 use Rattle.monitor.specs.Run.{fits}
-use Rattle.monitor.specs.Areas.{Lent, headOf, bytesOf, statesAfter, wordsOf, lentOf, stateOf, noMatch, unmatched, standsBy, holds, described}
+use Rattle.monitor.specs.Areas.{Monitor, headOf, bytesOf, statesAfter, wordsOf, monitorOf, stateOf, noMatch, unmatched, standsBy, holds, described}
 use Rattle.monitor.specs.Calls.{sized}
 use Rattle.monitor.proofs.Legal.{Legal}
-use Rattle.monitor.proofs.Areas.{state-lent}
+use Rattle.monitor.proofs.Areas.{state-back}
 
 -- no state after a symbol of s has a match, where p ++ s has no occurrence
 unmatched-after : (rules : List Rule) (p s : List ℕ) → redex rules (p ++ s) ≡ none
@@ -66,11 +66,11 @@ unfolding unmatched state redex scan
 clean-unmatched rules s h = clean-after rules [] s refl h
 
 -- written from a legal state
-pub described-lent : (set : RuleSet) (capacity : ℕ) (s : State) → fits capacity s ≡ true → Legal set s
-    → described set capacity (lentOf (set .rules) capacity s) ≡ true
-unfolding described holds lentOf headOf fits
-described-lent set capacity s h f =
-    rw (state-lent (set .rules) capacity s)
+pub described-written : (set : RuleSet) (capacity : ℕ) (s : State) → fits capacity s ≡ true → Legal set s
+    → described set capacity (monitorOf (set .rules) capacity s) ≡ true
+unfolding described holds monitorOf headOf fits
+described-written set capacity s h f =
+    rw (state-back (set .rules) capacity s)
     (and-both
     (and-both
     (and-both (and-both (and-both h (f .symbols)) (same-refl (bytesOf capacity s)))
@@ -79,19 +79,19 @@ described-lent set capacity s h f =
     (f .stands))
 
 -- what the checks behind 10 and 11 say of the state that is read: it is legal and fits, and these areas are its areas
-pub record Described (set : RuleSet) (capacity : ℕ) (l : Lent) : Type 0 where
-  pub legal : Legal set (stateOf l)
-  pub room : fits capacity (stateOf l) ≡ true
-  pub written : lentOf (set .rules) capacity (stateOf l) ≡ l
+pub record Described (set : RuleSet) (capacity : ℕ) (m : Monitor) : Type 0 where
+  pub legal : Legal set (stateOf m)
+  pub room : fits capacity (stateOf m) ≡ true
+  pub written : monitorOf (set .rules) capacity (stateOf m) ≡ m
 
-pub is-described : (set : RuleSet) (capacity : ℕ) (l : Lent) → sized capacity (l .bytes) (l .words) ≡ true
-    → described set capacity l ≡ true → Described set capacity l
-unfolding described holds lentOf headOf stateOf sized fits
-is-described set capacity l s d =
+pub is-described : (set : RuleSet) (capacity : ℕ) (m : Monitor) → sized capacity (m .bytes) (m .words) ≡ true
+    → described set capacity m ≡ true → Described set capacity m
+unfolding described holds monitorOf headOf stateOf sized fits
+is-described set capacity m s d =
     record {
       legal =
           record {
-            clean = clean-unmatched (set .rules) (stateOf l .settled) (and-right (a && b && c && w) u d₁);
+            clean = clean-unmatched (set .rules) (stateOf m .settled) (and-right (a && b && c && w) u d₁);
             symbols = and-right a b (and-left (a && b) c d₃);
             stands = and-right (a && b && c && w && u) v d;
           };
@@ -99,29 +99,29 @@ is-described set capacity l s d =
       written =
           λ i.
           record {
-            head = record { settled = settled i; waiting = waiting i; verdict = l .head .verdict; rule = l .head .rule };
-            bytes = same-eq (bytesOf capacity (stateOf l)) (l .bytes) (and-right (a && b) c d₃) i;
-            words = same-eq (wordsOf (set .rules) capacity (stateOf l)) (l .words) (and-right (a && b && c) w d₂) i;
+            head = record { settled = settled i; waiting = waiting i; verdict = m .head .verdict; rule = m .head .rule };
+            bytes = same-eq (bytesOf capacity (stateOf m)) (m .bytes) (and-right (a && b) c d₃) i;
+            words = same-eq (wordsOf (set .rules) capacity (stateOf m)) (m .words) (and-right (a && b && c) w d₂) i;
           };
     }
   where
     a : Bool
-    a = leb (l .head .settled + l .head .waiting) capacity
+    a = leb (m .head .settled + m .head .waiting) capacity
 
     b : Bool
-    b = below (set .symbols) (stateOf l .settled ++ stateOf l .waiting)
+    b = below (set .symbols) (stateOf m .settled ++ stateOf m .waiting)
 
     c : Bool
-    c = same (bytesOf capacity (stateOf l)) (l .bytes)
+    c = same (bytesOf capacity (stateOf m)) (m .bytes)
 
     w : Bool
-    w = same (wordsOf (set .rules) capacity (stateOf l)) (l .words)
+    w = same (wordsOf (set .rules) capacity (stateOf m)) (m .words)
 
     u : Bool
-    u = unmatched (set .rules) (stateOf l .settled)
+    u = unmatched (set .rules) (stateOf m .settled)
 
     v : Bool
-    v = standsBy (set .rules) (l .head .verdict) (l .head .rule)
+    v = standsBy (set .rules) (m .head .verdict) (m .head .rule)
 
     d₁ : (a && b && c && w && u) ≡ true
     d₁ = and-left (a && b && c && w && u) v d
@@ -132,14 +132,14 @@ is-described set capacity l s d =
     d₃ : (a && b && c) ≡ true
     d₃ = and-left (a && b && c) w d₂
 
-    room : l .head .settled + l .head .waiting ≤ capacity
+    room : m .head .settled + m .head .waiting ≤ capacity
     room = leb-true _ _ (and-left a b (and-left (a && b) c d₃))
 
-    long : length (l .bytes) ≡ capacity
-    long = eqb-true _ _ (and-left (eqb (length (l .bytes)) capacity) (eqb (length (l .words)) capacity) s)
+    long : length (m .bytes) ≡ capacity
+    long = eqb-true _ _ (and-left (eqb (length (m .bytes)) capacity) (eqb (length (m .words)) capacity) s)
 
-    settled : length (take (l .head .settled) (l .bytes)) ≡ l .head .settled
+    settled : length (take (m .head .settled) (m .bytes)) ≡ m .head .settled
     settled = simp length-take (omega (arith, room, long))
 
-    waiting : length (drop (length (l .bytes) - l .head .waiting) (l .bytes)) ≡ l .head .waiting
+    waiting : length (drop (length (m .bytes) - m .head .waiting) (m .bytes)) ≡ m .head .waiting
     waiting = simp length-drop (omega (arith, room, long))

@@ -1,5 +1,6 @@
--- What the theorems assume does happen: the sample's image and table at document 01's capacity are in the main case of
--- demand 3 with every list of calls, a broken image and a wrong table in its other two, and a batch is accepted.
+-- What `list-theorem` assumes does happen: with the sample's image and table, at document 01's capacity, every list of calls
+-- is in its main case, and with a broken image or a wrong table in its other two. (What the theorems on calls, fresh and
+-- batches assume happens in the tables of Cases.antt.)
 -- Assumes nothing.
 use Prim.Native.Nat.{ℕ}
 use mathlib.Core.Path.{_≡_, refl}
@@ -20,11 +21,11 @@ use Rattle.monitor.specs.Promise.{Kept, AllRefused}
 use Rattle.monitor.specs.Cases.{documentCapacity, fresh}
 use Rattle.monitor.proofs.ListTheorem.{list-theorem}
 
-abbrev zeros : List ℕ
-zeros = replicate documentCapacity 0
+abbrev area : List ℕ
+area = replicate documentCapacity 7
 
 -- a fresh that is not refused
-fresh-taken : freshOf documentCapacity zeros zeros .refused ≡ none
+fresh-taken : freshOf documentCapacity area area .refused ≡ none
 unfolding freshOf freshened sized refusal
 fresh-taken = refl
 
@@ -36,17 +37,17 @@ pub sample-kept : (calls : List Call) → Kept documentCapacity (imageOf sample)
 unfolding fresh
 sample-kept calls =
     rw (sample-valid, sample-table) at
-    (list-theorem documentCapacity (imageOf sample) (tableOf sample) zeros zeros calls fresh-taken)
+    (list-theorem documentCapacity (imageOf sample) (tableOf sample) area area calls fresh-taken)
 
 -- an image with a byte too many
 pub sample-broken : (table : List ℕ) (calls : List Call) → AllRefused 7 documentCapacity (imageOf sample ++ 0 ∷ []) table fresh calls
 unfolding fresh
 sample-broken table calls =
     rw (longer-refused 0) at
-    (list-theorem documentCapacity (imageOf sample ++ 0 ∷ []) table zeros zeros calls fresh-taken)
+    (list-theorem documentCapacity (imageOf sample ++ 0 ∷ []) table area area calls fresh-taken)
 
 -- no table
 pub sample-untabled : (calls : List Call) → AllRefused 9 documentCapacity (imageOf sample) [] fresh calls
 unfolding fresh tableOf
 sample-untabled calls =
-    rw sample-valid at (list-theorem documentCapacity (imageOf sample) [] zeros zeros calls fresh-taken)
+    rw sample-valid at (list-theorem documentCapacity (imageOf sample) [] area area calls fresh-taken)

@@ -18,7 +18,7 @@ use Rattle.rewriting.proofs.Ranges.{right-below, Ranges, rule-at}
 use Rattle.rewriting.proofs.Scan.{scan-snoc, redex-take, EndsWith, ending-left}
 use Rattle.table.proofs.Matching.{matching-next}
 use Rattle.monitor.specs.declared.Counts.{Counts}
-use Rattle.monitor.specs.State.{State, going, replace, settle, step}
+use Rattle.monitor.specs.State.{State, active, replace, settle, step}
 use Rattle.monitor.specs.Areas.{closesWith, standsBy}
 use Rattle.monitor.proofs.Machine.{Reaches, Stay, On, more}
 
@@ -29,8 +29,8 @@ pub record Legal (set : RuleSet) (t : State) : Type 0 where
   pub stands : standsBy (set .rules) (t .verdict) (t .rule) ≡ true
 
 -- a string that waits whole
-pub legal-waiting : (set : RuleSet) (w : List ℕ) → below (set .symbols) w ≡ true → Legal set (going [] w)
-unfolding going redex scan standsBy
+pub legal-waiting : (set : RuleSet) (w : List ℕ) → below (set .symbols) w ≡ true → Legal set (active [] w)
+unfolding active redex scan standsBy
 legal-waiting set w h = record { clean = refl; symbols = h; stands = refl }
 
 -- further symbols waiting behind
@@ -46,9 +46,9 @@ legal-more set t e h f =
     }
 
 -- only what is settled, what waits and whether a verdict stands matter of a state with no verdict
-pub legal-going : (set : RuleSet) (t : State) (w : List ℕ) → t .waiting ≡ w → Legal set t → Legal set (going (t .settled) w)
-unfolding going standsBy
-legal-going set t w e f = record { clean = f .clean; symbols = rw e at (f .symbols); stands = refl }
+pub legal-active : (set : RuleSet) (t : State) (w : List ℕ) → t .waiting ≡ w → Legal set t → Legal set (active (t .settled) w)
+unfolding active standsBy
+legal-active set t w e f = record { clean = f .clean; symbols = rw e at (f .symbols); stands = refl }
 
 -- a string below S, cut, with others below S behind it
 cut-below : (S n : ℕ) (s v q : List ℕ) → below S s ≡ true → below S v ≡ true → below S q ≡ true
@@ -58,16 +58,16 @@ cut-below S n s v q hs hv hq =
     let whole : below S (take n s ++ drop n s) ≡ true = rw take-append-drop hs in
     all-append test (take n s) (v ++ q) (all-left test (take n s) (drop n s) whole) (all-append test v q hv hq)
 
-module _ (set : RuleSet) (ranges : Ranges set) (s : List ℕ) (a : ℕ) (q : List ℕ) (f : Legal set (going s (a ∷ q))) where
+module _ (set : RuleSet) (ranges : Ranges set) (s : List ℕ) (a : ℕ) (q : List ℕ) (f : Legal set (active s (a ∷ q))) where
   -- no left side ends with a
   legal-none : ending (set .rules) (s ++ a ∷ []) ≡ none → Legal set (settle (set .rules) (s ++ a ∷ []) q none .to)
-  unfolding settle going standsBy
+  unfolding settle active standsBy
   legal-none e =
       record { clean = scan-snoc (set .rules) s a (f .clean) e; symbols = rw append-snoc (f .symbols); stands = refl }
 
   -- rule i's left side ends with a
   legal-some : (i : ℕ) → ending (set .rules) (s ++ a ∷ []) ≡ some i → Legal set (settle (set .rules) (s ++ a ∷ []) q (some i) .to)
-  unfolding settle going replace symbolsOf standsBy closesWith
+  unfolding settle active replace symbolsOf standsBy closesWith
   legal-some i e = go (rule rules i .right) refl
     where
       rules : List Rule
@@ -114,7 +114,7 @@ module _ (set : RuleSet) (ranges : Ranges set) (s : List ℕ) (a : ℕ) (q : Lis
           }
 
 -- a step
-pub legal-step : (set : RuleSet) → Ranges set → (s : List ℕ) (a : ℕ) (q : List ℕ) → Legal set (going s (a ∷ q))
+pub legal-step : (set : RuleSet) → Ranges set → (s : List ℕ) (a : ℕ) (q : List ℕ) → Legal set (active s (a ∷ q))
     → Legal set (step (set .rules) s a q .to)
 unfolding step
 legal-step set ranges s a q f = rw matching-next (go (ending (set .rules) (s ++ a ∷ [])) refl)
@@ -128,4 +128,4 @@ pub legal-reaches : (set : RuleSet) → Ranges set → {s : State} {c : Counts} 
     → Legal set t
 legal-reaches set ranges Stay f = f
 legal-reaches set ranges (On {t = t} a q r v w) f =
-    legal-step set ranges (t .settled) a q (legal-going set t (a ∷ q) w (legal-reaches set ranges r f))
+    legal-step set ranges (t .settled) a q (legal-active set t (a ∷ q) w (legal-reaches set ranges r f))

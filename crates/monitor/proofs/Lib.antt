@@ -6,7 +6,9 @@ pub mod Simulation
 pub mod Areas
 pub mod Described
 pub mod Calls
+pub mod Logs
 pub mod CallTheorem
+pub mod FreshTheorem
 pub mod ListTheorem
 pub mod BatchTheorem
 pub mod Cases

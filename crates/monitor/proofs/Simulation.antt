@@ -21,7 +21,7 @@ use Rattle.rewriting.proofs.Rewrites.{rewrites-one-more}
 use Rattle.table.proofs.Matching.{matching-next}
 use Rattle.monitor.specs.declared.Standing.{Standing}
 use Rattle.monitor.specs.declared.Counts.{Counts}
-use Rattle.monitor.specs.State.{State, going, replace, settle, step}
+use Rattle.monitor.specs.State.{State, active, replace, settle, step}
 use Rattle.monitor.specs.Run.{noCounts, plus, countsOf}
 use Rattle.monitor.specs.Play.{verdictOf}
 use Rattle.monitor.proofs.Machine.{Reaches, Stay, On}
@@ -35,10 +35,10 @@ pub record Faithful (rules : List Rule) (w : List ℕ) (c : Counts) (t : State) 
   -- each symbol that came, as an event or put back, was taken by a step or still waits
   pub balance : c .steps + length (t .waiting) ≡ length w + c .put
 
-module _ (rules : List Rule) (w : List ℕ) (c : Counts) (s : List ℕ) (a : ℕ) (q : List ℕ) (f : Faithful rules w c (going s (a ∷ q))) where
+module _ (rules : List Rule) (w : List ℕ) (c : Counts) (s : List ℕ) (a : ℕ) (q : List ℕ) (f : Faithful rules w c (active s (a ∷ q))) where
   -- no left side ends with a: the rewriter does nothing
   faithful-none : Faithful rules w (plus c (countsOf (settle rules (s ++ a ∷ []) q none))) (settle rules (s ++ a ∷ []) q none .to)
-  unfolding settle going plus countsOf verdictOf
+  unfolding settle active plus countsOf verdictOf
   faithful-none =
       record {
         rewriter = simp (add-zero, append-snoc) (f .rewriter);
@@ -48,7 +48,7 @@ module _ (rules : List Rule) (w : List ℕ) (c : Counts) (s : List ℕ) (a : ℕ
   -- rule i's left side ends with a: it is the rewriter's redex
   faithful-some : (i : ℕ) → redex rules s ≡ none → ending rules (s ++ a ∷ []) ≡ some i
       → Faithful rules w (plus c (countsOf (settle rules (s ++ a ∷ []) q (some i)))) (settle rules (s ++ a ∷ []) q (some i) .to)
-  unfolding settle going plus countsOf replace rewrite unlessVerdict replaced endingAt verdictOf
+  unfolding settle active plus countsOf replace rewrite unlessVerdict replaced endingAt verdictOf
   faithful-some i clean e = go (rule rules i .right) refl
     where
       kept : List ℕ
@@ -79,13 +79,13 @@ module _ (rules : List Rule) (w : List ℕ) (c : Counts) (s : List ℕ) (a : ℕ
 faithful-step : (rules : List Rule) (w : List ℕ) (c : Counts) (t : State) (a : ℕ) (q : List ℕ) → t .verdict ≡ Standing.None
     → t .waiting ≡ a ∷ q → redex rules (t .settled) ≡ none → Faithful rules w c t
     → Faithful rules w (plus c (countsOf (step rules (t .settled) a q))) (step rules (t .settled) a q .to)
-unfolding step going
+unfolding step active
 faithful-step rules w c t a q v h clean f = rw matching-next (go (ending rules p) refl)
   where
     p : List ℕ
     p = t .settled ++ a ∷ []
 
-    here : Faithful rules w c (going (t .settled) (a ∷ q))
+    here : Faithful rules w c (active (t .settled) (a ∷ q))
     here = record { rewriter = rw (h, v) at (f .rewriter); balance = rw h at (f .balance) }
 
     go : (m : Option ℕ) → ending rules p ≡ m
@@ -95,8 +95,8 @@ faithful-step rules w c t a q v h clean f = rw matching-next (go (ending rules p
 
 -- any steps
 pub faithful : (set : RuleSet) → Ranges set → (w : List ℕ) → below (set .symbols) w ≡ true → {c : Counts} {t : State}
-    → Reaches (set .rules) (going [] w) c t → Faithful (set .rules) w c t
-unfolding going noCounts rewrites fed verdictOf
+    → Reaches (set .rules) (active [] w) c t → Faithful (set .rules) w c t
+unfolding active noCounts rewrites fed verdictOf
 faithful set ranges w h Stay = record { rewriter = refl; balance = omega arith }
 faithful set ranges w h (On {c = c} {t = t} a q r v e) =
     faithful-step (set .rules) w c t a q v e (legal-reaches set ranges r (legal-waiting set w h) .clean)

@@ -1,4 +1,4 @@
--- The monitor as it is lent: its head, its bytes and its words. Document 01's 2,048 is the capacity here.
+-- A monitor as its owner keeps it: a head, an area of bytes and an area of words. Document 01's 2,048 is the capacity here.
 use Prim.Native.Nat.{ℕ, _+_, _-_}
 use mathlib.Core.Bool.{Bool, true, false, _&&_}
 use mathlib.Core.Option.{Option, none, some}
@@ -12,18 +12,18 @@ use Rattle.monitor.specs.declared.Standing.{Standing}
 use Rattle.monitor.specs.declared.Head.{Head}
 use Rattle.monitor.specs.State.{State}
 
--- a head and two areas
-pub record Lent : Type 0 where
+-- "Its head is a value .. Its areas are 2,048 bytes and 2,048 words."
+pub record Monitor : Type 0 where
   pub head : Head
   pub bytes : List ℕ
   pub words : List ℕ
 
--- "settled count a, waiting count w, verdict or none, and that verdict's rule"
+-- "settled count a, waiting count w .., verdict or none, and that verdict's rule"
 unfoldable pub headOf : State → Head
 headOf s =
     record { settled = length (s .settled); waiting = length (s .waiting); verdict = s .verdict; rule = s .rule }
 
--- an area that begins with s and ends with q; "all other bytes and words are 0"
+-- an area that begins with s and ends with q. "All other bytes and words are 0."
 unfoldable pub areaOf : ℕ → List ℕ → List ℕ → List ℕ
 areaOf capacity s q = s ++ (replicate (capacity - (length s + length q)) 0 ++ q)
 
@@ -40,24 +40,25 @@ statesAfter rules q (a ∷ p) = next rules q a ∷ statesAfter rules (next rules
 unfoldable pub wordsOf : List Rule → ℕ → State → List ℕ
 wordsOf rules capacity s = areaOf capacity (map (number (states rules)) (statesAfter rules [] (s .settled))) []
 
--- "the areas are exactly as described here": what a monitor in state s is lent as
-unfoldable pub lentOf : List Rule → ℕ → State → Lent
-lentOf rules capacity s =
+-- "the areas are exactly as described here": the monitor that holds the state s
+unfoldable pub monitorOf : List Rule → ℕ → State → Monitor
+monitorOf rules capacity s =
     record { head = headOf s; bytes = bytesOf capacity s; words = wordsOf rules capacity s }
 
--- the state that a head and bytes are read as
-unfoldable pub stateOf : Lent → State
-stateOf l =
+-- the state that a monitor is read as
+unfoldable pub stateOf : Monitor → State
+stateOf m =
     record {
-      settled = take (l .head .settled) (l .bytes);
-      waiting = drop (length (l .bytes) - l .head .waiting) (l .bytes);
-      verdict = l .head .verdict;
-      rule = l .head .rule;
+      settled = take (m .head .settled) (m .bytes);
+      waiting = drop (length (m .bytes) - m .head .waiting) (m .bytes);
+      verdict = m .head .verdict;
+      rule = m .head .rule;
     }
 
--- Refusal 11, "head and areas are not as described, or a settled state has a match, or the verdict isn't that of its
--- rule", is the failure of one of the tests that follow.
+-- Refusal 11 is "head and areas are not as described, or a settled state has a match, or the verdict isn't that of its
+-- rule". The tests that follow are what it demands.
 
+-- the match word is 0
 unfoldable pub noMatch : Option ℕ → Bool
 noMatch none = true
 noMatch (some i) = false
@@ -66,6 +67,7 @@ noMatch (some i) = false
 unfoldable pub unmatched : List Rule → List ℕ → Bool
 unmatched rules s = all (λ q. noMatch (matching rules q)) (statesAfter rules [] s)
 
+-- the right side closes with verdict v
 unfoldable pub closesWith : ℕ → Right → Bool
 closesWith v (Put u) = false
 closesWith v (Close u) = eqb v u
@@ -75,15 +77,17 @@ unfoldable pub standsBy : List Rule → Standing → ℕ → Bool
 standsBy rules Standing.None i = eqb i 0
 standsBy rules (Standing.Verdict v) i = ltb i (length rules) && closesWith v (rule rules i .right)
 
--- the head and the areas l hold the state s as described
-unfoldable pub holds : RuleSet → ℕ → Lent → State → Bool
-holds set capacity l s =
-    leb (l .head .settled + l .head .waiting) capacity
+-- the monitor m holds the state s as described, and s may be held: "a + w at most 2,048", "Every symbol held is below S.",
+-- the bytes, the words, no settled match, the verdict that of its rule
+unfoldable pub holds : RuleSet → ℕ → Monitor → State → Bool
+holds set capacity m s =
+    leb (m .head .settled + m .head .waiting) capacity
     && below (set .symbols) (s .settled ++ s .waiting)
-    && same (bytesOf capacity s) (l .bytes)
-    && same (wordsOf (set .rules) capacity s) (l .words)
+    && same (bytesOf capacity s) (m .bytes)
+    && same (wordsOf (set .rules) capacity s) (m .words)
     && unmatched (set .rules) (s .settled)
     && standsBy (set .rules) (s .verdict) (s .rule)
 
-unfoldable pub described : RuleSet → ℕ → Lent → Bool
-described set capacity l = holds set capacity l (stateOf l)
+-- what 11 demands: the monitor holds, as described, the state that it is read as
+unfoldable pub described : RuleSet → ℕ → Monitor → Bool
+described set capacity m = holds set capacity m (stateOf m)

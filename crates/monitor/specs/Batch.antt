@@ -9,72 +9,75 @@ use Rattle.image.specs.Refusals.{Check, refusal}
 use Rattle.table.specs.Compile.{over}
 use Rattle.monitor.specs.declared.Counts.{Counts}
 use Rattle.monitor.specs.Run.{noCounts, plus}
-use Rattle.monitor.specs.Areas.{Lent}
+use Rattle.monitor.specs.Areas.{Monitor}
 use Rattle.monitor.specs.Calls.{Outcome, lentChecks, fuelCheck, offerOf, refusedBy, answerNumber}
 
--- offers one after another: what stopped them (0: nothing did), an answer byte for each accepted, the summed counts,
--- and what they left
+-- Offers one after another: what stopped them (0: nothing did), an answer byte for each accepted, the summed counts, and
+-- the monitor that they leave.
 pub record Offers : Type 0 where
   pub stop : ℕ
   pub answers : List ℕ
   pub counts : Counts
-  pub lent : Lent
+  pub monitor : Monitor
 
-unfoldable pub stopped : ℕ → Lent → Offers
-stopped n l = record { stop = n; answers = []; counts = noCounts; lent = l }
+-- no offer is accepted
+unfoldable pub stopped : ℕ → Monitor → Offers
+stopped n m = record { stop = n; answers = []; counts = noCounts; monitor = m }
 
--- the offer with outcome o, then the others, unless o is a refusal
-unfoldable pub andThen : Outcome → Option ℕ → (Lent → Offers) → Offers
-andThen o (some n) others = stopped n (o .lent)
+-- the offer with outcome o, and then the others, unless o is a refusal
+unfoldable pub andThen : Outcome → Option ℕ → (Monitor → Offers) → Offers
+andThen o (some n) others = stopped n (o .monitor)
 andThen o none others =
-    let rest : Offers = others (o .lent) in
+    let rest : Offers = others (o .monitor) in
     record {
       stop = rest .stop;
       answers = answerNumber (o .answer) ∷ rest .answers;
       counts = plus (o .counts) (rest .counts);
-      lent = rest .lent;
+      monitor = rest .monitor;
     }
 
--- "the offers one after another up to the first refused with 12, 14 or 15"
-unfoldable pub offers : ℕ → List ℕ → List ℕ → ℕ → List ℕ → Lent → Offers
-offers capacity image table fuel [] l = stopped 0 l
-offers capacity image table fuel (event ∷ events) l =
-    let o : Outcome = offerOf capacity image table l event fuel in
-    andThen o (refusedBy (o .answer)) (offers capacity image table fuel events)
+-- "the offers one after another up to the first refused with 12, 14 or 15" (no other refusal can come:
+-- `batch-theorem`, proofs/BatchTheorem.antt)
+unfoldable pub offers : ℕ → List ℕ → List ℕ → Monitor → List ℕ → ℕ → Offers
+offers capacity image table m [] fuel = stopped 0 m
+offers capacity image table m (event ∷ events) fuel =
+    let o : Outcome = offerOf capacity image table m event fuel in
+    andThen o (refusedBy (o .answer)) (λ m′. offers capacity image table m′ events fuel)
 
--- "Batch refuses, in order: 7, 9, 10, 11, 13; 16, more than 65,535 events, or fewer answer bytes than events."
-unfoldable pub batchChecks : ℕ → List ℕ → List ℕ → Lent → List ℕ → ℕ → List ℕ → List Check
-batchChecks capacity image table l events fuel answers =
-    lentChecks capacity image table l
+-- "Batch .. refuses, in order: 7, 9, 10, 11, 13; 16, more than 65,535 events, or fewer answer bytes than events."
+unfoldable pub batchChecks : ℕ → List ℕ → List ℕ → Monitor → List ℕ → ℕ → List ℕ → List Check
+batchChecks capacity image table m events fuel answers =
+    lentChecks capacity image table m
     ++ fuelCheck fuel
     ∷ (leb (length events) 65535 && leb (length events) (length answers), 16)
     ∷ []
 
--- "It returns that number or 0, the count accepted, summed counts in 64 bits, and one byte for each accepted": the
--- refusal, or what stopped it; the answer bytes and what is lent, at exit
+-- The refusal of the batch; or "that number or 0 (a stop by 12, 14 or 15 is a result and no refusal of the batch ..), the
+-- count accepted, summed counts in 64 bits, and one byte for each accepted"; and the monitor that it leaves.
 pub record Batched : Type 0 where
   pub refused : Option ℕ
   pub stop : ℕ
   pub accepted : ℕ
   pub counts : Counts
   pub answers : List ℕ
-  pub lent : Lent
+  pub monitor : Monitor
 
-unfoldable pub batched : Option ℕ → Lent → List ℕ → Offers → Batched
-batched (some n) l answers b =
-    record { refused = some n; stop = 0; accepted = 0; counts = noCounts; answers = answers; lent = l }
-batched none l answers b =
+-- a refusal, or what the offers b lead to. "Later answer bytes stay."
+unfoldable pub batched : Option ℕ → Monitor → List ℕ → Offers → Batched
+batched (some n) m answers b =
+    record { refused = some n; stop = 0; accepted = 0; counts = noCounts; answers = answers; monitor = m }
+batched none m answers b =
     record {
       refused = none;
       stop = b .stop;
       accepted = length (b .answers);
       counts = b .counts;
       answers = over (b .answers) answers;
-      lent = b .lent;
+      monitor = b .monitor;
     }
 
--- "Later answer bytes stay. No events: 0 accepted."
-unfoldable pub batchOf : ℕ → List ℕ → List ℕ → Lent → List ℕ → ℕ → List ℕ → Batched
-batchOf capacity image table l events fuel answers =
-    batched (refusal (batchChecks capacity image table l events fuel answers)) l answers
-    (offers capacity image table fuel events l)
+-- "Batch (events, fuel for each, answer bytes)"
+unfoldable pub batchOf : ℕ → List ℕ → List ℕ → Monitor → List ℕ → ℕ → List ℕ → Batched
+batchOf capacity image table m events fuel answers =
+    batched (refusal (batchChecks capacity image table m events fuel answers)) m answers
+    (offers capacity image table m events fuel)

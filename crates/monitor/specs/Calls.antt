@@ -17,31 +17,32 @@ use Rattle.monitor.specs.declared.Answer.{Answer}
 use Rattle.monitor.specs.declared.Counts.{Counts}
 use Rattle.monitor.specs.State.{State, empty}
 use Rattle.monitor.specs.Run.{Run, noCounts, run}
-use Rattle.monitor.specs.Areas.{Lent, lentOf, stateOf, headOf, described}
+use Rattle.monitor.specs.Areas.{Monitor, monitorOf, stateOf, headOf, described}
 
--- "10, an area of another length"
+-- what 10 demands: "10, an area of another length"
 unfoldable pub sized : ℕ → List ℕ → List ℕ → Bool
 sized capacity bytes words = eqb (length bytes) capacity && eqb (length words) capacity
 
--- Fresh. "Fresh sets both counts to 0, no verdict, areas all 0. It refuses 10; it is given no head, so beside 10 it
--- returns the empty one."
+-- what fresh answers, and the monitor that it leaves
 pub record Fresh : Type 0 where
   pub refused : Option ℕ
-  pub lent : Lent
+  pub monitor : Monitor
 
+-- "it is given no head, so beside 10 it returns the empty one"
 unfoldable pub freshened : ℕ → List ℕ → List ℕ → Option ℕ → Fresh
 freshened capacity bytes words (some n) =
-    record { refused = some n; lent = record { head = headOf empty; bytes = bytes; words = words } }
+    record { refused = some n; monitor = record { head = headOf empty; bytes = bytes; words = words } }
 freshened capacity bytes words none =
     record {
       refused = none;
-      lent = record { head = headOf empty; bytes = replicate capacity 0; words = replicate capacity 0 };
+      monitor = record { head = headOf empty; bytes = replicate capacity 0; words = replicate capacity 0 };
     }
 
+-- "Fresh sets both counts to 0, no verdict, areas all 0. It refuses 10, an area of another length"
 unfoldable pub freshOf : ℕ → List ℕ → List ℕ → Fresh
 freshOf capacity bytes words = freshened capacity bytes words (refusal ((sized capacity bytes words, 10) ∷ []))
 
--- the calls that a list of calls is made of, with an offer's event and each one's fuel
+-- "Offer (event, fuel)" and "Go on (fuel)"
 pub data Call : Type 0 where
   Offer : ℕ → ℕ → Call
   GoOn : ℕ → Call
@@ -52,27 +53,27 @@ fuelOf (GoOn fuel) = fuel
 
 -- "7; 9, the table does not begin with the words that compile gives for this image; 10; 11, head and areas are not as
 -- described, or a settled state has a match, or the verdict isn't that of its rule"
-unfoldable pub lentChecks : ℕ → List ℕ → List ℕ → Lent → List Check
-lentChecks capacity image table l =
+unfoldable pub lentChecks : ℕ → List ℕ → List ℕ → Monitor → List Check
+lentChecks capacity image table m =
     (valid image, 7)
     ∷ (prefix (tableOf (read image)) table, 9)
-    ∷ (sized capacity (l .bytes) (l .words), 10)
-    ∷ (described (read image) capacity l, 11)
+    ∷ (sized capacity (m .bytes) (m .words), 10)
+    ∷ (described (read image) capacity m, 11)
     ∷ []
-
-unfoldable pub isNone : Standing → Bool
-isNone Standing.None = true
-isNone (Standing.Verdict v) = false
 
 -- "13, fuel above 65,535"
 unfoldable pub fuelCheck : ℕ → Check
 fuelCheck fuel = (leb fuel 65535, 13)
 
 -- "14, a verdict stands"
+unfoldable pub isNone : Standing → Bool
+isNone Standing.None = true
+isNone (Standing.Verdict v) = false
+
 unfoldable pub verdictCheck : Head → Check
 verdictCheck head = (isNone (head .verdict), 14)
 
--- Offer: "12, not an event; 13; 14; 15, a + w is 2,048." Go on: 13, 14.
+-- Behind those of lentChecks, offer refuses "12, not an event; 13 ..; 14 ..; 15, a + w is 2,048", and go on "13, 14".
 unfoldable pub callChecks : RuleSet → ℕ → Head → Call → List Check
 callChecks set capacity head (Offer event fuel) =
     (ltb event (set .events), 12)
@@ -88,41 +89,42 @@ offered s (Offer event fuel) =
     record { settled = s .settled; waiting = s .waiting ++ event ∷ []; verdict = s .verdict; rule = s .rule }
 offered s (GoOn fuel) = s
 
--- what a call answers, its counts, and the head and areas that it leaves
+-- what a call answers and counts, and the monitor that it leaves: "The head comes back beside the answer"
 pub record Outcome : Type 0 where
   pub answer : Answer
   pub counts : Counts
-  pub lent : Lent
+  pub monitor : Monitor
 
 -- "Every refusal returns its number, the head as given, any counts 0, and changes nothing lent."
-abbrev pub refusalOf : ℕ → Lent → Outcome
-refusalOf n l = record { answer = Answer.Refused n; counts = noCounts; lent = l }
+abbrev pub refusalOf : ℕ → Monitor → Outcome
+refusalOf n m = record { answer = Answer.Refused n; counts = noCounts; monitor = m }
 
--- a refusal, or what the run leads to
-unfoldable pub outcome : RuleSet → ℕ → Lent → Option ℕ → Run → Outcome
-outcome set capacity l (some n) r = refusalOf n l
-outcome set capacity l none r =
-    record { answer = r .answer; counts = r .counts; lent = lentOf (set .rules) capacity (r .state) }
+-- a refusal, or what the run r leads to
+unfoldable pub outcome : RuleSet → ℕ → Monitor → Option ℕ → Run → Outcome
+outcome set capacity m (some n) r = refusalOf n m
+outcome set capacity m none r =
+    record { answer = r .answer; counts = r .counts; monitor = monitorOf (set .rules) capacity (r .state) }
 
--- a call that refuses by the checks given, and otherwise runs
-unfoldable pub answered : RuleSet → ℕ → Lent → List Check → Call → Outcome
-answered set capacity l checks c =
-    outcome set capacity l (refusal checks) (run (set .rules) capacity (fuelOf c) (offered (stateOf l) c))
+-- the call is refused by the first of the checks that fails. "Otherwise .. the call runs."
+unfoldable pub decided : RuleSet → ℕ → Monitor → List Check → Call → Outcome
+decided set capacity m checks c =
+    outcome set capacity m (refusal checks) (run (set .rules) capacity (fuelOf c) (offered (stateOf m) c))
 
--- Offer refuses, in order: 7, 9, 10, 11, 12, 13, 14, 15. Go on refuses, in order: 7, 9, 10, 11, 13, 14.
-unfoldable pub callOf : ℕ → List ℕ → List ℕ → Lent → Call → Outcome
-callOf capacity image table l c =
-    answered (read image) capacity l
-    (lentChecks capacity image table l ++ callChecks (read image) capacity (l .head) c)
+-- Offer refuses, in order, 7, 9, 10, 11, 12, 13, 14 and 15; go on 7, 9, 10, 11, 13 and 14.
+unfoldable pub callOf : ℕ → List ℕ → List ℕ → Monitor → Call → Outcome
+callOf capacity image table m c =
+    decided (read image) capacity m
+    (lentChecks capacity image table m ++ callChecks (read image) capacity (m .head) c)
     c
 
-unfoldable pub offerOf : ℕ → List ℕ → List ℕ → Lent → ℕ → ℕ → Outcome
-offerOf capacity image table l event fuel = callOf capacity image table l (Offer event fuel)
+-- the two, each by its name
+unfoldable pub offerOf : ℕ → List ℕ → List ℕ → Monitor → ℕ → ℕ → Outcome
+offerOf capacity image table m event fuel = callOf capacity image table m (Offer event fuel)
 
-unfoldable pub goOnOf : ℕ → List ℕ → List ℕ → Lent → ℕ → Outcome
-goOnOf capacity image table l fuel = callOf capacity image table l (GoOn fuel)
+unfoldable pub goOnOf : ℕ → List ℕ → List ℕ → Monitor → ℕ → Outcome
+goOnOf capacity image table m fuel = callOf capacity image table m (GoOn fuel)
 
--- the refusal in an answer
+-- the refusal that an answer is, if it is one
 unfoldable pub refusedBy : Answer → Option ℕ
 refusedBy Answer.Quiet = none
 refusedBy Answer.Spent = none
@@ -130,7 +132,7 @@ refusedBy Answer.Full = none
 refusedBy (Answer.Verdict v) = none
 refusedBy (Answer.Refused n) = some n
 
--- "0 Quiet, 1 Spent, 2 Full, 16 + verdict"; a refusal is no answer, and has 0 in its place
+-- "0 Quiet, 1 Spent, 2 Full, 16 + verdict". A refusal is told by `refusedBy`, and has 0 here.
 unfoldable pub answerNumber : Answer → ℕ
 answerNumber Answer.Quiet = 0
 answerNumber Answer.Spent = 1

@@ -10,17 +10,17 @@ use Rattle.table.specs.Table.{tableOf}
 use Rattle.monitor.specs.declared.Standing.{Standing}
 use Rattle.monitor.specs.declared.Answer.{Answer}
 use Rattle.monitor.specs.declared.Counts.{Counts}
-use Rattle.monitor.specs.Areas.{Lent}
+use Rattle.monitor.specs.Areas.{Monitor}
 use Rattle.monitor.specs.Calls.{Call, Offer, freshOf}
-use Rattle.monitor.specs.Play.{Log, noCalls, play, answersOf, stringOf}
+use Rattle.monitor.specs.Play.{Log, noCalls, play, stringOf}
 
 -- document 01's capacity
 abbrev pub documentCapacity : ℕ
 documentCapacity = 2048
 
--- a fresh monitor
-unfoldable pub fresh : Lent
-fresh = freshOf documentCapacity (replicate documentCapacity 0) (replicate documentCapacity 0) .lent
+-- what fresh makes of areas that held something else
+unfoldable pub fresh : Monitor
+fresh = freshOf documentCapacity (replicate documentCapacity 7) (replicate documentCapacity 7) .monitor
 
 -- what is found after a list of calls: the answer of each, the sums of their counts, the string, the waiting count, the
 -- verdict and its rule
@@ -32,22 +32,20 @@ pub record Found : Type 0 where
   pub verdict : Standing
   pub rule : ℕ
 
-unfoldable pub foundIn : List Answer → Log → Found
-foundIn answers g =
+unfoldable pub foundIn : Log → Found
+foundIn g =
     record {
-      answers = answers;
+      answers = g .answers;
       counts = g .counts;
-      string = stringOf (g .lent);
-      waiting = g .lent .head .waiting;
-      verdict = g .lent .head .verdict;
-      rule = g .lent .head .rule;
+      string = stringOf (g .monitor);
+      waiting = g .monitor .head .waiting;
+      verdict = g .monitor .head .verdict;
+      rule = g .monitor .head .rule;
     }
 
 -- what a list of calls finds on a fresh monitor of these rules
 unfoldable pub find : RuleSet → List Call → Found
-find set calls =
-    foundIn (answersOf documentCapacity (imageOf set) (tableOf set) fresh calls)
-    (play documentCapacity (imageOf set) (tableOf set) (noCalls fresh) calls)
+find set calls = foundIn (play documentCapacity (imageOf set) (tableOf set) (noCalls fresh) calls)
 
 pub record Case : Type 0 where
   pub set : RuleSet

@@ -7,13 +7,14 @@ use lib.ListN.{take, drop, replicate}
 use Rattle.rewriting.specs.Rules.{Put, _⇒_, RuleSet}
 use Rattle.rewriting.specs.Sample.{sample}
 use Rattle.image.specs.Image.{imageOf}
+use Rattle.image.specs.Refusals.{refusal}
 use Rattle.table.specs.Table.{tableOf}
 use Rattle.monitor.specs.declared.Standing.{Standing}
 use Rattle.monitor.specs.declared.Answer.{Answer}
 use Rattle.monitor.specs.declared.Counts.{Counts}
-use Rattle.monitor.specs.Areas.{Lent, areaOf}
-use Rattle.monitor.specs.Calls.{Offer, GoOn, goOnOf}
-use Rattle.monitor.specs.Batch.{Batched, batchOf}
+use Rattle.monitor.specs.Areas.{Monitor, areaOf}
+use Rattle.monitor.specs.Calls.{Call, Offer, GoOn}
+use Rattle.monitor.specs.Batch.{Batched, batchChecks, batchOf}
 use Rattle.monitor.specs.Play.{stringOf}
 use Rattle.monitor.specs.Cases.{documentCapacity, fresh, Case, worked, abcd}
 
@@ -34,7 +35,11 @@ day =
     (Answer.Quiet ∷ Answer.Quiet ∷ Answer.Quiet ∷ Answer.Verdict 0 ∷ []) 5 3 1 [] 0 (Standing.Verdict 0) 2
     ∷ []
 
--- the edges
+-- a → a a a
+unfoldable pub tripling : RuleSet
+tripling = abcd ((0 ∷ [] ⇒ Put (0 ∷ 0 ∷ 0 ∷ [])) ∷ [])
+
+-- the edges ("64 rules are read, 65 refused.": `sixty-four-valid`, `sixty-five-refused`, image/proofs/Computed.antt)
 unfoldable pub edges : List Case
 edges =
     -- "a → a a with fuel 2,047 is Spent,"
@@ -56,8 +61,98 @@ edges =
     1 1 0 [] 0 (Standing.Verdict 0) 2
     ∷ []
 
--- what a batch finds on a fresh monitor: the refusal, what stopped it, the count accepted, the summed counts, the answer
--- bytes at exit, and the string
+-- The sample's monitor with these head numbers, these bytes first and last, these words first, and 0 elsewhere.
+unfoldable pub holding : ℕ → ℕ → Standing → ℕ → List ℕ → List ℕ → List ℕ → Monitor
+holding settled waiting verdict rule first last words =
+    record {
+      head = record { settled = settled; waiting = waiting; verdict = verdict; rule = rule };
+      bytes = areaOf documentCapacity first last;
+      words = areaOf documentCapacity words [];
+    }
+
+-- a verdict, and no room
+unfoldable pub closedAndFull : Monitor
+closedAndFull = holding 0 2048 (Standing.Verdict 0) 2 [] (replicate 2048 2) []
+
+-- What is lent otherwise than by a list of calls: image, table, monitor and call, and the answer.
+pub record Answering : Type 0 where
+  pub image : List ℕ
+  pub table : List ℕ
+  pub monitor : Monitor
+  pub call : Call
+  pub answer : Answer
+
+unfoldable pub answering : List ℕ → List ℕ → Monitor → Call → Answer → Answering
+answering image table m c a = record { image = image; table = table; monitor = m; call = c; answer = a }
+
+-- a call on the sample's monitor
+unfoldable pub onSample : Monitor → Call → Answer → Answering
+onSample m c a = answering (imageOf sample) (tableOf sample) m c a
+
+-- a go-on with fuel 1 that is refused with 11
+unfoldable pub undescribed : Monitor → Answering
+undescribed m = onSample m (GoOn 1) (Answer.Refused 11)
+
+unfoldable pub monitors : List Answering
+monitors =
+    -- as described: `lock` settled; then `take` waiting, a rewrite with the last unit of fuel; then `held`, which is no event
+    onSample (holding 1 0 Standing.None 0 (0 ∷ []) [] (1 ∷ [])) (GoOn 1) Answer.Quiet
+    ∷ onSample (holding 1 1 Standing.None 0 (0 ∷ []) (1 ∷ []) (1 ∷ [])) (GoOn 1) Answer.Spent
+    ∷ onSample (holding 1 1 Standing.None 0 (0 ∷ []) (3 ∷ []) (1 ∷ [])) (GoOn 1) Answer.Quiet
+    -- a verdict, with symbols settled and waiting; a verdict and no room is 14, and not 15
+    ∷ onSample (holding 1 1 (Standing.Verdict 0) 2 (0 ∷ []) (3 ∷ []) (1 ∷ [])) (GoOn 1) (Answer.Refused 14)
+    ∷ onSample closedAndFull (GoOn 1) (Answer.Refused 14)
+    ∷ onSample closedAndFull (Offer 0 1) (Answer.Refused 14)
+    -- a + w above 2,048
+    ∷ undescribed (holding 0 2049 Standing.None 0 [] [] [])
+    ∷ undescribed (holding 1 2048 Standing.None 0 (0 ∷ []) (replicate 2047 0) (1 ∷ []))
+    -- a symbol that is not below S, settled or waiting
+    ∷ undescribed (holding 1 0 Standing.None 0 (4 ∷ []) [] [])
+    ∷ undescribed (holding 0 1 Standing.None 0 [] (4 ∷ []) [])
+    -- a byte or a word that should be 0
+    ∷ undescribed (holding 0 0 Standing.None 0 (1 ∷ []) [] [])
+    ∷ undescribed (holding 0 0 Standing.None 0 [] (1 ∷ []) [])
+    ∷ undescribed (holding 0 0 Standing.None 0 [] [] (1 ∷ []))
+    -- a word that is not its state
+    ∷ undescribed (holding 1 0 Standing.None 0 (0 ∷ []) [] [])
+    ∷ undescribed (holding 1 0 Standing.None 0 (0 ∷ []) [] (3 ∷ []))
+    -- a settled state with a match: take
+    ∷ undescribed (holding 1 0 Standing.None 0 (1 ∷ []) [] (5 ∷ []))
+    -- a rule with no verdict
+    ∷ undescribed (holding 0 0 Standing.None 2 [] [] [])
+    -- a verdict that is not its rule's; whose rule is a string rule; whose rule is not there
+    ∷ undescribed (holding 0 0 (Standing.Verdict 1) 2 [] [] [])
+    ∷ undescribed (holding 0 0 (Standing.Verdict 0) 0 [] [] [])
+    ∷ undescribed (holding 0 0 (Standing.Verdict 0) 3 [] [] [])
+    ∷ []
+
+-- a monitor whose areas have one byte and one word
+unfoldable pub tiny : Monitor
+tiny = record { head = fresh .head; bytes = 0 ∷ []; words = 1 ∷ [] }
+
+-- Refusals in their order. Everything is wrong at first, and then all but what the rows before were refused by.
+unfoldable pub inOrder : List Answering
+inOrder =
+    answering (imageOf sample ++ 0 ∷ []) [] tiny (Offer 3 65536) (Answer.Refused 7)
+    -- one word short; a wrong word
+    ∷ answering (imageOf sample) (take 31 (tableOf sample)) tiny (Offer 3 65536) (Answer.Refused 9)
+    ∷ answering (imageOf sample) (take 31 (tableOf sample) ++ 4 ∷ []) tiny (Offer 3 65536) (Answer.Refused 9)
+    -- from here on a longer table, whose last word is not read
+    ∷ answering (imageOf sample) (tableOf sample ++ 9 ∷ []) tiny (Offer 3 65536) (Answer.Refused 10)
+    -- a byte too few; a word too many
+    ∷ answering (imageOf sample) (tableOf sample ++ 9 ∷ [])
+    (record { head = fresh .head; bytes = drop 1 (fresh .bytes); words = fresh .words }) (Offer 3 65536) (Answer.Refused 10)
+    ∷ answering (imageOf sample) (tableOf sample ++ 9 ∷ [])
+    (record { head = fresh .head; bytes = fresh .bytes; words = 0 ∷ fresh .words }) (Offer 3 65536) (Answer.Refused 10)
+    ∷ answering (imageOf sample) (tableOf sample ++ 9 ∷ [])
+    (record { head = fresh .head; bytes = fresh .bytes; words = 1 ∷ drop 1 (fresh .words) }) (Offer 3 65536) (Answer.Refused 11)
+    ∷ answering (imageOf sample) (tableOf sample ++ 9 ∷ []) closedAndFull (Offer 3 65536) (Answer.Refused 12)
+    ∷ answering (imageOf sample) (tableOf sample ++ 9 ∷ []) closedAndFull (Offer 2 65536) (Answer.Refused 13)
+    ∷ answering (imageOf sample) (tableOf sample ++ 9 ∷ []) closedAndFull (Offer 2 65535) (Answer.Refused 14)
+    ∷ []
+
+-- what a batch finds: the refusal, what stopped it, the count accepted, the summed counts, the answer bytes at exit, and
+-- the string
 pub record FoundBatch : Type 0 where
   pub refused : Option ℕ
   pub stop : ℕ
@@ -66,31 +161,33 @@ pub record FoundBatch : Type 0 where
   pub answers : List ℕ
   pub string : List ℕ
 
-unfoldable pub findBatch : RuleSet → List ℕ → ℕ → List ℕ → FoundBatch
-findBatch set events fuel answers =
-    let b : Batched = batchOf documentCapacity (imageOf set) (tableOf set) fresh events fuel answers in
+pub record BatchCase : Type 0 where
+  pub set : RuleSet
+  pub monitor : Monitor
+  pub events : List ℕ
+  pub fuel : ℕ
+  pub answers : List ℕ
+  pub found : FoundBatch
+
+unfoldable pub findBatch : BatchCase → FoundBatch
+findBatch c =
+    let b : Batched = batchOf documentCapacity (imageOf (c .set)) (tableOf (c .set)) (c .monitor) (c .events) (c .fuel) (c .answers) in
     record {
       refused = b .refused;
       stop = b .stop;
       accepted = b .accepted;
       counts = b .counts;
       answers = b .answers;
-      string = stringOf (b .lent);
+      string = stringOf (b .monitor);
     }
 
-pub record BatchCase : Type 0 where
-  pub set : RuleSet
-  pub events : List ℕ
-  pub fuel : ℕ
-  pub answers : List ℕ
-  pub found : FoundBatch
-
--- rules, events, fuel and the answer bytes at entry; then what they find: refusal, stop, accepted; steps, rewrites, put
--- back; answer bytes at exit, string
-unfoldable pub batch : RuleSet → List ℕ → ℕ → List ℕ → Option ℕ → ℕ → ℕ → ℕ → ℕ → ℕ → List ℕ → List ℕ → BatchCase
-batch set events fuel answers refused stop accepted steps rewrites put bytes string =
+-- rules, monitor, events, fuel and the answer bytes at entry; then what they find: refusal, stop, accepted; steps,
+-- rewrites, put back; answer bytes at exit, string
+unfoldable pub batch : RuleSet → Monitor → List ℕ → ℕ → List ℕ → Option ℕ → ℕ → ℕ → ℕ → ℕ → ℕ → List ℕ → List ℕ → BatchCase
+batch set m events fuel answers refused stop accepted steps rewrites put exit string =
     record {
       set = set;
+      monitor = m;
       events = events;
       fuel = fuel;
       answers = answers;
@@ -100,7 +197,7 @@ batch set events fuel answers refused stop accepted steps rewrites put bytes str
             stop = stop;
             accepted = accepted;
             counts = record { steps = steps; rewrites = rewrites; put = put };
-            answers = bytes;
+            answers = exit;
             string = string;
           };
     }
@@ -108,106 +205,39 @@ batch set events fuel answers refused stop accepted steps rewrites put bytes str
 unfoldable pub batches : List BatchCase
 batches =
     -- the sample's day: lock, take, free, take. "Later answer bytes stay."
-    batch sample (0 ∷ 1 ∷ 2 ∷ 1 ∷ []) 1000 (9 ∷ 9 ∷ 9 ∷ 9 ∷ 9 ∷ [])
+    batch sample fresh (0 ∷ 1 ∷ 2 ∷ 1 ∷ []) 1000 (9 ∷ 9 ∷ 9 ∷ 9 ∷ 9 ∷ [])
     none 0 4 5 3 1 (0 ∷ 0 ∷ 0 ∷ 16 ∷ 9 ∷ []) []
     -- an event behind the verdict: stopped by 14
-    ∷ batch sample (1 ∷ 0 ∷ []) 1000 (9 ∷ 9 ∷ [])
+    ∷ batch sample fresh (1 ∷ 0 ∷ []) 1000 (9 ∷ 9 ∷ [])
     none 14 1 1 1 0 (16 ∷ 9 ∷ []) []
     -- held is no event: stopped by 12, also behind a verdict
-    ∷ batch sample (0 ∷ 3 ∷ 1 ∷ []) 0 (9 ∷ 9 ∷ 9 ∷ [])
+    ∷ batch sample fresh (0 ∷ 3 ∷ 1 ∷ []) 0 (9 ∷ 9 ∷ 9 ∷ [])
     none 12 1 0 0 0 (1 ∷ 9 ∷ 9 ∷ []) (0 ∷ [])
-    ∷ batch sample (1 ∷ 3 ∷ []) 1000 (9 ∷ 9 ∷ [])
+    ∷ batch sample fresh (1 ∷ 3 ∷ []) 1000 (9 ∷ 9 ∷ [])
     none 12 1 1 1 0 (16 ∷ 9 ∷ []) []
-    -- no room: stopped by 15
-    ∷ batch growing (0 ∷ 0 ∷ []) 2048 (9 ∷ 9 ∷ [])
+    -- a → a a: no room for a second event, stopped by 15
+    ∷ batch growing fresh (0 ∷ 0 ∷ []) 2048 (9 ∷ 9 ∷ [])
     none 15 1 2047 2047 4094 (2 ∷ 9 ∷ []) (replicate 2048 0)
-    -- "No events: 0 accepted."
-    ∷ batch sample [] 65535 (9 ∷ [])
+    -- a → a a a: Full with room for one symbol; that stops no batch, but the next event is 15
+    ∷ batch tripling fresh (0 ∷ 0 ∷ 0 ∷ []) 2048 (9 ∷ 9 ∷ 9 ∷ [])
+    none 15 2 1023 1023 3069 (2 ∷ 2 ∷ 9 ∷ []) (replicate 2048 0)
+    -- "No events: 0 accepted.", also where a verdict stands; one event there is stopped by 14
+    ∷ batch sample fresh [] 65535 (9 ∷ [])
     none 0 0 0 0 0 (9 ∷ []) []
-    -- 16 with an answer byte too few; 13 before it, and before 12
-    ∷ batch sample (0 ∷ 1 ∷ []) 65535 (9 ∷ [])
+    ∷ batch sample (holding 0 0 (Standing.Verdict 0) 2 [] [] []) [] 1000 []
+    none 0 0 0 0 0 [] []
+    ∷ batch sample (holding 0 0 (Standing.Verdict 0) 2 [] [] []) (0 ∷ []) 1000 (9 ∷ [])
+    none 14 0 0 0 0 (9 ∷ []) []
+    -- 16 with an answer byte too few; 13 before it; 11 before that
+    ∷ batch sample fresh (0 ∷ 1 ∷ []) 65535 (9 ∷ [])
     (some 16) 0 0 0 0 0 (9 ∷ []) []
-    ∷ batch sample (3 ∷ 1 ∷ []) 65536 (9 ∷ [])
+    ∷ batch sample fresh (3 ∷ 1 ∷ []) 65536 (9 ∷ [])
     (some 13) 0 0 0 0 0 (9 ∷ []) []
+    ∷ batch sample (holding 0 0 Standing.None 2 [] [] []) (3 ∷ 1 ∷ []) 65536 (9 ∷ [])
+    (some 11) 0 0 0 0 0 (9 ∷ []) []
     ∷ []
 
--- What is lent otherwise than by fresh: the sample's monitor with these head numbers, these bytes first and last, these
--- words first, and 0 elsewhere.
-unfoldable pub lending : ℕ → ℕ → Standing → ℕ → List ℕ → List ℕ → List ℕ → Lent
-lending settled waiting verdict rule first last words =
-    record {
-      head = record { settled = settled; waiting = waiting; verdict = verdict; rule = rule };
-      bytes = areaOf documentCapacity first last;
-      words = areaOf documentCapacity words [];
-    }
-
--- the answer of a go-on with fuel 1 on the sample
-unfoldable pub goingOn : Lent → Answer
-goingOn l = goOnOf documentCapacity (imageOf sample) (tableOf sample) l 1 .answer
-
--- as described: `lock` settled, and what may follow it
-unfoldable pub asDescribed : List Lent
-asDescribed =
-    lending 1 0 Standing.None 0 (0 ∷ []) [] (1 ∷ [])
-    -- `lock` and then `take` waiting: a rewrite, with the last unit of fuel
-    ∷ lending 1 1 Standing.None 0 (0 ∷ []) (1 ∷ []) (1 ∷ [])
-    -- `held`, which is no event, waiting
-    ∷ lending 1 1 Standing.None 0 (0 ∷ []) (3 ∷ []) (1 ∷ [])
-    -- a verdict, with symbols settled and waiting
-    ∷ lending 1 1 (Standing.Verdict 0) 2 (0 ∷ []) (3 ∷ []) (1 ∷ [])
-    -- a verdict and no room
-    ∷ lending 0 2048 (Standing.Verdict 0) 2 [] (replicate 2048 2) []
-    ∷ []
-
-unfoldable pub asDescribedAnswers : List Answer
-asDescribedAnswers = Answer.Quiet ∷ Answer.Spent ∷ Answer.Quiet ∷ Answer.Refused 14 ∷ Answer.Refused 14 ∷ []
-
--- not as described: each is refused with 11
-unfoldable pub notAsDescribed : List Lent
-notAsDescribed =
-    -- a + w above 2,048
-    lending 1 2048 Standing.None 0 (0 ∷ []) (replicate 2047 0) (1 ∷ [])
-    ∷ lending 2049 0 Standing.None 0 [] [] []
-    -- a symbol that is not below S, settled or waiting
-    ∷ lending 1 0 Standing.None 0 (4 ∷ []) [] []
-    ∷ lending 0 1 Standing.None 0 [] (4 ∷ []) []
-    -- a byte or a word that should be 0
-    ∷ lending 0 0 Standing.None 0 (1 ∷ []) [] []
-    ∷ lending 0 0 Standing.None 0 [] (1 ∷ []) []
-    ∷ lending 0 0 Standing.None 0 [] [] (1 ∷ [])
-    -- a word that is not its state
-    ∷ lending 1 0 Standing.None 0 (0 ∷ []) [] []
-    ∷ lending 1 0 Standing.None 0 (0 ∷ []) [] (3 ∷ [])
-    -- a settled state with a match: take
-    ∷ lending 1 0 Standing.None 0 (1 ∷ []) [] (5 ∷ [])
-    -- a rule with no verdict
-    ∷ lending 0 0 Standing.None 2 [] [] []
-    -- a verdict that is not its rule's; whose rule is a string rule; whose rule is not there
-    ∷ lending 0 0 (Standing.Verdict 1) 2 [] [] []
-    ∷ lending 0 0 (Standing.Verdict 0) 0 [] [] []
-    ∷ lending 0 0 (Standing.Verdict 0) 3 [] [] []
-    ∷ []
-
--- 7, 9, 10 and 11 in their order: image, table and what is lent, the first of them wrong from row to row
-pub record Lending : Type 0 where
-  pub image : List ℕ
-  pub table : List ℕ
-  pub lent : Lent
-
-unfoldable pub wrong : Lent
-wrong = record { head = fresh .head; bytes = 0 ∷ []; words = fresh .words }
-
-unfoldable pub inOrder : List Lending
-inOrder =
-    record { image = imageOf sample ++ 0 ∷ []; table = []; lent = wrong }
-    ∷ record { image = imageOf sample; table = take 31 (tableOf sample); lent = wrong }
-    ∷ record { image = imageOf sample; table = tableOf sample ++ 9 ∷ []; lent = wrong }
-    ∷ record {
-      image = imageOf sample;
-      table = tableOf sample ++ 9 ∷ [];
-      lent = record { head = fresh .head; bytes = fresh .bytes; words = 1 ∷ drop 1 (fresh .words) };
-    }
-    ∷ []
-
-unfoldable pub inOrderAnswers : List Answer
-inOrderAnswers = Answer.Refused 7 ∷ Answer.Refused 9 ∷ Answer.Refused 10 ∷ Answer.Refused 11 ∷ []
+-- "16, more than 65,535 events": the refusal of so many events, with an answer byte for each
+unfoldable pub manyEvents : ℕ → Option ℕ
+manyEvents n =
+    refusal (batchChecks documentCapacity (imageOf sample) (tableOf sample) fresh (replicate n 0) 1000 (replicate n 0))

@@ -1,4 +1,5 @@
--- Document 01, "Monitor". Read in this order.
+-- Document 01, "Monitor", and its worked cases. Read in this order. `Standing`, `Head`, `Answer` and `Counts` are the types
+-- of src/lib.rt, which the definitions share with the code.
 pub mod State
 pub mod Run
 pub mod Areas

@@ -11,13 +11,16 @@ use Rattle.monitor.specs.declared.Answer.{Answer}
 use Rattle.monitor.specs.declared.Counts.{Counts}
 use Rattle.monitor.specs.State.{State, Step, step}
 
+-- no steps, no rewrites, nothing put back
 unfoldable pub noCounts : Counts
 noCounts = record { steps = 0; rewrites = 0; put = 0 }
 
+-- the counts of one and then another
 unfoldable pub plus : Counts → Counts → Counts
 plus c d = record { steps = c .steps + d .steps; rewrites = c .rewrites + d .rewrites; put = c .put + d .put }
 
--- "Steps, rewrites and symbols put back are counted for the call. A verdict is one rewrite.": the counts of one step
+-- "Steps, rewrites and symbols put back are counted for the call and returned. A verdict is one rewrite.": the counts of
+-- one step
 unfoldable pub countsOf : Step → Counts
 countsOf t = record { steps = 1; rewrites = t .rewrites; put = t .put }
 
@@ -27,9 +30,11 @@ pub record Run : Type 0 where
   pub counts : Counts
   pub state : State
 
+-- a run that ends at s without a step
 unfoldable pub ended : Answer → State → Run
 ended answer s = record { answer = answer; counts = noCounts; state = s }
 
+-- the step t and then the run r
 unfoldable pub counted : Step → Run → Run
 counted t r = record { answer = r .answer; counts = plus (countsOf t) (r .counts); state = r .state }
 
