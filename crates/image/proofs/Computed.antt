@@ -9,7 +9,7 @@ use Rattle.rewriting.specs.Rules.{Put, _⇒_, symbolsOf, RuleSet, rightInRange,
 use Rattle.rewriting.specs.Sample.{sample}
 use Rattle.image.specs.Image.{
   kind,
-  size,
+  lengthOrVerdict,
   contents,
   body,
   imageOf,
@@ -23,7 +23,7 @@ use Rattle.image.specs.Image.{
 -- names no fact: `unfolding computes` opens every definition of the image at once
 computes : Unit {0}
 unfolding
-    flatMap kind size symbolsOf contents body imageOf readRight readRule readRules read
+    flatMap kind lengthOrVerdict symbolsOf contents body imageOf readRight readRule readRules read
     rightInRange ruleInRange inRange valid
 computes = tt
 

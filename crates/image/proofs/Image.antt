@@ -17,7 +17,7 @@ use Rattle.rewriting.proofs.Lists.{and-left, and-right, and-both, all-append, a
 use Rattle.rewriting.proofs.Ranges.{length-right, right-below, RuleRanges, rule-ranges, Ranges, ranges}
 use Rattle.image.specs.Image.{
   kind,
-  size,
+  lengthOrVerdict,
   contents,
   body,
   imageOf,
@@ -29,8 +29,8 @@ use Rattle.image.specs.Image.{
 }
 
 -- a right side is read back from its kind, its length or verdict and its symbols, whatever follows them
-pub read-right : (x : Right) (b : List ℕ) → readRight (kind x) (size x) (symbolsOf x ++ b) ≡ x
-unfolding readRight kind size symbolsOf
+pub read-right : (x : Right) (b : List ℕ) → readRight (kind x) (lengthOrVerdict x) (symbolsOf x ++ b) ≡ x
+unfolding readRight kind lengthOrVerdict symbolsOf
 read-right (Put v) b = rw take-append-seam
 read-right (Close v) b = refl
 
@@ -48,7 +48,7 @@ read-rule r c b = λ i. record { left = first i; right = second i }
     rest : drop (length (r .left)) bytes ≡ symbolsOf (r .right) ++ b
     rest = rw (append-assoc, drop-append-seam)
 
-    second : readRight (kind (r .right)) (size (r .right)) (drop (length (r .left)) bytes) ≡ r .right
+    second : readRight (kind (r .right)) (lengthOrVerdict (r .right)) (drop (length (r .left)) bytes) ≡ r .right
     second = rw rest (read-right (r .right) b)
 
 -- a rule has 4 bytes of contents
@@ -117,8 +117,8 @@ length-image set =
     simp length-append (omega arith)
 
 -- the length or verdict of a right side in range is at most 16
-pub size-right : (set : RuleSet) (x : Right) → set .verdicts ≤ 16 → rightInRange set x ≡ true → size x ≤ 16
-unfolding rightInRange size symbolsOf
+pub size-right : (set : RuleSet) (x : Right) → set .verdicts ≤ 16 → rightInRange set x ≡ true → lengthOrVerdict x ≤ 16
+unfolding rightInRange lengthOrVerdict symbolsOf
 size-right set (Put v) few e =
     let short : length (symbolsOf (Put v)) ≤ 8 = length-right set (Put v) e in
     omega arith
@@ -162,8 +162,8 @@ module _ (set : RuleSet) (h : Ranges set) (r : Rule) (e : ruleInRange set r ≡ 
       let g : RuleRanges set r = rule-ranges set r e in
       let l : length (r .left) < 256 = omega arith in
       let k : kind (r .right) < 256 = omega (arith, kind-right (r .right)) in
-      let s : size (r .right) ≤ 16 = size-right set (r .right) (h .few-verdicts) (g .right-in-range) in
-      let n : size (r .right) < 256 = omega arith in
+      let s : lengthOrVerdict (r .right) ≤ 16 = size-right set (r .right) (h .few-verdicts) (g .right-in-range) in
+      let n : lengthOrVerdict (r .right) < 256 = omega arith in
       simp lt-ltb
 
   body-fits : below 256 (body r) ≡ true

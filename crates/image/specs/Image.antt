@@ -19,28 +19,31 @@ kind (Put v) = 0
 kind (Close v) = 1
 
 -- "right length or verdict"
-unfoldable pub size : Right → ℕ
-size (Put v) = length v
-size (Close v) = v
+unfoldable pub lengthOrVerdict : Right → ℕ
+lengthOrVerdict (Put v) = length v
+lengthOrVerdict (Close v) = v
 
 -- "4 bytes a rule: left length; kind (0 string, 1 verdict); right length or verdict; 0"
 unfoldable pub contents : Rule → List ℕ
-contents r = length (r .left) ∷ kind (r .right) ∷ size (r .right) ∷ 0 ∷ []
+contents r = length (r .left) ∷ kind (r .right) ∷ lengthOrVerdict (r .right) ∷ 0 ∷ []
 
 -- "each rule's left symbols and, for kind 0, its right symbols, one byte each"
 unfoldable pub body : Rule → List ℕ
 body r = r .left ++ symbolsOf (r .right)
 
--- "Contents first, then bodies. Bytes 0..3: S, number of rules R, V, E. .. Nothing follows."
+-- "Contents first, then bodies. Bytes 0..3: S, number of rules R, V, E. .. Nothing follows. Longest: 1,284 bytes."
+-- (`longest`, proofs/Image.antt)
 unfoldable pub imageOf : RuleSet → List ℕ
 imageOf set =
     set .symbols ∷ length (set .rules) ∷ set .verdicts ∷ set .events
     ∷ (flatMap contents (set .rules) ++ flatMap body (set .rules))
 
--- Reading is total: a byte that is not there is 0.
--- kind, right length or verdict, and the bytes behind the left symbols
+-- Reading is total: contents that are not there are 0, and a body that is cut short gives fewer symbols. Either way the
+-- image of what is read is not what was read.
+
+-- a right side, by its kind k, its length or verdict n, and the bytes b behind the left symbols
 unfoldable pub readRight : ℕ → ℕ → List ℕ → Right
-readRight kind size b = cond (eqb kind 1) (Close size) (Put (take size b))
+readRight k n b = cond (eqb k 1) (Close n) (Put (take n b))
 
 -- the first rule of the contents c and the bodies b
 unfoldable pub readRule : List ℕ → List ℕ → Rule

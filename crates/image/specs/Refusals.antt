@@ -4,7 +4,7 @@ use mathlib.Core.Bool.{Bool, cond}
 use mathlib.Core.Option.{Option, none, some}
 use mathlib.Core.List.{List, [], _∷_}
 
--- what is demanded, and document 01's number for its refusal
+-- what is demanded, and document 01's number for the refusal where it does not hold
 abbrev pub Check : Type 0
 Check = Bool × ℕ
 

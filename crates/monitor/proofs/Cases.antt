@@ -6,7 +6,7 @@ use mathlib.Core.Option.{none, some, orElse}
 use Rattle.rewriting.specs.Rules.{symbolsOf, rule, rightInRange, ruleInRange, inRange}
 use Rattle.rewriting.specs.Occurrences.{lowest, tie, ending}
 use Rattle.rewriting.specs.Sample.{sample}
-use Rattle.image.specs.Image.{kind, size, contents, body, imageOf, readRight, readRule, readRules, read, valid}
+use Rattle.image.specs.Image.{kind, lengthOrVerdict, contents, body, imageOf, readRight, readRule, readRules, read, valid}
 use Rattle.image.specs.Refusals.{refusal}
 use Rattle.table.specs.States.{isPrefix, state, next, matching, prefixes, known, numbered, states, number}
 use Rattle.table.specs.Table.{matchWord, row, tableOf}
@@ -22,7 +22,7 @@ use Rattle.monitor.specs.Edges.{day, growing, tripling, edges, holding, 
 
 -- every definition that a computed case goes through
 computes : Unit {0}
-unfolding orElse flatMap rule rightInRange ruleInRange inRange lowest tie ending sample kind size symbolsOf contents body imageOf readRight readRule readRules read valid refusal isPrefix state next matching prefixes known numbered states number matchWord row tableOf empty active replace settle step noCounts plus countsOf ended counted fits proceed tests run headOf areaOf bytesOf statesAfter wordsOf monitorOf stateOf noMatch unmatched closesWith standsBy holds described sized freshened freshOf fuelOf lentChecks isNone fuelCheck verdictCheck callChecks offered outcome decided callOf refusedBy stringOf noCalls eventsOf logged play fresh foundIn find worked abcd
+unfolding orElse flatMap rule rightInRange ruleInRange inRange lowest tie ending sample kind lengthOrVerdict symbolsOf contents body imageOf readRight readRule readRules read valid refusal isPrefix state next matching prefixes known numbered states number matchWord row tableOf empty active replace settle step noCounts plus countsOf ended counted fits proceed tests run headOf areaOf bytesOf statesAfter wordsOf monitorOf stateOf noMatch unmatched closesWith standsBy holds described sized freshened freshOf fuelOf lentChecks isNone fuelCheck verdictCheck callChecks offered outcome decided callOf refusedBy stringOf noCalls eventsOf logged play fresh foundIn find worked abcd
 computes = tt
 
 -- every value of the table of worked cases

@@ -32,8 +32,9 @@ Sooner rules o o′ =
     (ends rules o < ends rules o′)
     ⊎ ((ends rules o ≡ ends rules o′) × ((begins o < begins o′) ⊎ ((begins o ≡ begins o′) × (o .rule < o′ .rule))))
 
--- The rest of this file finds the occurrence that is taken. That it does so is the law `redex-first`, and that it
--- finds one wherever there is one `redex-none` (proofs/Redex.antt).
+-- The rest of this file finds the occurrence that is taken. Where no left side is empty, what it finds is an occurrence
+-- (`redex-occurs`) and sooner than every other (`redex-first`), and it finds one wherever there is one (`redex-none`,
+-- all in proofs/Redex.antt).
 
 -- "the lowest rule" with the left side v
 unfoldable pub lowest : List Rule → List ℕ → Option ℕ
@@ -41,7 +42,7 @@ lowest [] v = none
 lowest (r ∷ rules) v = cond (same (r .left) v) (some 0) (Option·map suc (lowest rules v))
 
 -- Of two occurrences that end together, the first of which begins before the second, the one that is taken:
--- "the one that begins first". This is the only place that chooses.
+-- "the one that begins first". No other place chooses by where they begin.
 unfoldable pub tie : Option ℕ → Option ℕ → Option ℕ
 tie earlier later = orElse earlier later
 

@@ -16,7 +16,8 @@ pub record Rewriter : Type 0 where
 unfoldable pub fed : List ℕ → Rewriter
 fed w = record { string = w; verdict = none; put = 0 }
 
--- "Its symbols are replaced by the right side, or for a verdict removed and the verdict set."
+-- "Its symbols are replaced by the right side, or for a verdict removed and the verdict set." Unlike in 001, "the rest is
+-- kept".
 unfoldable pub replaced : ℕ → Occurrence → Right → Rewriter
 replaced put o (Put v) = record { string = o .before ++ (v ++ o .after); verdict = none; put = put + length v }
 replaced put o (Close v) = record { string = o .before ++ o .after; verdict = some v; put = put }

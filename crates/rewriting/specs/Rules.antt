@@ -6,8 +6,8 @@ use lib.Dec.{leb, ltb}
 use lib.ListN.{length, getD}
 use Rattle.rewriting.specs.Lists.{all, below, between}
 
--- "A right side is a string of 0..8 symbols or a verdict 0..V−1": the symbols that it puts in, or the verdict
--- that it closes with. "Verdict 0 is fail, 1 succeed."
+-- "A right side is a string of 0..8 symbols or a verdict 0..V−1": the symbols that it puts in, or the verdict that it
+-- closes with; "verdict 0 is fail, 1 succeed."
 pub data Right : Type 0 where
   Put : List ℕ → Right
   Close : ℕ → Right
@@ -26,14 +26,14 @@ infix 20 _⇒_
 abbrev pub _⇒_ : List ℕ → Right → Rule
 left ⇒ right = record { left = left; right = right }
 
--- "A symbol is a number 0..S−1; the first E are events. There are 0..64 rules": S, E, V, and the rules in their order
+-- "A symbol is a number 0..S−1 ..; the first E .. are events. There are 0..64 rules": S, E, V, and the rules in their order
 pub record RuleSet : Type 0 where
   pub symbols : ℕ
   pub events : ℕ
   pub verdicts : ℕ
   pub rules : List Rule
 
--- "numbered from 0": the rule with number i. No rule beyond the last is ever asked for; both its sides are empty
+-- "numbered from 0": the rule with number i. Beyond the last both sides are empty, so that it closes with no verdict.
 unfoldable pub rule : List Rule → ℕ → Rule
 rule rules i = getD rules i ([] ⇒ Put [])
 
@@ -46,7 +46,7 @@ rightInRange set (Close v) = ltb v (set .verdicts)
 unfoldable pub ruleInRange : RuleSet → Rule → Bool
 ruleInRange set r = between 1 (length (r .left)) 8 && below (set .symbols) (r .left) && rightInRange set (r .right)
 
--- "S 1..32; the first E (1..S) are events. There are 0..64 rules. .. V 2..16"
+-- "S 1..32; the first E (1..S) are events. There are 0..64 rules .. V 2..16"
 unfoldable pub inRange : RuleSet → Bool
 inRange set =
     between 1 (set .symbols) 32

@@ -4,16 +4,17 @@ use Prim.Native.Nat.{ℕ, _≤_}
 use mathlib.Core.Path.{_≡_, refl}
 use mathlib.Core.Bool.{true}
 use mathlib.Core.Option.{Option, none, some}
-use mathlib.Core.List.{List}
+use mathlib.Core.List.{List, [], _∷_, map}
 use native.Mathlib.Omega.{arith}
-use lib.ListN.{length, length-append, length-drop}
+use lib.ListN.{length, drop, length-append, length-drop}
+use lib.Seq.{take-append-seam, drop-append-seam}
 use borrow.Author.Tests.{leb-true}
 use Rattle.image.specs.Image.{read, valid}
-use Rattle.image.specs.Refusals.{refusal}
-use Rattle.image.proofs.Refusals.{refusal-passed, refusal-rest}
+use Rattle.image.specs.Refusals.{Check, refusal}
+use Rattle.image.proofs.Refusals.{refusal-passed, refusal-rest, refusal-number}
 use Rattle.table.specs.declared.Compiled.the-variants.{Words, Refused}
 use Rattle.table.specs.Table.{tableOf}
-use Rattle.table.specs.Compile.{over, compileChecks, compiled, compileOf}
+use Rattle.table.specs.Compile.{over, compileChecks, compiled, compileOf, refusedBy, wordCount, CompileEnded, CompileCompiles}
 
 -- a refusal leaves the area
 pub compile-refused : (image area : List ℕ) (n : ℕ) → refusal (compileChecks image area) ≡ some n
@@ -40,10 +41,36 @@ pub length-over : (v area : List ℕ) → length v ≤ length area → length (o
 unfolding over
 length-over v area h = rw (length-append, length-drop) (omega arith)
 
--- the area keeps its length
-pub compile-length : (image area : List ℕ) → length (compileOf image area .area) ≡ length area
-compile-length image area = go (refusal (compileChecks image area)) refl
+-- the checks of compile have the numbers that document 01 gives them
+check-numbers : (image area : List ℕ) → map (λ (c : Check). c .1) (compileChecks image area) ≡ 7 ∷ 8 ∷ []
+unfolding compileChecks
+check-numbers image area = refl
+
+pub compile-theorem : CompileCompiles
+unfolding compileOf compiled refusedBy wordCount over
+compile-theorem image area = go (refusal (compileChecks image area)) refl
   where
-    go : (o : Option ℕ) → refusal (compileChecks image area) ≡ o → length (compileOf image area .area) ≡ length area
-    go (some n) e = rw (compile-refused image area n e)
-    go none e = rw (compile-accepted image area e) (length-over (tableOf (read image)) area (accepted-fits image area e))
+    table : List ℕ
+    table = tableOf (read image)
+    numbers : map (λ (c : Check). c .1) (compileChecks image area) ≡ 7 ∷ 8 ∷ []
+    numbers = check-numbers image area
+    go : (o : Option ℕ) → refusal (compileChecks image area) ≡ o → CompileEnded image area (compiled o table area)
+    go (some n) e =
+        record {
+          refused = λ k (p : some n ≡ some k).
+            let q : n ≡ k = cc in
+            (rw (← q) (rw numbers at (refusal-number (compileChecks image area) n e)), refl, refl);
+          taken = λ (p : some n ≡ none). let z : _≡_ {A = ℕ} 0 1 = cc in absurd (omega arith);
+          size = refl;
+        }
+    go none e =
+        record {
+          refused = λ k (p : none ≡ some k). let z : _≡_ {A = ℕ} 0 1 = cc in absurd (omega arith);
+          taken = λ _. (
+            accepted-valid image area e,
+            refl,
+            take-append-seam table (drop (length table) area),
+            drop-append-seam table (drop (length table) area),
+          );
+          size = length-over table area (accepted-fits image area e);
+        }

@@ -40,7 +40,7 @@ numbered states [] = states
 numbered states (v ∷ vs) = numbered (cond (known states v) states (states ++ v ∷ [])) vs
 
 -- The states in order of their numbers: "State 0 is the empty string. Rules are walked in order, and each prefix of a
--- left side, short before long, gets the next number when new."
+-- left side, short before long, gets the next number when new; N is at most 513." (`few-states`, proofs/States.antt)
 unfoldable pub states : List Rule → List (List ℕ)
 states rules = numbered ([] ∷ []) (flatMap (λ r. prefixes (r .left)) rules)
 
