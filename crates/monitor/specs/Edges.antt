@@ -55,6 +55,9 @@ edges =
     -- "Fuel 65,535 is taken, 65,536 refused."
     ∷ worked (abcd []) (Offer 0 65535 ∷ Offer 0 65536 ∷ GoOn 65535 ∷ GoOn 65536 ∷ [])
     (Answer.Quiet ∷ Answer.Refused 13 ∷ Answer.Quiet ∷ Answer.Refused 13 ∷ []) 1 0 0 (0 ∷ []) 0 Standing.None 0
+    -- events wait in the order of their offers
+    ∷ worked sample (Offer 0 0 ∷ Offer 1 0 ∷ GoOn 1000 ∷ [])
+    (Answer.Spent ∷ Answer.Spent ∷ Answer.Quiet ∷ []) 3 1 1 (3 ∷ []) 0 Standing.None 0
     -- the refusals in their order: 12, 13, 14
     ∷ worked sample (Offer 1 1 ∷ Offer 3 65536 ∷ Offer 0 65536 ∷ Offer 0 1 ∷ GoOn 65536 ∷ GoOn 1 ∷ [])
     (Answer.Verdict 0 ∷ Answer.Refused 12 ∷ Answer.Refused 13 ∷ Answer.Refused 14 ∷ Answer.Refused 13 ∷ Answer.Refused 14 ∷ [])

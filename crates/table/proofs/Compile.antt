@@ -52,14 +52,16 @@ compile-theorem image area = go (refusal (compileChecks image area)) refl
   where
     table : List ℕ
     table = tableOf (read image)
+
     numbers : map (λ (c : Check). c .1) (compileChecks image area) ≡ 7 ∷ 8 ∷ []
     numbers = check-numbers image area
+
     go : (o : Option ℕ) → refusal (compileChecks image area) ≡ o → CompileEnded image area (compiled o table area)
     go (some n) e =
         record {
           refused = λ k (p : some n ≡ some k).
-            let q : n ≡ k = cc in
-            (rw (← q) (rw numbers at (refusal-number (compileChecks image area) n e)), refl, refl);
+              let q : n ≡ k = cc in
+              (rw (← q) (rw numbers at (refusal-number (compileChecks image area) n e)), refl, refl);
           taken = λ (p : some n ≡ none). let z : _≡_ {A = ℕ} 0 1 = cc in absurd (omega arith);
           size = refl;
         }
