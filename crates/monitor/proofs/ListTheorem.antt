@@ -33,6 +33,7 @@ use Rattle.monitor.proofs.Machine.{Reaches, Stay, more, reaches-more, r
 use Rattle.monitor.proofs.Legal.{legal-waiting}
 use Rattle.monitor.proofs.Simulation.{Faithful, faithful}
 use Rattle.monitor.proofs.Areas.{state-back, fresh-written}
+use Rattle.monitor.proofs.CallTheorem.{call-theorem}
 use Rattle.monitor.proofs.Calls.{Next, Holding, holding-passes, replies, next}
 
 -- After any list of calls, the machine reaches the state that is lent from all accepted events, waiting, with the counts
@@ -90,6 +91,7 @@ module _ (capacity : ℕ) (image table : List ℕ) (good : valid image ≡ true)
   each-answered m h c =
       record {
         reply = replies capacity image table good right m h c;
+        ended = call-theorem capacity image table m c;
         quiet = (
           λ p. (n .quiet .0 p .0, rw (after .written) (ap length (n .quiet .0 p .1)), rw (after .written) (n .quiet .0 p .2)),
           λ p. n .quiet .1 (p .0, length-zero (after .state .waiting) (rw (after .written) at (p .1)), rw (after .written) at (p .2)),

@@ -76,6 +76,8 @@ pub record Answered (set : RuleSet) (capacity : ℕ) (m : Monitor) (c : Call) (o
   -- It is refused just where document 01 says, by 12, 13, 14 or 15; an accepted one has the answer and the counts of its
   -- run, and leaves the state that its run ends in.
   pub reply : o ≡ decided set capacity m (callChecks set capacity (m .head) c) c
+  -- Demand 1: it stopped where its answer says, or is refused and changes nothing lent.
+  pub ended : Ended (set .rules) capacity m c o
   -- An accepted one is quiet exactly when nothing waits and no verdict stands, ..
   pub quiet : o .answer ≡ Answer.Quiet
       ↔ ((refusedBy (o .answer) ≡ none) × (o .monitor .head .waiting ≡ 0) × (o .monitor .head .verdict ≡ Standing.None))
