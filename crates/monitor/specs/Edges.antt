@@ -85,6 +85,7 @@ pub record Answering : Type 0 where
   pub call : Call
   pub answer : Answer
 
+-- the same as a row
 unfoldable pub answering : List ℕ → List ℕ → Monitor → Call → Answer → Answering
 answering image table m c a = record { image = image; table = table; monitor = m; call = c; answer = a }
 
@@ -96,6 +97,7 @@ onSample m c a = answering (imageOf sample) (tableOf sample) m c a
 unfoldable pub undescribed : Monitor → Answering
 undescribed m = onSample m (GoOn 1) (Answer.Refused 11)
 
+-- monitors as described and not as described
 unfoldable pub monitors : List Answering
 monitors =
     -- as described: `lock` settled; then `take` waiting, a rewrite with the last unit of fuel; then `held`, which is no event
@@ -133,7 +135,7 @@ monitors =
 unfoldable pub tiny : Monitor
 tiny = record { head = fresh .head; bytes = 0 ∷ []; words = 1 ∷ [] }
 
--- Refusals in their order. Everything is wrong at first, and then all but what the rows before were refused by.
+-- Refusals in their order: in each row what the rows before were refused by is mended, and all else is still wrong.
 unfoldable pub inOrder : List Answering
 inOrder =
     answering (imageOf sample ++ 0 ∷ []) [] tiny (Offer 3 65536) (Answer.Refused 7)
@@ -164,6 +166,7 @@ pub record FoundBatch : Type 0 where
   pub answers : List ℕ
   pub string : List ℕ
 
+-- a batch and what it finds
 pub record BatchCase : Type 0 where
   pub set : RuleSet
   pub monitor : Monitor
@@ -172,6 +175,7 @@ pub record BatchCase : Type 0 where
   pub answers : List ℕ
   pub found : FoundBatch
 
+-- what the definitions find
 unfoldable pub findBatch : BatchCase → FoundBatch
 findBatch c =
     let b : Batched = batchOf documentCapacity (imageOf (c .set)) (tableOf (c .set)) (c .monitor) (c .events) (c .fuel) (c .answers) in
@@ -205,6 +209,7 @@ batch set m events fuel answers refused stop accepted steps rewrites put exit st
           };
     }
 
+-- batches from a fresh monitor and from others
 unfoldable pub batches : List BatchCase
 batches =
     -- the sample's day: lock, take, free, take. "Later answer bytes stay."
