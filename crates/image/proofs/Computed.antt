@@ -4,9 +4,11 @@ use Prim.Native.Nat.{ℕ}
 use mathlib.Core.Path.{_≡_, refl}
 use mathlib.Core.Bool.{true, false}
 use mathlib.Core.List.{[], _∷_, _++_, flatMap}
+use mathlib.Core.Option.{some, orElse}
 use lib.ListN.{length, take, set, replicate}
 use Rattle.rewriting.specs.Rules.{Put, _⇒_, symbolsOf, RuleSet, rightInRange, ruleInRange, inRange}
 use Rattle.rewriting.specs.Sample.{sample}
+use Rattle.image.specs.Refusals.{refusal}
 use Rattle.image.specs.Image.{
   kind,
   lengthOrVerdict,
@@ -84,3 +86,8 @@ fourth-byte-refused = refl
 pub kind-two-refused : valid (set (imageOf sample) 5 2) ≡ false
 unfolding sample computes
 kind-two-refused = refl
+
+-- where two checks fail, the first decides
+pub first-decides : refusal ((true, 1) ∷ (false, 2) ∷ (false, 3) ∷ []) ≡ some 2
+unfolding refusal orElse
+first-decides = refl

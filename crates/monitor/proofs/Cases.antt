@@ -1,7 +1,7 @@
 -- The worked cases of document 01 and its edges, computed from the definitions.
 -- Assumes nothing.
 use mathlib.Core.Path.{_≡_, refl}
-use mathlib.Core.List.{map, flatMap}
+use mathlib.Core.List.{[], _∷_, map, flatMap}
 use mathlib.Core.Option.{none, some, orElse}
 use Rattle.rewriting.specs.Rules.{symbolsOf, rule, rightInRange, ruleInRange, inRange}
 use Rattle.rewriting.specs.Occurrences.{lowest, tie, ending}
@@ -59,3 +59,9 @@ batches-found = refl
 pub many-events : (manyEvents 65535 ≡ none) × (manyEvents 65536 ≡ some 16)
 unfolding computes batchChecks manyEvents
 many-events = (refl, refl)
+
+-- fresh refuses a byte too few and a word too many, and leaves the areas
+pub fresh-refuses : (freshOf 2 (7 ∷ []) (7 ∷ 7 ∷ []) ≡ record { refused = some 10; monitor = record { head = headOf empty; bytes = 7 ∷ []; words = 7 ∷ 7 ∷ [] } })
+    × (freshOf 1 (7 ∷ []) (7 ∷ 7 ∷ []) .refused ≡ some 10)
+unfolding computes
+fresh-refuses = (refl, refl)

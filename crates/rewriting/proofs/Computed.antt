@@ -63,6 +63,11 @@ redex-lock-free : redex (sample .rules) (0 ∷ 2 ∷ []) ≡ none
 unfolding redex scan ending tie lowest orElse sample
 redex-lock-free = refl
 
+-- of two occurrences, the one that ends first
+redex-take-take : redex (sample .rules) (1 ∷ 1 ∷ []) ≡ some (record { before = []; rule = 2; after = 1 ∷ [] })
+unfolding redex scan endingAt ending tie lowest orElse rule sample
+redex-take-take = refl
+
 -- of two rules with one left side, the lowest
 redex-equal-rules : redex ((0 ∷ [] ⇒ Close 0) ∷ (0 ∷ [] ⇒ Close 1) ∷ []) (0 ∷ []) ≡ some (record { before = []; rule = 0; after = [] })
 unfolding redex scan endingAt ending tie lowest orElse rule

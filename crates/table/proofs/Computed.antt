@@ -62,6 +62,11 @@ pub broken-refused : (area : List ℕ) → compileOf (imageOf sample ++ 0 ∷ []
 unfolding compileOf compileChecks compiled refusal
 broken-refused area = rw (longer-refused 0)
 
+-- two left sides with a common prefix, which has one number
+pub common-prefix : states ((0 ∷ 1 ∷ [] ⇒ Put []) ∷ (0 ∷ 2 ∷ [] ⇒ Put []) ∷ []) ≡ [] ∷ (0 ∷ []) ∷ (0 ∷ 1 ∷ []) ∷ (0 ∷ 2 ∷ []) ∷ []
+unfolding states numbered prefixes known flatMap
+common-prefix = refl
+
 -- C5: the state b a a is no left side, and matches a a, which ends it
 pub inner-match : matching ((1 ∷ 0 ∷ 0 ∷ 2 ∷ [] ⇒ Close 0) ∷ (0 ∷ 0 ∷ [] ⇒ Put []) ∷ []) (1 ∷ 0 ∷ 0 ∷ []) ≡ some 1
 unfolding matching ending tie lowest orElse
