@@ -2,3 +2,4 @@
 pub mod States
 pub mod Table
 pub mod Compile
+pub mod Nodes

@@ -1,0 +1,119 @@
+-- `table::trie::failure_of` meets its contract: by its parent's failure state and that state's row.
+-- Assumes nothing.
+use Prim.Native.Nat.{ℕ, _+_, _*_, _<_}
+use mathlib.Core.Path.{_≡_, refl, sym, _∙_}
+use mathlib.Core.Bool.{cond}
+use native.Mathlib.Omega.{arith}
+use lib.Dec.{eqb}
+use lib.ListN.{length, getD}
+use borrow.Author.Needs.{needs}
+use borrow.Author.Tests.{eq-eqb, ne-eqb}
+use Rattle.table.specs.Nodes.{parent, symbol, failure, failureBy}
+use Rattle.table.proofs.trie.failure_of.Statement.{statement}
+use Rattle.table.proofs.trie.failure_of.Tie as tie
+
+-- the word that is read stands in the rows
+inside : (c : tie.After-wide3)
+    → c .wide3 .result * (c .before .before .before .before .before .before .before .before .before .args .s) + c .before .before .wide2 .result
+    < length (c .before .before .before .before .before .before .before .before .before .args .rows .now)
+inside c =
+    let turn = c .before .before .before .before in
+    let left = turn .if1 .left in
+    rw (c .wide3 .ensures, c .before .before .wide2 .ensures, turn .before .wide .ensures)
+    (turn .before .before .before .before .before .pre .1 .1 (omega (arith, left, turn .before .wide .ensures)))
+
+mul-wide : tie.Need-mul-wide
+mul-wide c = search needs
+
+mul-wide-2 : tie.Need-mul-wide-2
+mul-wide-2 c = search needs
+
+shared-slice-read-wide : tie.Need-shared-slice-read-wide
+shared-slice-read-wide c = search needs
+
+wide-requires : tie.Need-wide-requires
+wide-requires c κs = search needs
+
+returns : tie.Need-returns
+unfolding failureBy
+returns c = rw (eq-eqb _ 0 (sym (c .before .wide .ensures) ∙ c .if1 .taken))
+
+mul-wide-3 : tie.Need-mul-wide-3
+mul-wide-3 c = search needs
+
+add-wide : tie.Need-add-wide
+add-wide c = search needs
+
+mul-wide-4 : tie.Need-mul-wide-4
+mul-wide-4 c = search needs
+
+shared-slice-read-wide-2 : tie.Need-shared-slice-read-wide-2
+shared-slice-read-wide-2 c = search needs
+
+wide-requires-2 : tie.Need-wide-requires-2
+wide-requires-2 c κs = search needs
+
+mul-wide-5 : tie.Need-mul-wide-5
+mul-wide-5 c = search needs
+
+add-wide-2 : tie.Need-add-wide-2
+add-wide-2 c = search needs
+
+mul-wide-6 : tie.Need-mul-wide-6
+mul-wide-6 c = search needs
+
+shared-slice-read-wide-3 : tie.Need-shared-slice-read-wide-3
+shared-slice-read-wide-3 c = search needs
+
+wide-requires-3 : tie.Need-wide-requires-3
+wide-requires-3 c κs = search needs
+
+mul-wide-7 : tie.Need-mul-wide-7
+mul-wide-7 c = omega (arith, inside c)
+
+add-wide-3 : tie.Need-add-wide-3
+add-wide-3 c = omega (arith, inside c)
+
+mul-wide-8 : tie.Need-mul-wide-8
+mul-wide-8 c = omega (arith, inside c)
+
+shared-slice-read-wide-4 : tie.Need-shared-slice-read-wide-4
+shared-slice-read-wide-4 c = inside (c .before)
+
+wide-requires-4 : tie.Need-wide-requires-4
+wide-requires-4 c κs = search needs
+
+returns-2 : tie.Need-returns-2
+unfolding failureBy
+returns-2 c =
+    let turn = c .before .before .before .before .before .before in
+    let up : parent (turn .before .before .before .before .before .args .trie .now) (turn .before .before .before .before .before .args .q) ≡ 0 → ⊥ =
+    λ e. turn .if1 .left (turn .before .wide .ensures ∙ e)
+    in
+    rw (ne-eqb _ 0 up) (rw (c .wide4 .ensures, c .before .before .wide3 .ensures, c .before .before .before .before .wide2 .ensures, turn .before .wide .ensures))
+
+pub failure-of-spec : {M : Type 1} → statement M
+failure-of-spec =
+    tie.close
+    (tie.spec
+    mul-wide
+    mul-wide-2
+    shared-slice-read-wide
+    wide-requires
+    returns
+    mul-wide-3
+    add-wide
+    mul-wide-4
+    shared-slice-read-wide-2
+    wide-requires-2
+    mul-wide-5
+    add-wide-2
+    mul-wide-6
+    shared-slice-read-wide-3
+    wide-requires-3
+    mul-wide-7
+    add-wide-3
+    mul-wide-8
+    shared-slice-read-wide-4
+    wide-requires-4
+    returns-2)

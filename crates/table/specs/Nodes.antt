@@ -1,0 +1,84 @@
+-- The trie of the left sides, as the code holds it while it compiles or checks a table: a node for each state, in the
+-- order of the states' numbers, eight words each.
+--
+--     word 8 c        parent: the state without its last symbol
+--     word 8 c + 1    that symbol
+--     word 8 c + 2    depth: how many symbols the state has
+--     word 8 c + 3    its youngest child, 0 if none
+--     word 8 c + 4    its parent's next older child, 0 if none
+--     word 8 c + 5    how many children it has
+--     word 8 c + 6    match word: first of the rules whose left side is the state itself, in the end the table's
+--     word 8 c + 7    failure state, once it is known
+use Prim.Native.Nat.{ℕ, zero, suc, _+_, _*_, _≤_, _<_}
+use mathlib.Core.Path.{_≡_}
+use mathlib.Core.Bool.{Bool, cond}
+use mathlib.Core.List.{List, [], _∷_, _++_}
+use lib.Dec.{eqb}
+use lib.ListN.{length, getD}
+use Rattle.rewriting.specs.Rules.{Rule}
+use Rattle.rewriting.specs.Occurrences.{lowest}
+use Rattle.table.specs.States.{known, number}
+use Rattle.table.specs.Table.{matchWord}
+
+module _ (t : List ℕ) (c : ℕ) where
+  abbrev pub parent : ℕ
+  parent = getD t (8 * c) 0
+
+  abbrev pub symbol : ℕ
+  symbol = getD t (8 * c + 1) 0
+
+  abbrev pub depth : ℕ
+  depth = getD t (8 * c + 2) 0
+
+  abbrev pub youngest : ℕ
+  youngest = getD t (8 * c + 3) 0
+
+  abbrev pub older : ℕ
+  older = getD t (8 * c + 4) 0
+
+  abbrev pub children : ℕ
+  children = getD t (8 * c + 5) 0
+
+  abbrev pub matched : ℕ
+  matched = getD t (8 * c + 6) 0
+
+  abbrev pub failure : ℕ
+  failure = getD t (8 * c + 7) 0
+
+-- how many of 0, 1, .., n - 1 pass the test
+unfoldable pub tally : (ℕ → Bool) → ℕ → ℕ
+tally test zero = 0
+tally test (suc n) = tally test n + cond (test n) 1 0
+
+-- The links of n nodes: a parent comes before its children, and the youngest child and then the next older one, again and
+-- again, meet every child of a node.
+pub record Linked (t : List ℕ) (n : ℕ) : Type 0 where
+  pub size : 8 * n ≤ length t
+  pub up : (c : ℕ) → 0 < c → c < n → parent t c < c
+  pub young : (q : ℕ) → q < n → youngest t q < n
+  pub young-of : (q : ℕ) → q < n → 0 < youngest t q → parent t (youngest t q) ≡ q
+  pub young-last : (q c : ℕ) → q < n → 0 < c → c < n → parent t c ≡ q → c ≤ youngest t q
+  pub old : (c : ℕ) → 0 < c → c < n → older t c < c
+  pub old-of : (c : ℕ) → 0 < c → c < n → 0 < older t c → parent t (older t c) ≡ parent t c
+  pub old-next : (c b : ℕ) → 0 < c → c < n → 0 < b → b < c → parent t b ≡ parent t c → b ≤ older t c
+
+-- t holds the trie of the states s, of a rule set with so many symbols. Words behind the last node are 0.
+pub record Trie (s : List (List ℕ)) (symbols : ℕ) (t : List ℕ) : Type 0 where
+  pub linked : Linked t (length s)
+  pub some-node : 0 < length s
+  pub root : getD s 0 [] ≡ []
+  pub once : (i : ℕ) → i < length s → number s (getD s i []) ≡ i
+  pub made : (c : ℕ) → 0 < c → c < length s → getD s c [] ≡ getD s (parent t c) [] ++ symbol t c ∷ []
+  pub small : (c : ℕ) → 0 < c → c < length s → symbol t c < symbols
+  pub deep : (c : ℕ) → c < length s → depth t c ≡ length (getD s c [])
+  pub counted : (c : ℕ) → c < length s → children t c ≡ tally (λ a. known s (getD s c [] ++ a ∷ [])) symbols
+  pub clear : (k : ℕ) → 8 * length s ≤ k → getD t k 0 ≡ 0
+
+-- each node's match word is that of the lowest rule whose left side is the state itself
+abbrev pub Owned : List Rule → List (List ℕ) → List ℕ → Type 0
+Owned rules s t = (c : ℕ) → c < length s → matched t c ≡ matchWord (lowest rules (getD s c []))
+
+-- the failure state of node c, found from that of its parent and the parent's failure state's row; rows of so many symbols
+unfoldable pub failureBy : List ℕ → List ℕ → ℕ → ℕ → ℕ
+failureBy t rows symbols c =
+    cond (eqb (parent t c) 0) 0 (getD rows (failure t (parent t c) * symbols + symbol t c) 0)
