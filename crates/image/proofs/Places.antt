@@ -6,12 +6,13 @@ use mathlib.Core.Bool.{true}
 use mathlib.Core.List.{List, [], _∷_, _++_, flatMap}
 use native.Mathlib.Omega.{arith}
 use native.Mathlib.Nat.{le-of-suc-le-suc, not-suc-le-zero}
-use lib.ListN.{length, getD, take, drop, length-append, List·getD-append}
+use lib.ListN.{length, getD, take, length-append, List·getD-append}
 use lib.Seq.{getD-append-add, getD-drop}
 use Rattle.rewriting.specs.Rules.{Right, Put, Close, symbolsOf, Rule, _⇒_, RuleSet, rule}
 use Rattle.rewriting.proofs.Lists.{getD-flatMap}
 use Rattle.image.specs.Image.{kind, lengthOrVerdict, contents, body, imageOf, read, valid}
-use Rattle.image.specs.Places.{leftAt, rightAt}
+use Rattle.image.specs.Places.{leftAt, rightAt, rightSideOf}
+use Rattle.image.specs.declared.RightSide.{RightSide}
 use Rattle.image.proofs.Image.{valid-encoding, length-contents, length-image, drop-image}
 
 -- the bodies before rule i, one more, and those behind
@@ -46,7 +47,7 @@ bodies-at (r ∷ rs) zero j h k =
     rw here (List·getD-append (body r) (flatMap body rs) 0 j k)
 bodies-at (r ∷ rs) (suc i) j h k =
     let on : length (body r ++ flatMap body (take i rs)) + j ≡ length (body r) + (length (flatMap body (take i rs)) + j) =
-        simp length-append (omega arith)
+    simp length-append (omega arith)
     in
     rw (on, getD-append-add) (bodies-at rs i j (le-of-suc-le-suc h) k)
 
@@ -68,6 +69,10 @@ body-left r = length-append (r .left) (symbolsOf (r .right))
 -- the contents lie within a valid image
 pub contents-within : (b : List ℕ) → valid b ≡ true → 4 + 4 * length (read b .rules) ≤ length b
 contents-within b e = omega (arith, ap length (valid-encoding b e), length-image (read b))
+
+-- and so do the 4 bytes of rule i
+pub contents-fit : (b : List ℕ) → valid b ≡ true → (i : ℕ) → i < length (read b .rules) → 7 + 4 * i < length b
+contents-fit b e i h = omega (arith, contents-within b e)
 
 -- A body lies within a valid image.
 pub left-within :
@@ -172,3 +177,25 @@ header-verdicts b = refl
 pub header-events : (b : List ℕ) → getD b 3 0 ≡ read b .events
 unfolding read
 header-events b = refl
+
+-- A right side by its kind and its length or verdict.
+pub right-close : (x : Right) → kind x ≡ 1 → rightSideOf x ≡ RightSide.Close (lengthOrVerdict x)
+unfolding kind lengthOrVerdict rightSideOf
+right-close (Put v) e = absurd (omega arith)
+right-close (Close v) e = refl
+
+pub right-put : (x : Right) → (kind x ≡ 1 → ⊥) → rightSideOf x ≡ RightSide.Put (lengthOrVerdict x)
+unfolding kind lengthOrVerdict rightSideOf
+right-put (Put v) e = refl
+right-put (Close v) e = absurd (e refl)
+
+-- how many symbols it puts in
+pub put-length : (x : Right) (n : ℕ) → rightSideOf x ≡ RightSide.Put n → length (symbolsOf x) ≡ n
+unfolding symbolsOf rightSideOf
+put-length (Put v) n e = cc
+put-length (Close v) n e = let z : _≡_ {A = ℕ} 0 1 = cc in absurd (omega arith)
+
+pub close-length : (x : Right) (n : ℕ) → rightSideOf x ≡ RightSide.Close n → length (symbolsOf x) ≡ 0
+unfolding symbolsOf rightSideOf
+close-length (Put v) n e = let z : _≡_ {A = ℕ} 0 1 = cc in absurd (omega arith)
+close-length (Close v) n e = refl
