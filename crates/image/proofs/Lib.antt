@@ -1,3 +1,4 @@
 pub mod Image
 pub mod Refusals
+pub mod Places
 pub mod Computed

@@ -1,0 +1,64 @@
+-- `image::body_length` meets its contract: a body has the left symbols, and the right symbols where the right side is a string.
+-- Assumes nothing.
+use Prim.Native.Nat.{_+_}
+use mathlib.Core.Path.{_≡_, sym, _∙_}
+use native.Mathlib.Omega.{arith}
+use borrow.Author.Needs.{needs}
+use lib.ListN.{length}
+use Rattle.rewriting.specs.Rules.{symbolsOf, Rule, rule}
+use Rattle.image.specs.Image.{body, read}
+use Rattle.image.proofs.Places.{body-left, left-within, put-length, close-length}
+use Rattle.image.proofs.body_length.Statement.{statement}
+use Rattle.image.proofs.body_length.Tie as tie
+
+left-length-requires : tie.Need-left-length-requires
+left-length-requires c κs = search needs
+
+right-side-requires : tie.Need-right-side-requires
+right-side-requires c κs = search needs
+
+enum-known-n : tie.Need-enum-known-n
+enum-known-n c = search needs
+
+-- the left symbols and the right symbols are the body
+whole :
+    (c : tie.After-known-told)
+    → c .before .before .before .before .left-length .result + c .before .n .given .0 .0
+    ≡ length (body (rule (read (c .before .before .before .before .before .before .args .image .now) .rules) (c .before .before .before .before .before .before .args .i)))
+whole c =
+    let s = c .before .before .before .before .before .before in
+    let r : Rule = rule (read (s .args .image .now) .rules) (s .args .i) in
+    let n : length (symbolsOf (r .right)) ≡ c .before .n .given .0 .0 =
+    put-length (r .right) (c .before .n .given .0 .0) (sym (c .before .before .before .right-side .ensures) ∙ c .before .n .given .1)
+    in
+    omega (arith, body-left r)
+
+add-result : tie.Need-add-result
+add-result c =
+    let s = c .before .before .before .before .before .before in
+    omega (arith, whole c, left-within (s .args .image .now) (s .pre .0) (s .args .i) (s .pre .1))
+
+enum-told : tie.Need-enum-told
+enum-told c = search needs
+
+returns : tie.Need-returns
+returns c = whole c
+
+returns-2 : tie.Need-returns-2
+returns-2 c =
+    let s = c .before .before .before .before .before in
+    let r : Rule = rule (read (s .args .image .now) .rules) (s .args .i) in
+    let n : length (symbolsOf (r .right)) ≡ 0 = close-length (r .right) (c .enum-told .given .0 .0) (sym (c .before .before .right-side .ensures) ∙ c .enum-told .given .1) in
+    omega (arith, body-left r)
+
+pub body-length-spec : {M : Type 1} → statement M
+body-length-spec =
+    tie.close
+    (tie.spec
+    left-length-requires
+    right-side-requires
+    enum-known-n
+    add-result
+    enum-told
+    returns
+    returns-2)
