@@ -2,4 +2,5 @@ pub mod Matching
 pub mod States
 pub mod Table
 pub mod Compile
+pub mod Nodes
 pub mod Computed

@@ -12,12 +12,14 @@
 use Prim.Native.Nat.{ℕ, zero, suc, _+_, _*_, _≤_, _<_}
 use mathlib.Core.Path.{_≡_}
 use mathlib.Core.Bool.{Bool, cond}
+use mathlib.Core.Logic.{_⊎_}
 use mathlib.Core.List.{List, [], _∷_, _++_}
 use lib.Dec.{eqb}
-use lib.ListN.{length, getD}
-use Rattle.rewriting.specs.Rules.{Rule}
+use lib.ListN.{length, getD, set, take}
+use Rattle.rewriting.specs.Rules.{Rule, RuleSet, rule}
 use Rattle.rewriting.specs.Occurrences.{lowest}
-use Rattle.table.specs.States.{known, number}
+use Rattle.table.specs.declared.trie.Walked.{Walked}
+use Rattle.table.specs.States.{known, number, states}
 use Rattle.table.specs.Table.{matchWord}
 
 module _ (t : List ℕ) (c : ℕ) where
@@ -82,3 +84,54 @@ Owned rules s t = (c : ℕ) → c < length s → matched t c ≡ matchWord (lowe
 unfoldable pub failureBy : List ℕ → List ℕ → ℕ → ℕ → ℕ
 failureBy t rows symbols c =
     cond (eqb (parent t c) 0) 0 (getD rows (failure t (parent t c) * symbols + symbol t c) 0)
+
+-- c is the child of q by symbol a, one of n nodes
+pub record IsChild (t : List ℕ) (n q a c : ℕ) : Type 0 where
+  pub some : 0 < c
+  pub node : c < n
+  pub of : parent t c ≡ q
+  pub by : symbol t c ≡ a
+
+-- r is the child of q by symbol a, or n where q has none
+abbrev pub ChildOr : List ℕ → ℕ → ℕ → ℕ → ℕ → Type 0
+ChildOr t n q a r = IsChild t n q a r ⊎ ((r ≡ n) × ((c : ℕ) → IsChild t n q a c → ⊥))
+
+-- t with node n as a child of q by symbol a
+unfoldable pub added : List ℕ → ℕ → ℕ → ℕ → List ℕ
+added t n q a =
+    set
+    (set (set (set (set (set t (8 * n) q) (8 * n + 1) a) (8 * n + 2) (depth t q + 1)) (8 * n + 4) (youngest t q))
+    (8 * q + 3) n)
+    (8 * q + 5) (children t q + 1)
+
+-- A symbol was followed from node q: to a child that was there, or to a node that was added.
+pub record Found (t : List ℕ) (n q a : ℕ) (w : Walked) (t′ : List ℕ) : Type 0 where
+  pub child : IsChild t n q a (w .node)
+  pub nodes : w .nodes ≡ n
+  pub kept : t′ ≡ t
+
+pub record New (t : List ℕ) (n q a : ℕ) (w : Walked) (t′ : List ℕ) : Type 0 where
+  pub none : (c : ℕ) → IsChild t n q a c → ⊥
+  pub node : w .node ≡ n
+  pub nodes : w .nodes ≡ n + 1
+  pub grown : t′ ≡ added t n q a
+
+abbrev pub Followed : List ℕ → ℕ → ℕ → ℕ → Walked → List ℕ → Type 0
+Followed t n q a w t′ = Found t n q a w t′ ⊎ New t n q a w t′
+
+-- t with rule i as the rule of node q, unless a lower rule has it already
+unfoldable pub marked : List ℕ → ℕ → ℕ → List ℕ
+marked t q i = cond (eqb (matched t q) 0) (set t (8 * q + 6) (i + 1)) t
+
+-- t holds the trie of the first i rules, with the rules that their left sides end in
+pub record Grown (set : RuleSet) (i : ℕ) (t : List ℕ) : Type 0 where
+  pub trie : Trie (states (take i (set .rules))) (set .symbols) t
+  pub owned : Owned (take i (set .rules)) (states (take i (set .rules))) t
+
+-- The left side of rule i was followed from the root: each of its prefixes has a node, and it ends in the node w says.
+pub record Followed-rule (set : RuleSet) (i : ℕ) (w : Walked) (t : List ℕ) : Type 0 where
+  pub trie : Trie (states (take (suc i) (set .rules))) (set .symbols) t
+  pub owned : Owned (take i (set .rules)) (states (take (suc i) (set .rules))) t
+  pub nodes : w .nodes ≡ length (states (take (suc i) (set .rules)))
+  pub node : w .node < w .nodes
+  pub ends : getD (states (take (suc i) (set .rules))) (w .node) [] ≡ rule (set .rules) i .left

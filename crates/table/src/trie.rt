@@ -1,8 +1,20 @@
 // The trie of the left sides, one node of eight words for each state. specs/Nodes.antt has the layout.
 ghost use Prim.Native.Nat.{_+_, _*_, _≤_, _<_};
 ghost use mathlib.Core.Path.{_≡_};
-ghost use lib.ListN.{length};
-ghost use Rattle.table.specs.Nodes.{parent, symbol, failure, failureBy};
+ghost use mathlib.Core.Bool.{true};
+ghost use lib.ListN.{length, replicate};
+ghost use Rattle.rewriting.specs.Rules.{rule};
+ghost use Rattle.image.specs.Image.{read, valid};
+ghost use Rattle.image.specs.Places.{leftAt};
+ghost use Rattle.table.specs.States.{states};
+ghost use Rattle.table.specs.Nodes.{parent, symbol, depth, children, failure, failureBy};
+ghost use Rattle.table.specs.Nodes.{Linked, ChildOr, added, Followed, marked, Grown, «Followed-rule»};
+
+// Where a walk has come to, and the number of nodes.
+pub struct Walked {
+    pub node: usize,
+    pub nodes: usize,
+}
 
 // A word as an index.
 pub fn wide(x: u16) -> usize
@@ -25,4 +37,68 @@ pub fn failure_of(trie: &[u16], rows: &[u16], s: usize, q: usize) -> usize
     let a = wide(trie[8 * q + 1]);
     let f = wide(trie[8 * p + 7]);
     wide(rows[f * s + a])
+}
+
+// The child of node q by symbol a, or n, the number of nodes, where it has none.
+fn child(trie: &[u16], n: usize, q: usize, a: u16) -> usize
+    requires links { ⌜ Linked (now trie) n ⌝ }
+    requires node { ⌜ q < n ⌝ }
+    ensures { λ r. ⌜ ChildOr (now (trie .entry)) n q a r ⌝ }
+{
+    let mut c = wide(trie[8 * q + 3]);
+    while 0 < c {
+        if trie[8 * c + 1] == a {
+            return c;
+        }
+        c = wide(trie[8 * c + 4]);
+    }
+    n
+}
+
+// Node n becomes a child of q by symbol a.
+fn add(trie: &mut [u16], n: usize, q: usize, a: u16)
+    requires node { ⌜ (q < n) × (n < 513) ⌝ }
+    requires room { ⌜ 8 * n + 7 < length (now trie) ⌝ }
+    requires counts { ⌜ (depth (now trie) q < 513) × (children (now trie) q < 513) ⌝ }
+    ensures { λ _. ⌜ now (trie .exit) ≡ added (now (trie .entry)) n q a ⌝ }
+{
+    let depth = trie[8 * q + 2];
+    let youngest = trie[8 * q + 3];
+    let children = trie[8 * q + 5];
+    trie[8 * n] = q as u16;
+    trie[8 * n + 1] = a;
+    trie[8 * n + 2] = depth + 1;
+    trie[8 * n + 4] = youngest;
+    trie[8 * q + 3] = n as u16;
+    trie[8 * q + 5] = children + 1;
+}
+
+// The child of node q by symbol a, added where there is none.
+fn follow(trie: &mut [u16], n: usize, q: usize, a: u16) -> Walked
+    requires links { ⌜ Linked (now trie) n ⌝ }
+    requires node { ⌜ (q < n) × (n < 513) ⌝ }
+    requires room { ⌜ 8 * n + 7 < length (now trie) ⌝ }
+    requires counts { ⌜ (depth (now trie) q < 513) × (children (now trie) q < 513) ⌝ }
+    ensures { λ r. ⌜ Followed (now (trie .entry)) n q a r (now (trie .exit)) ⌝ }
+{
+    let c = child(trie, n, q, a);
+    if c < n {
+        return Walked { node: c, nodes: n };
+    }
+    add(trie, n, q, a);
+    Walked {
+        node: n,
+        nodes: n + 1,
+    }
+}
+
+// Rule i becomes the rule of node q, unless a lower rule has it already.
+fn mark(trie: &mut [u16], q: usize, i: usize)
+    requires node { ⌜ 8 * q + 7 < length (now trie) ⌝ }
+    requires rule { ⌜ i < 64 ⌝ }
+    ensures { λ _. ⌜ now (trie .exit) ≡ marked (now (trie .entry)) q i ⌝ }
+{
+    if trie[8 * q + 6] == 0 {
+        trie[8 * q + 6] = (i + 1) as u16;
+    }
 }
