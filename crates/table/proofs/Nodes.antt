@@ -2,11 +2,12 @@
 -- Assumes nothing.
 use Prim.Native.Nat.{ℕ, zero, suc, _+_, _*_, _≤_, _<_}
 use mathlib.Core.Path.{_≡_, refl, sym, ap, _∙_}
-use mathlib.Core.Logic.{_⊎_, inl, inr}
+use mathlib.Core.Logic.{_≢_, _⊎_, inl, inr}
 use mathlib.Core.List.{List}
 use native.Mathlib.Omega.{arith}
-use lib.ListN.{getD}
-use Rattle.table.specs.Nodes.{parent, symbol, youngest, older, Linked, IsChild, ChildOr}
+use lib.ListN.{length, getD, set, length-set}
+use lib.Seq.{getD-set-same, getD-set-other}
+use Rattle.table.specs.Nodes.{parent, symbol, depth, youngest, older, children, matched, Linked, IsChild, ChildOr, added}
 
 -- While a child of q by symbol a is looked for, c is 0 or a child of q, and no child by a is younger.
 abbrev pub Searching : List ℕ → ℕ → ℕ → ℕ → ℕ → Type 0
@@ -44,3 +45,107 @@ child-there t n q a r (inr k) h = absurd (omega (arith, k .0))
 pub child-missing : (t : List ℕ) (n q a r : ℕ) → ChildOr t n q a r → n ≤ r → (c : ℕ) → IsChild t n q a c → ⊥
 child-missing t n q a r (inl k) h = absurd (omega (arith, k .node))
 child-missing t n q a r (inr k) h = k .1
+
+-- Adding node n as a child of q by symbol a: what stands in its six words, and that no other word changes.
+module _ (t : List ℕ) (n q a : ℕ) (lt : q < n) (room : 8 * n + 7 < length t) where
+  pub added-size : length (added t n q a) ≡ length t
+  unfolding added
+  added-size = simp length-set
+
+  pub added-other : (k : ℕ) → k ≢ 8 * n → k ≢ 8 * n + 1 → k ≢ 8 * n + 2 → k ≢ 8 * n + 4 → k ≢ 8 * q + 3 → k ≢ 8 * q + 5
+      → getD (added t n q a) k 0 ≡ getD t k 0
+  unfolding added
+  added-other k h1 h2 h3 h4 h5 h6 = simp getD-set-other
+
+  pub added-parent : parent (added t n q a) n ≡ q
+  unfolding added
+  added-parent =
+      let h2 : 8 * n ≢ 8 * n + 1 = λ e. omega arith in
+      let h3 : 8 * n ≢ 8 * n + 2 = λ e. omega arith in
+      let h4 : 8 * n ≢ 8 * n + 4 = λ e. omega arith in
+      let h5 : 8 * n ≢ 8 * q + 3 = λ e. omega arith in
+      let h6 : 8 * n ≢ 8 * q + 5 = λ e. omega arith in
+      let lt1 : 8 * n < length t = omega arith in
+      simp (getD-set-other, getD-set-same)
+
+  pub added-symbol : symbol (added t n q a) n ≡ a
+  unfolding added
+  added-symbol =
+      let h3 : 8 * n + 1 ≢ 8 * n + 2 = λ e. omega arith in
+      let h4 : 8 * n + 1 ≢ 8 * n + 4 = λ e. omega arith in
+      let h5 : 8 * n + 1 ≢ 8 * q + 3 = λ e. omega arith in
+      let h6 : 8 * n + 1 ≢ 8 * q + 5 = λ e. omega arith in
+      let lt1 : 8 * n + 1 < length (set t (8 * n) q) = simp length-set (omega arith) in
+      simp (getD-set-other, getD-set-same)
+
+  pub added-depth : depth (added t n q a) n ≡ depth t q + 1
+  unfolding added
+  added-depth =
+      let h4 : 8 * n + 2 ≢ 8 * n + 4 = λ e. omega arith in
+      let h5 : 8 * n + 2 ≢ 8 * q + 3 = λ e. omega arith in
+      let h6 : 8 * n + 2 ≢ 8 * q + 5 = λ e. omega arith in
+      let lt1 : 8 * n + 2 < length (set (set t (8 * n) q) (8 * n + 1) a) = simp length-set (omega arith) in
+      simp (getD-set-other, getD-set-same)
+
+  pub added-older : older (added t n q a) n ≡ youngest t q
+  unfolding added
+  added-older =
+      let h5 : 8 * n + 4 ≢ 8 * q + 3 = λ e. omega arith in
+      let h6 : 8 * n + 4 ≢ 8 * q + 5 = λ e. omega arith in
+      let lt1 : 8 * n + 4 < length (set (set (set t (8 * n) q) (8 * n + 1) a) (8 * n + 2) (depth t q + 1)) = simp length-set (omega arith) in
+      simp (getD-set-other, getD-set-same)
+
+  pub added-youngest : youngest (added t n q a) q ≡ n
+  unfolding added
+  added-youngest =
+      let h6 : 8 * q + 3 ≢ 8 * q + 5 = λ e. omega arith in
+      let lt1 :
+      8 * q + 3
+      < length (set (set (set (set t (8 * n) q) (8 * n + 1) a) (8 * n + 2) (depth t q + 1)) (8 * n + 4) (youngest t q)) =
+      simp length-set (omega arith)
+      in
+      simp (getD-set-other, getD-set-same)
+
+  pub added-children : children (added t n q a) q ≡ children t q + 1
+  unfolding added
+  added-children =
+      let lt1 :
+      8 * q + 5
+      < length
+      (set (set (set (set (set t (8 * n) q) (8 * n + 1) a) (8 * n + 2) (depth t q + 1)) (8 * n + 4) (youngest t q)) (8 * q + 3) n) =
+      simp length-set (omega arith)
+      in
+      simp getD-set-same
+
+  -- a word of an older node, at a place other than 3 and 5
+  word-old : (c k : ℕ) → c < n → k < 8 → k ≢ 3 → k ≢ 5 → getD (added t n q a) (8 * c + k) 0 ≡ getD t (8 * c + k) 0
+  word-old c k h small h3 h5 =
+      added-other (8 * c + k) (λ e. omega arith) (λ e. omega arith) (λ e. omega arith) (λ e. omega arith) (λ e. h3 (omega arith))
+      (λ e. h5 (omega arith))
+
+  pub parent-old : (c : ℕ) → c < n → parent (added t n q a) c ≡ parent t c
+  parent-old c h =
+      added-other (8 * c) (λ e. omega arith) (λ e. omega arith) (λ e. omega arith) (λ e. omega arith) (λ e. omega arith)
+      (λ e. omega arith)
+
+  pub symbol-old : (c : ℕ) → c < n → symbol (added t n q a) c ≡ symbol t c
+  symbol-old c h = word-old c 1 h (omega arith) (λ e. omega arith) (λ e. omega arith)
+
+  pub depth-old : (c : ℕ) → c < n → depth (added t n q a) c ≡ depth t c
+  depth-old c h = word-old c 2 h (omega arith) (λ e. omega arith) (λ e. omega arith)
+
+  pub older-old : (c : ℕ) → c < n → older (added t n q a) c ≡ older t c
+  older-old c h = word-old c 4 h (omega arith) (λ e. omega arith) (λ e. omega arith)
+
+  pub matched-old : (c : ℕ) → c < n → matched (added t n q a) c ≡ matched t c
+  matched-old c h = word-old c 6 h (omega arith) (λ e. omega arith) (λ e. omega arith)
+
+  pub youngest-old : (c : ℕ) → c < suc n → c ≢ q → youngest (added t n q a) c ≡ youngest t c
+  youngest-old c h other =
+      added-other (8 * c + 3) (λ e. omega arith) (λ e. omega arith) (λ e. omega arith) (λ e. omega arith)
+      (λ e. other (omega arith)) (λ e. omega arith)
+
+  pub children-old : (c : ℕ) → c < suc n → c ≢ q → children (added t n q a) c ≡ children t c
+  children-old c h other =
+      added-other (8 * c + 5) (λ e. omega arith) (λ e. omega arith) (λ e. omega arith) (λ e. omega arith) (λ e. omega arith)
+      (λ e. other (omega arith))
