@@ -2,11 +2,14 @@
 -- Assumes nothing.
 use Prim.Native.Nat.{ℕ, zero, suc, _+_, _*_, _≤_, _<_}
 use mathlib.Core.Path.{_≡_, refl, sym, ap, _∙_}
+use mathlib.Core.Bool.{Bool, true, false}
 use mathlib.Core.Logic.{_≢_, _⊎_, inl, inr}
 use mathlib.Core.List.{List}
 use native.Mathlib.Omega.{arith}
+use lib.Dec.{eqb, ltb}
 use lib.ListN.{length, getD, set, length-set}
 use lib.Seq.{getD-set-same, getD-set-other}
+use borrow.Author.Tests.{ltb-true, ltb-false, eqb-true, eqb-false}
 use Rattle.table.specs.Nodes.{parent, symbol, depth, youngest, older, children, matched, Linked, IsChild, ChildOr, added}
 
 -- While a child of q by symbol a is looked for, c is 0 or a child of q, and no child by a is younger.
@@ -149,3 +152,112 @@ module _ (t : List ℕ) (n q a : ℕ) (lt : q < n) (room : 8 * n + 7 < length t)
   children-old c h other =
       added-other (8 * c + 5) (λ e. omega arith) (λ e. omega arith) (λ e. omega arith) (λ e. omega arith) (λ e. omega arith)
       (λ e. other (omega arith))
+
+-- one of n + 1 nodes is one of the first n, or the last
+last-or : (n c : ℕ) → c < suc n → (c < n) ⊎ (c ≡ n)
+last-or n c h = go (ltb c n) refl
+  where
+    go : (b : Bool) → ltb c n ≡ b → (c < n) ⊎ (c ≡ n)
+    go true e = inl (ltb-true c n e)
+    go false e = inr (omega (arith, ltb-false c n e))
+
+same-or : (q c : ℕ) → (c ≡ q) ⊎ (c ≢ q)
+same-or q c = go (eqb c q) refl
+  where
+    go : (b : Bool) → eqb c q ≡ b → (c ≡ q) ⊎ (c ≢ q)
+    go true e = inl (eqb-true c q e)
+    go false e = inr (eqb-false c q e)
+
+-- the links hold with the new node
+module _ (t : List ℕ) (n q a : ℕ) (lt : q < n) (room : 8 * n + 7 < length t) (l : Linked t n) (none : youngest t n ≡ 0) where
+  up′ : (c : ℕ) → 0 < c → c < suc n → parent (added t n q a) c < c
+  up′ c some h = go (last-or n c h)
+    where
+      go : (c < n) ⊎ (c ≡ n) → parent (added t n q a) c < c
+      go (inl k) = rw (parent-old t n q a lt room c k) (l .up c some k)
+      go (inr e) = rw (e, added-parent t n q a lt room) lt
+
+  young-new : youngest (added t n q a) n ≡ 0
+  young-new = youngest-old t n q a lt room n (omega arith) (λ e. omega arith) ∙ none
+
+  young′ : (p : ℕ) → p < suc n → youngest (added t n q a) p < suc n
+  young′ p h = go (last-or n p h) (same-or q p)
+    where
+      go : (p < n) ⊎ (p ≡ n) → (p ≡ q) ⊎ (p ≢ q) → youngest (added t n q a) p < suc n
+      go k (inl e) = rw (e, added-youngest t n q a lt room) (omega arith)
+      go (inl k) (inr other) = rw (youngest-old t n q a lt room p h other) (omega (arith, l .young p k))
+      go (inr e) (inr other) = rw (e, young-new) (omega arith)
+
+  young-of′ : (p : ℕ) → p < suc n → 0 < youngest (added t n q a) p → parent (added t n q a) (youngest (added t n q a) p) ≡ p
+  young-of′ p h = go (last-or n p h) (same-or q p)
+    where
+      go : (p < n) ⊎ (p ≡ n) → (p ≡ q) ⊎ (p ≢ q) → 0 < youngest (added t n q a) p
+          → parent (added t n q a) (youngest (added t n q a) p) ≡ p
+      go k (inl e) some = rw (e, added-youngest t n q a lt room) (added-parent t n q a lt room)
+      go (inl k) (inr other) some =
+          let y = youngest-old t n q a lt room p h other in
+          rw y (parent-old t n q a lt room (youngest t p) (l .young p k) ∙ l .young-of p k (rw y at some))
+      go (inr e) (inr other) some = absurd (omega (arith, rw (e, young-new) at some))
+
+  young-last′ : (p c : ℕ) → p < suc n → 0 < c → c < suc n → parent (added t n q a) c ≡ p → c ≤ youngest (added t n q a) p
+  young-last′ p c h some k e = go (last-or n c k) (same-or q p) (last-or n p h)
+    where
+      go : (c < n) ⊎ (c ≡ n) → (p ≡ q) ⊎ (p ≢ q) → (p < n) ⊎ (p ≡ n) → c ≤ youngest (added t n q a) p
+      go x (inl d) y = rw (d, added-youngest t n q a lt room) (omega arith)
+      go (inr d) (inr other) y = absurd (other (sym e ∙ rw (d, added-parent t n q a lt room)))
+      go (inl x) (inr other) (inl y) =
+          rw (youngest-old t n q a lt room p h other) (l .young-last p c y some x (sym (parent-old t n q a lt room c x) ∙ e))
+      go (inl x) (inr other) (inr y) =
+          let d : parent t c ≡ p = sym (parent-old t n q a lt room c x) ∙ e in
+          absurd (omega (arith, l .up c some x))
+
+  old′ : (c : ℕ) → 0 < c → c < suc n → older (added t n q a) c < c
+  old′ c some h = go (last-or n c h)
+    where
+      go : (c < n) ⊎ (c ≡ n) → older (added t n q a) c < c
+      go (inl k) = rw (older-old t n q a lt room c k) (l .old c some k)
+      go (inr e) = rw (e, added-older t n q a lt room) (l .young q lt)
+
+  old-of′ : (c : ℕ) → 0 < c → c < suc n → 0 < older (added t n q a) c
+      → parent (added t n q a) (older (added t n q a) c) ≡ parent (added t n q a) c
+  old-of′ c some h = go (last-or n c h)
+    where
+      go : (c < n) ⊎ (c ≡ n) → 0 < older (added t n q a) c
+          → parent (added t n q a) (older (added t n q a) c) ≡ parent (added t n q a) c
+      go (inl k) more =
+          let o = older-old t n q a lt room c k in
+          let less : older t c < n = omega (arith, l .old c some k) in
+          rw (o, parent-old t n q a lt room c k)
+          (parent-old t n q a lt room (older t c) less ∙ l .old-of c some k (rw o at more))
+      go (inr e) more =
+          let o = added-older t n q a lt room in
+          rw (e, o, added-parent t n q a lt room)
+          (parent-old t n q a lt room (youngest t q) (l .young q lt) ∙ l .young-of q lt (rw (e, o) at more))
+
+  old-next′ : (c b : ℕ) → 0 < c → c < suc n → 0 < b → b < c → parent (added t n q a) b ≡ parent (added t n q a) c
+      → b ≤ older (added t n q a) c
+  old-next′ c b some h pos less = go (last-or n c h)
+    where
+      go : (c < n) ⊎ (c ≡ n) → parent (added t n q a) b ≡ parent (added t n q a) c → b ≤ older (added t n q a) c
+      go (inl k) e =
+          rw (older-old t n q a lt room c k)
+          (l .old-next c b some k pos less
+          (sym (parent-old t n q a lt room b (omega arith)) ∙ e ∙ parent-old t n q a lt room c k))
+      go (inr d) e =
+          let bn : b < n = omega arith in
+          rw (d, added-older t n q a lt room)
+          (l .young-last q b lt pos bn
+          (sym (parent-old t n q a lt room b bn) ∙ e ∙ rw (d, added-parent t n q a lt room)))
+
+  pub linked-added : Linked (added t n q a) (suc n)
+  linked-added =
+      record {
+        size = rw (added-size t n q a lt room) (omega arith);
+        up = up′;
+        young = young′;
+        young-of = young-of′;
+        young-last = young-last′;
+        old = old′;
+        old-of = old-of′;
+        old-next = old-next′;
+      }
