@@ -2,5 +2,6 @@ pub mod Matching
 pub mod States
 pub mod Table
 pub mod Compile
+pub mod Tally
 pub mod Nodes
 pub mod Computed
