@@ -4,4 +4,5 @@ pub mod Table
 pub mod Compile
 pub mod Tally
 pub mod Nodes
+pub mod Growth
 pub mod Computed

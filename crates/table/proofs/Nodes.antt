@@ -154,14 +154,14 @@ module _ (t : List ℕ) (n q a : ℕ) (lt : q < n) (room : 8 * n + 7 < length t)
       (λ e. other (omega arith))
 
 -- one of n + 1 nodes is one of the first n, or the last
-last-or : (n c : ℕ) → c < suc n → (c < n) ⊎ (c ≡ n)
+pub last-or : (n c : ℕ) → c < suc n → (c < n) ⊎ (c ≡ n)
 last-or n c h = go (ltb c n) refl
   where
     go : (b : Bool) → ltb c n ≡ b → (c < n) ⊎ (c ≡ n)
     go true e = inl (ltb-true c n e)
     go false e = inr (omega (arith, ltb-false c n e))
 
-same-or : (q c : ℕ) → (c ≡ q) ⊎ (c ≢ q)
+pub same-or : (q c : ℕ) → (c ≡ q) ⊎ (c ≢ q)
 same-or q c = go (eqb c q) refl
   where
     go : (b : Bool) → eqb c q ≡ b → (c ≡ q) ⊎ (c ≢ q)

@@ -172,10 +172,10 @@ pub state-zero : (rules : List Rule) → getD (states rules) 0 [] ≡ []
 state-zero rules = first-state rules .1
 
 -- each string of the list stands in it once
-abbrev Once : List (List ℕ) → Type 0
+abbrev pub Once : List (List ℕ) → Type 0
 Once s = (i : ℕ) → i < length s → number s (getD s i []) ≡ i
 
-once-new : (s : List (List ℕ)) (v : List ℕ) → known s v ≡ false → Once s → Once (s ++ v ∷ [])
+pub once-new : (s : List (List ℕ)) (v : List ℕ) → known s v ≡ false → Once s → Once (s ++ v ∷ [])
 once-new s v new once i h = go (ltb i (length s)) refl
   where
     go : (b : Bool) → ltb i (length s) ≡ b → number (s ++ v ∷ []) (getD (s ++ v ∷ []) i []) ≡ i
@@ -199,7 +199,7 @@ number-back rules =
 pub number-zero : (rules : List Rule) → number (states rules) [] ≡ 0
 number-zero rules = rw state-zero at (number-back rules 0 (some-state rules))
 
-length-numbered : (s vs : List (List ℕ)) → length (numbered s vs) ≤ length s + length vs
+pub length-numbered : (s vs : List (List ℕ)) → length (numbered s vs) ≤ length s + length vs
 unfolding numbered
 length-numbered s [] = omega arith
 length-numbered s (v ∷ vs) = go (known s v) (length-numbered (cond (known s v) s (s ++ v ∷ [])) vs)
@@ -209,12 +209,12 @@ length-numbered s (v ∷ vs) = go (known s v) (length-numbered (cond (known s v)
     go true h = omega arith
     go false h = omega (arith, simp length-append at h)
 
-length-prefixes : (l : List ℕ) → length (prefixes l) ≡ length l
+pub length-prefixes : (l : List ℕ) → length (prefixes l) ≡ length l
 unfolding prefixes
 length-prefixes [] = refl
 length-prefixes (x ∷ l) = rw (length-map, length-prefixes l)
 
-few-prefixes : (set : RuleSet) (rules : List Rule) → all (ruleInRange set) rules ≡ true
+pub few-prefixes : (set : RuleSet) (rules : List Rule) → all (ruleInRange set) rules ≡ true
     → length (flatMap (λ r. prefixes (r .left)) rules) ≤ 8 * length rules
 unfolding flatMap
 few-prefixes set [] e = omega arith
