@@ -8,6 +8,7 @@ use mathlib.Core.Logic.{_≢_, _⊎_, inl, inr}
 use mathlib.Core.Option.{none}
 use mathlib.Core.List.{List, [], _∷_, _++_}
 use native.Mathlib.Omega.{arith}
+use native.Mathlib.Numerals.{add-one}
 use lib.ListN.{length, getD, length-append, List·getD-append}
 use lib.Seq.{getD-at}
 use Rattle.rewriting.specs.Lists.{same}
@@ -257,3 +258,54 @@ module _ (s : List (List ℕ)) (symbols : ℕ) (t : List ℕ) (h : Trie s symbol
           (added-other t (length s) q a hq room (8 * length s + 6) (λ e. omega arith) (λ e. omega arith) (λ e. omega arith)
           (λ e. omega arith) (λ e. omega arith) (λ e. omega arith)
           ∙ h .clear (8 * length s + 6) (omega arith))
+
+-- A symbol followed from node q, whatever was there.
+module _ (s : List (List ℕ)) (symbols : ℕ) (t : List ℕ) (h : Trie s symbols t) (q a : ℕ) (hq : q < length s) (small : a < symbols)
+    (room : 8 * length s + 7 < length t) where
+  pub record Stepped (w : Walked) (t′ : List ℕ) : Type 0 where
+    pub trie : Trie (numbered s ((getD s q [] ++ a ∷ []) ∷ [])) symbols t′
+    pub nodes : w .nodes ≡ length (numbered s ((getD s q [] ++ a ∷ []) ∷ []))
+    pub node : w .node < length (numbered s ((getD s q [] ++ a ∷ []) ∷ []))
+    pub state : getD (numbered s ((getD s q [] ++ a ∷ []) ∷ [])) (w .node) [] ≡ getD s q [] ++ a ∷ []
+    pub size : length t′ ≡ length t
+    pub owned : (rules : List Rule) → Owned rules s t → (known s (getD s q [] ++ a ∷ []) ≡ false → lowest rules (getD s q [] ++ a ∷ []) ≡ none)
+        → Owned rules (numbered s ((getD s q [] ++ a ∷ []) ∷ [])) t′
+
+  stays : known s (getD s q [] ++ a ∷ []) ≡ true → numbered s ((getD s q [] ++ a ∷ []) ∷ []) ≡ s
+  unfolding numbered
+  stays e = rw e
+
+  grows : known s (getD s q [] ++ a ∷ []) ≡ false
+      → numbered s ((getD s q [] ++ a ∷ []) ∷ []) ≡ s ++ (getD s q [] ++ a ∷ []) ∷ []
+  unfolding numbered
+  grows e = rw e
+
+  stepped-found : (w : Walked) (t′ : List ℕ) → Found t (length s) q a w t′ → Stepped w t′
+  stepped-found w t′ f =
+      let there = child-state s symbols t h q a (w .node) (f .child) in
+      let old : known s (getD s q [] ++ a ∷ []) ≡ true = rw there at (known-at s (w .node) (f .child .node)) in
+      record {
+        trie = rw (stays old, f .kept) h;
+        nodes = rw (stays old) (f .nodes);
+        node = rw (stays old) (f .child .node);
+        state = rw (stays old) there;
+        size = ap length (f .kept);
+        owned = λ rules own low. rw (stays old, f .kept) own;
+      }
+
+  stepped-new : (w : Walked) (t′ : List ℕ) → New t (length s) q a w t′ → Stepped w t′
+  stepped-new w t′ f =
+      let new = no-child s symbols t h q a hq (f .none) in
+      let longer = more-length s symbols t h q a hq small room new in
+      record {
+        trie = rw (grows new, f .grown) (trie-added s symbols t h q a hq small room new);
+        nodes = rw (grows new, longer) (f .nodes ∙ add-one (length s));
+        node = rw (grows new, longer, f .node) (omega arith);
+        state = rw (grows new, f .node) (more-new s symbols t h q a hq small room new);
+        size = rw (f .grown) (added-size t (length s) q a hq room);
+        owned = λ rules own low. rw (grows new, f .grown) (owned-added s symbols t h q a hq small room new rules own (low new));
+      }
+
+  pub stepped : (w : Walked) (t′ : List ℕ) → Followed t (length s) q a w t′ → Stepped w t′
+  stepped w t′ (inl f) = stepped-found w t′ f
+  stepped w t′ (inr f) = stepped-new w t′ f
