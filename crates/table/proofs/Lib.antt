@@ -5,4 +5,5 @@ pub mod Compile
 pub mod Tally
 pub mod Nodes
 pub mod Growth
+pub mod Walk
 pub mod Computed
