@@ -3,26 +3,31 @@
 use Prim.Native.Nat.{ℕ, zero, suc, _+_, _*_, _≤_, _<_}
 use mathlib.Core.Path.{_≡_, refl, sym, ap, _∙_}
 use mathlib.Core.Bool.{Bool, true, false, cond, _||_}
-use mathlib.Core.Option.{none}
+use mathlib.Core.Logic.{_≢_, _⊎_, inl, inr}
+use mathlib.Core.Option.{Option, none, some, Option·map, orElse}
 use mathlib.Core.List.{List, [], _∷_, _++_, map, flatMap, append-nil, append-assoc}
 use native.Mathlib.Omega.{arith}
+use native.Mathlib.Numerals.{add-one}
 use native.Mathlib.Nat.{le-of-suc-le-suc, not-suc-le-zero, min-le-left}
-use lib.Dec.{ltb}
-use lib.ListN.{length, getD, take, drop, length-append, length-take, take-append-drop, List·getD-map}
-use lib.Seq.{take-suc, take-length, take-all}
-use borrow.Author.Tests.{ltb-true}
+use lib.Dec.{eqb, ltb}
+use lib.ListN as ListN
+use lib.ListN.{length, getD, take, drop, length-take, length-set, take-append-drop}
+use lib.Seq.{take-suc, take-all, length-take-le, getD-set-same, getD-set-other}
+use borrow.Author.Tests.{ltb-true, ne-eqb}
 use Rattle.rewriting.specs.Lists.{all, same}
 use Rattle.rewriting.specs.Rules.{Rule, RuleSet, rule, ruleInRange, inRange}
 use Rattle.rewriting.specs.Occurrences.{lowest}
-use Rattle.rewriting.proofs.Lists.{all-left, all-at, or-left, or-right}
+use Rattle.rewriting.proofs.Lists.{all-left, all-at, or-left, or-right, same-eq, same-refl}
 use Rattle.rewriting.proofs.Ranges.{RuleRanges, rule-ranges, ranges, rule-at}
 use Rattle.table.specs.declared.trie.Walked.{Walked}
 use Rattle.table.specs.States.{isPrefix, prefixes, known, numbered, states}
-use Rattle.table.specs.Nodes.{depth, children, Linked, Trie, Owned, Followed, Grown, Followed-rule}
+use Rattle.table.specs.Table.{matchWord}
+use Rattle.table.specs.Nodes.{depth, children, matched, Linked, Trie, Owned, Followed, marked, Grown, Followed-rule}
 use Rattle.table.proofs.Matching.{lowest-no-prefix}
 use Rattle.table.proofs.States.{known-numbered, known-states, length-numbered, length-prefixes, few-prefixes}
 use Rattle.table.proofs.Tally.{tally-most}
-use Rattle.table.proofs.Growth.{Stepped, stepped}
+use Rattle.table.proofs.Nodes.{same-or}
+use Rattle.table.proofs.Growth.{Stepped, stepped, node-once, Kept, trie-kept}
 
 -- strings get their numbers one after another
 numbered-append : (s u v : List (List ℕ)) → numbered s (u ++ v) ≡ numbered (numbered s u) v
@@ -226,3 +231,99 @@ module _ (set : RuleSet) (i : ℕ) where
       whole =
           states-next (set .rules) i lt
           ∙ rw (take-all j (prefixes (rule (set .rules) i .left)) (rw length-prefixes far))
+
+-- the lowest rule with a left side, when a rule more comes last
+lowest-append : (rules : List Rule) (r : Rule) (v : List ℕ)
+    → lowest (rules ++ r ∷ []) v ≡ orElse (lowest rules v) (cond (same (r .left) v) (some (length rules)) none)
+unfolding lowest orElse
+lowest-append [] r v = go (same (r .left) v)
+  where
+    go : (b : Bool) → cond b (some 0) (Option·map suc none) ≡ cond b (some 0) none
+    go true = refl
+    go false = refl
+lowest-append (x ∷ rules) r v = go (same (x .left) v) (same (r .left) v) (lowest rules v) (lowest-append rules r v)
+  where
+    go : (b d : Bool) (o : Option ℕ) → lowest (rules ++ r ∷ []) v ≡ orElse o (cond d (some (length rules)) none)
+        → cond b (some 0) (Option·map suc (lowest (rules ++ r ∷ []) v))
+        ≡ orElse (cond b (some 0) (Option·map suc o)) (cond d (some (suc (length rules))) none)
+    go true d o e = refl
+    go false d (some k) e = rw e
+    go false true none e = rw e
+    go false false none e = rw e
+
+-- Rule i marked at the node that its left side ends in.
+module _ (set : RuleSet) (i : ℕ) (lt : i < length (set .rules)) (w : Walked) (t : List ℕ) (f : Followed-rule set i w t)
+    (room : 8 * w .nodes ≤ length t) where
+  marked-size : length (marked t (w .node) i) ≡ length t
+  unfolding marked
+  marked-size = go (eqb (matched t (w .node)) 0)
+    where
+      go : (b : Bool) → length (cond b (ListN.set t (8 * w .node + 6) (i + 1)) t) ≡ length t
+      go true = length-set t (8 * w .node + 6) (i + 1)
+      go false = refl
+
+  -- only one word changes
+  marked-other : (k : ℕ) → k ≢ 8 * w .node + 6 → getD (marked t (w .node) i) k 0 ≡ getD t k 0
+  unfolding marked
+  marked-other k other = go (eqb (matched t (w .node)) 0)
+    where
+      go : (b : Bool) → getD (cond b (ListN.set t (8 * w .node + 6) (i + 1)) t) k 0 ≡ getD t k 0
+      go true = getD-set-other t (8 * w .node + 6) k (i + 1) 0 other
+      go false = refl
+
+  marked-kept : Kept (length (states (take (suc i) (set .rules)))) t (marked t (w .node) i)
+  marked-kept =
+      record {
+        size = marked-size;
+        word = λ c k h small. marked-other (8 * c + k) (λ e. omega arith);
+        behind = λ k far. marked-other k (λ e. omega (arith, f .node, f .nodes));
+      }
+
+  lowest-next : (v : List ℕ)
+      → lowest (take (suc i) (set .rules)) v
+      ≡ orElse (lowest (take i (set .rules)) v) (cond (same (rule (set .rules) i .left) v) (some i) none)
+  lowest-next v =
+      let n : length (take i (set .rules)) ≡ i = length-take-le i (set .rules) (omega arith) in
+      rw (take-rule (set .rules) i lt, lowest-append (take i (set .rules)) (rule (set .rules) i) v, n)
+
+  -- the node's own rule is the lowest
+  marked-own : matched (marked t (w .node) i) (w .node)
+      ≡ matchWord (orElse (lowest (take i (set .rules)) (rule (set .rules) i .left)) (some i))
+  unfolding marked matchWord orElse
+  marked-own = go (lowest (take i (set .rules)) (rule (set .rules) i .left)) (f .owned (w .node) (rw (f .nodes) at (f .node)) ∙ rw (f .ends))
+    where
+      go : (o : Option ℕ) → matched t (w .node) ≡ matchWord o → matched (marked t (w .node) i) (w .node) ≡ matchWord (orElse o (some i))
+      go none e = rw e (getD-set-same t (8 * w .node + 6) (i + 1) 0 (omega (arith, f .node)) ∙ add-one i)
+      go (some k) e = rw (e, ne-eqb (suc k) 0 (λ z. omega arith)) e
+
+  marked-owned : Owned (take (suc i) (set .rules)) (states (take (suc i) (set .rules))) (marked t (w .node) i)
+  unfolding orElse
+  marked-owned c h = go (same-or (w .node) c)
+    where
+      go : (c ≡ w .node) ⊎ (c ≢ w .node)
+          → matched (marked t (w .node) i) c ≡ matchWord (lowest (take (suc i) (set .rules)) (getD (states (take (suc i) (set .rules))) c []))
+      go (inl e) = rw (e, f .ends, lowest-next (rule (set .rules) i .left), same-refl (rule (set .rules) i .left)) marked-own
+      go (inr other) =
+          rw (lowest-next (getD (states (take (suc i) (set .rules))) c []), unlike (same (rule (set .rules) i .left) (getD (states (take (suc i) (set .rules))) c [])) refl)
+          (marked-other (8 * c + 6) (λ e. other (omega arith)) ∙ f .owned c h ∙ rw orElse-none)
+        where
+          unlike : (b : Bool) → same (rule (set .rules) i .left) (getD (states (take (suc i) (set .rules))) c []) ≡ b → b ≡ false
+          unlike true e =
+              let eq = same-eq (rule (set .rules) i .left) (getD (states (take (suc i) (set .rules))) c []) e in
+              absurd
+              (other
+              (node-once (states (take (suc i) (set .rules))) (set .symbols) t (f .trie) c (w .node) h (rw (f .nodes) at (f .node))
+              (sym eq ∙ sym (f .ends))))
+          unlike false e = refl
+
+          orElse-none : (o : Option ℕ) → orElse o none ≡ o
+          orElse-none none = refl
+          orElse-none (some k) = refl
+
+  -- The trie of a rule more.
+  pub grown-next : Grown set (suc i) (marked t (w .node) i)
+  grown-next =
+      record {
+        trie = trie-kept (states (take (suc i) (set .rules))) (set .symbols) t (marked t (w .node) i) marked-kept (f .trie);
+        owned = marked-owned;
+      }
