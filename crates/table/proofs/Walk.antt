@@ -11,7 +11,7 @@ use native.Mathlib.Numerals.{add-one}
 use native.Mathlib.Nat.{le-of-suc-le-suc, not-suc-le-zero, min-le-left}
 use lib.Dec.{eqb, ltb}
 use lib.ListN as ListN
-use lib.ListN.{length, getD, take, drop, length-take, length-set, take-append-drop}
+use lib.ListN.{length, getD, take, drop, replicate, length-take, length-set, length-replicate, take-append-drop}
 use lib.Seq.{take-suc, take-all, length-take-le, getD-set-same, getD-set-other}
 use borrow.Author.Tests.{ltb-true, ne-eqb}
 use Rattle.rewriting.specs.Lists.{all, same}
@@ -19,13 +19,16 @@ use Rattle.rewriting.specs.Rules.{Rule, RuleSet, rule, ruleInRange, inRange}
 use Rattle.rewriting.specs.Occurrences.{lowest}
 use Rattle.rewriting.proofs.Lists.{all-left, all-at, or-left, or-right, same-eq, same-refl}
 use Rattle.rewriting.proofs.Ranges.{RuleRanges, rule-ranges, ranges, rule-at}
+use Rattle.image.specs.Image.{body, read, valid}
+use Rattle.image.specs.Places.{leftAt}
+use Rattle.image.proofs.Places.{left-first, left-next, left-within, left-symbol, body-left}
 use Rattle.table.specs.declared.trie.Walked.{Walked}
-use Rattle.table.specs.States.{isPrefix, prefixes, known, numbered, states}
+use Rattle.table.specs.States.{isPrefix, prefixes, known, number, numbered, states}
 use Rattle.table.specs.Table.{matchWord}
-use Rattle.table.specs.Nodes.{depth, children, matched, Linked, Trie, Owned, Followed, marked, Grown, Followed-rule}
+use Rattle.table.specs.Nodes.{depth, children, matched, Linked, Trie, Owned, Followed, marked, Grown, Followed-rule, Built}
 use Rattle.table.proofs.Matching.{lowest-no-prefix}
 use Rattle.table.proofs.States.{known-numbered, known-states, length-numbered, length-prefixes, few-prefixes}
-use Rattle.table.proofs.Tally.{tally-most}
+use Rattle.table.proofs.Tally.{tally-most, tally-none}
 use Rattle.table.proofs.Nodes.{same-or}
 use Rattle.table.proofs.Growth.{Stepped, stepped, node-once, Kept, trie-kept}
 
@@ -327,3 +330,109 @@ module _ (set : RuleSet) (i : ℕ) (lt : i < length (set .rules)) (w : Walked) (
         trie = trie-kept (states (take (suc i) (set .rules))) (set .symbols) t (marked t (w .node) i) marked-kept (f .trie);
         owned = marked-owned;
       }
+
+-- the symbols of a left side in the image
+module _ (b : List ℕ) (e : valid b ≡ true) (i at j : ℕ) (lt : i < length (read b .rules)) (here : at ≡ leftAt (read b) i)
+    (more : j < length (rule (read b .rules) i .left)) where
+  pub symbol-within : at + j < length b
+  symbol-within = omega (arith, left-within b e i lt, body-left (rule (read b .rules) i))
+
+  pub symbol-at : getD b (at + j) 0 ≡ getD (rule (read b .rules) i .left) j 0
+  symbol-at = rw here (left-symbol b e i j lt more)
+
+-- The trie after i rules, the number of its nodes and where the next rule's left side begins.
+pub record Building (set : RuleSet) (i n at : ℕ) (t : List ℕ) : Type 0 where
+  pub within : i ≤ length (set .rules)
+  pub grown : Grown set i t
+  pub nodes : n ≡ length (states (take i (set .rules)))
+  pub place : at ≡ leftAt set i
+  pub size : length t ≡ 4104
+
+-- words that are all 0 hold the trie of no rules
+pub build-first : (set : RuleSet) (t : List ℕ) → t ≡ replicate 4104 0 → (at : ℕ) → at ≡ 4 + 4 * length (set .rules) → Building set 0 1 at t
+unfolding states numbered number lowest matchWord flatMap known
+build-first set t zeros at here =
+    record {
+      within = omega arith;
+      grown = record { trie = first; owned = λ c h. zero-at (8 * c + 6) };
+      nodes = refl;
+      place = here ∙ sym (left-first set);
+      size = size;
+    }
+  where
+    size : length t ≡ 4104
+    size = rw zeros (length-replicate {A = ℕ} 4104 0)
+
+    zero-at : (k : ℕ) → getD t k 0 ≡ 0
+    zero-at k = rw zeros (go 4104 k)
+      where
+        go : (n k : ℕ) → getD (replicate {A = ℕ} n 0) k 0 ≡ 0
+        go zero k = refl
+        go (suc n) zero = refl
+        go (suc n) (suc k) = go n k
+
+    only : (c : ℕ) → 0 < c → c < 1 → ⊥
+    only c pos h = omega arith
+
+    single : (q : ℕ) → q < 1 → q ≡ 0
+    single q h = omega arith
+
+    empty : (c : ℕ) → c < 1 → _≡_ {A = List ℕ} (getD ([] ∷ []) c []) []
+    empty zero h = refl
+    empty (suc c) h = refl
+
+    first : Trie ([] ∷ []) (set .symbols) t
+    first =
+        record {
+          linked =
+              record {
+                size = omega (arith, size);
+                up = λ c pos h. absurd (only c pos h);
+                young = λ q h. rw (zero-at (8 * q + 3)) (omega arith);
+                young-of = λ q h pos. absurd (omega (arith, zero-at (8 * q + 3)));
+                young-last = λ q c h pos k e. absurd (only c pos k);
+                old = λ c pos h. absurd (only c pos h);
+                old-of = λ c pos h more. absurd (only c pos h);
+                old-next = λ c b more h pos less e. absurd (only c more h);
+              };
+          some-node = omega arith;
+          root = refl;
+          once = λ i h. let e = single i h in rw e;
+          made = λ c pos h. absurd (only c pos h);
+          small = λ c pos h. absurd (only c pos h);
+          deep = λ c h. rw (zero-at (8 * c + 2), empty c h);
+          counted = λ c h. rw (zero-at (8 * c + 5), empty c h) (sym (tally-none (λ a. known ([] ∷ []) ([] ++ a ∷ [])) (set .symbols) (λ a k. refl)));
+          clear = λ k far. zero-at k;
+        }
+
+-- a rule more
+pub build-next : (set : RuleSet) → (i n at : ℕ) (t : List ℕ) → Building set i n at t → i < length (set .rules)
+    → (w : Walked) (t′ : List ℕ) → Followed-rule set i w t′ → 8 * w .nodes ≤ length t′ → length t′ ≡ 4104
+    → (t″ : List ℕ) → t″ ≡ marked t′ (w .node) i → length t″ ≡ 4104
+    → (n′ : ℕ) → n′ ≡ length (body (rule (set .rules) i)) → Building set (suc i) (w .nodes) (at + n′) t″
+build-next set i n at t b lt w t′ f room size t″ e size″ n′ long =
+    record {
+      within = lt;
+      grown = rw e (grown-next set i lt w t′ f room);
+      nodes = f .nodes;
+      place = rw (long, b .place) (sym (left-next set i lt));
+      size = size″;
+    }
+
+-- the states of a rule more still fit
+pub followed-room : (set : RuleSet) → inRange set ≡ true → (i : ℕ) → i < length (set .rules) → (w : Walked) (t : List ℕ)
+    → Followed-rule set i w t → (8 * w .nodes ≤ 4104) × (i < 64) × (8 * w .node + 7 < 4104)
+followed-room set e i lt w t f =
+    let few : w .nodes ≤ 513 = omega (arith, f .nodes, few-first set (suc i) e, ranges set e) in
+    (omega arith, omega (arith, ranges set e), omega (arith, f .node))
+
+-- all rules
+pub build-last : (set : RuleSet) (i n at : ℕ) (t : List ℕ) → Building set i n at t → length (set .rules) ≤ i → Built set n t
+build-last set i n at t b far =
+    let whole : take i (set .rules) ≡ set .rules = take-all i (set .rules) far in
+    record {
+      trie = rw whole at (b .grown .trie);
+      owned = rw whole at (b .grown .owned);
+      nodes = rw whole at (b .nodes);
+      size = b .size;
+    }

@@ -135,3 +135,10 @@ pub record Followed-rule (set : RuleSet) (i : ℕ) (w : Walked) (t : List ℕ) :
   pub nodes : w .nodes ≡ length (states (take (suc i) (set .rules)))
   pub node : w .node < w .nodes
   pub ends : getD (states (take (suc i) (set .rules))) (w .node) [] ≡ rule (set .rules) i .left
+
+-- t holds the trie of all rules, which has n nodes
+pub record Built (set : RuleSet) (n : ℕ) (t : List ℕ) : Type 0 where
+  pub trie : Trie (states (set .rules)) (set .symbols) t
+  pub owned : Owned (set .rules) (states (set .rules)) t
+  pub nodes : n ≡ length (states (set .rules))
+  pub size : length t ≡ 4104

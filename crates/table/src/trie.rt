@@ -2,13 +2,13 @@
 ghost use Prim.Native.Nat.{_+_, _*_, _≤_, _<_};
 ghost use mathlib.Core.Path.{_≡_};
 ghost use mathlib.Core.Bool.{true};
-ghost use lib.ListN.{length, replicate};
+ghost use lib.ListN.{length, take, replicate};
 ghost use Rattle.rewriting.specs.Rules.{rule};
 ghost use Rattle.image.specs.Image.{read, valid};
 ghost use Rattle.image.specs.Places.{leftAt};
 ghost use Rattle.table.specs.States.{states};
 ghost use Rattle.table.specs.Nodes.{parent, symbol, depth, children, failure, failureBy};
-ghost use Rattle.table.specs.Nodes.{Linked, ChildOr, added, Followed, marked, Grown, «Followed-rule»};
+ghost use Rattle.table.specs.Nodes.{Linked, ChildOr, added, Followed, marked, Grown, «Followed-rule», Built};
 
 // Where a walk has come to, and the number of nodes.
 pub struct Walked {
@@ -21,6 +21,13 @@ pub fn wide(x: u16) -> usize
     ensures { λ r. ⌜ r ≡ x ⌝ }
 {
     x as usize
+}
+
+// A symbol as a word.
+fn word(x: u8) -> u16
+    ensures { λ r. ⌜ r ≡ x ⌝ }
+{
+    x as u16
 }
 
 // The failure state of node q, by the failure state of its parent and the row of that: state 0 for a child of the root.
@@ -101,4 +108,45 @@ fn mark(trie: &mut [u16], q: usize, i: usize)
     if trie[8 * q + 6] == 0 {
         trie[8 * q + 6] = (i + 1) as u16;
     }
+}
+
+// Follows the left side of rule i, which begins at byte `at`, in the trie of the n states of the rules before it.
+fn walk(image: &[u8], i: usize, at: usize, trie: &mut [u16], n: usize) -> Walked
+    requires image { ⌜ valid (now image) ≡ true ⌝ }
+    requires rule { ⌜ (i < length (read (now image) .rules)) × (at ≡ leftAt (read (now image)) i) ⌝ }
+    requires trie { ⌜ (Grown (read (now image)) i (now trie)) × (length (now trie) ≡ 4104) ⌝ }
+    requires nodes { ⌜ n ≡ length (states (take i (read (now image) .rules))) ⌝ }
+    ensures { λ r. ⌜ («Followed-rule» (read (now (image .entry))) i r (now (trie .exit))) × (length (now (trie .exit)) ≡ 4104) ⌝ }
+{
+    let long = image::left_length(image, i);
+    let mut q = 0;
+    let mut nodes = n;
+    let mut j = 0;
+    while j < long {
+        let w = follow(trie, nodes, q, word(image[at + j]));
+        q = w.node;
+        nodes = w.nodes;
+        j += 1;
+    }
+    Walked { node: q, nodes }
+}
+
+// The trie of all left sides, in words that were 0, and the number of its nodes.
+pub fn build(image: &[u8], trie: &mut [u16]) -> usize
+    requires image { ⌜ valid (now image) ≡ true ⌝ }
+    requires trie { ⌜ now trie ≡ replicate 4104 0 ⌝ }
+    ensures { λ r. ⌜ Built (read (now (image .entry))) r (now (trie .exit)) ⌝ }
+{
+    let rules = image::rules(image);
+    let mut n = 1;
+    let mut at = 4 + 4 * rules;
+    let mut i = 0;
+    while i < rules {
+        let w = walk(image, i, at, trie, n);
+        mark(trie, w.node, i);
+        n = w.nodes;
+        at += image::body_length(image, i);
+        i += 1;
+    }
+    n
 }
