@@ -6,19 +6,18 @@ use mathlib.Core.Path.{_≡_, refl, sym, ap, _∙_}
 use mathlib.Core.Bool.{Bool, true, false, cond, _&&_}
 use mathlib.Core.Logic.{_⊎_, inl, inr, ⊎-elim}
 use mathlib.Core.List.{List, [], _∷_, _++_, append-nil, append-assoc, flatMap}
+use native.Mathlib.Numerals.{add-one}
 use native.Mathlib.Omega.{arith}
-use native.Mathlib.Nat.{not-suc-le-zero}
 use lib.Dec.{eqb, leb, ltb}
 use lib.ListN.{length, getD, take, drop, length-append, length-drop, take-append-drop}
-use lib.Seq.{take-add, drop-drop, length-take-le}
+use lib.Seq.{take-all, take-add, take-suc, drop-drop, getD-drop, length-take-le}
 use borrow.Author.Tests.{eqb-true, leb-true, ltb-true, lt-ltb, le-ltb, le-leb, lt-leb, eq-eqb, ne-eqb}
-use Rattle.rewriting.specs.Lists.{all, below, between, same}
-use Rattle.rewriting.specs.Rules.{Right, Put, Close, symbolsOf, Rule, _⇒_, RuleSet, rightInRange, ruleInRange, inRange}
+use Rattle.rewriting.specs.Lists.{all, below, between}
+use Rattle.rewriting.specs.Rules.{Right, Put, Close, symbolsOf, Rule, RuleSet, rightInRange, ruleInRange, inRange}
 use Rattle.rewriting.proofs.Lists.{
   and-left,
   and-right,
   and-both,
-  all-append,
   all-left,
   all-right,
   all-flatMap,
@@ -26,7 +25,7 @@ use Rattle.rewriting.proofs.Lists.{
   between-high,
   eq-same,
 }
-use Rattle.rewriting.proofs.Ranges.{length-right, right-below, RuleRanges, rule-ranges, Ranges, ranges}
+use Rattle.rewriting.proofs.Ranges.{RuleRanges, rule-ranges, Ranges, ranges}
 use Rattle.image.specs.Image.{
   kind,
   lengthOrVerdict,
@@ -39,7 +38,7 @@ use Rattle.image.specs.Image.{
   read,
   valid,
 }
-use Rattle.image.specs.Check.{Header, bodySize, firstSize, announces}
+use Rattle.image.specs.Check.{Decides, Header, bodySize, firstSize, announces}
 use Rattle.image.proofs.Image.{valid-in-range, valid-encoding, drop-contents, length-image, drop-image, body-below}
 use Rattle.image.proofs.Places.{contents-within, header-symbols, header-rules, header-verdicts, header-events, body-left}
 
@@ -101,6 +100,80 @@ pub announces-end : (v : ℕ) (c : List ℕ) (m : ℕ) → announces v 0 c m ≡
 unfolding announces
 announces-end v c m = refl
 
+-- A turn of the loop over the contents: rule i of n, in the bytes b, with m symbols left.
+module _ (v n : ℕ) (b : List ℕ) (m i : ℕ) (more : i < n) where
+  turns : n - i ≡ suc (n - (i + 1))
+  turns = omega arith
+
+  pub turn-out : firstSize v (drop (4 + 4 * i) b) < 1 → announces v (n - i) (drop (4 + 4 * i) b) m ≡ false
+  turn-out h = rw turns (announces-out v (n - (i + 1)) (drop (4 + 4 * i) b) m h)
+
+  pub turn-more : m < firstSize v (drop (4 + 4 * i) b) → announces v (n - i) (drop (4 + 4 * i) b) m ≡ false
+  turn-more h = rw turns (announces-more v (n - (i + 1)) (drop (4 + 4 * i) b) m h)
+
+  pub turn-on :
+      1 ≤ firstSize v (drop (4 + 4 * i) b) → firstSize v (drop (4 + 4 * i) b) ≤ m
+      → announces v (n - (i + 1)) (drop (4 + 4 * (i + 1)) b) (m - firstSize v (drop (4 + 4 * i) b))
+      ≡ announces v (n - i) (drop (4 + 4 * i) b) m
+  turn-on some fits =
+      let behind : 4 + 4 * (i + 1) ≡ 4 + 4 * i + 4 = omega arith in
+      let next : drop (4 + 4 * (i + 1)) b ≡ drop 4 (drop (4 + 4 * i) b) = rw behind (sym (drop-drop 4 (4 + 4 * i) b)) in
+      rw (turns, next) (sym (announces-on v (n - (i + 1)) (drop (4 + 4 * i) b) m some fits))
+
+-- the contents of a rule that begin at a place
+pub size-at :
+    (v : ℕ) (b : List ℕ) (i : ℕ)
+    → bodySize v (getD b i 0) (getD b (i + 1) 0) (getD b (i + 2) 0) (getD b (i + 3) 0) ≡ firstSize v (drop i b)
+unfolding firstSize
+size-at v b i =
+    let here : i + 0 ≡ i = omega arith in
+    rw (getD-drop i b 0, getD-drop i b 1, getD-drop i b 2, getD-drop i b 3, here)
+
+no-right : (t : Bool) → (t && false) ≡ false
+no-right true = refl
+no-right false = refl
+
+-- One symbol more, and the largest so far.
+below-last : (s : ℕ) (xs : List ℕ) (x : ℕ) → below s (xs ++ x ∷ []) ≡ (below s xs && ltb x s)
+below-last s [] x = go (ltb x s)
+  where
+    go : (t : Bool) → (t && true) ≡ t
+    go true = refl
+    go false = refl
+below-last s (y ∷ xs) x = go (ltb y s) (below-last s xs x)
+  where
+    go :
+        (t : Bool) → below s (xs ++ x ∷ []) ≡ (below s xs && ltb x s)
+        → (t && below s (xs ++ x ∷ [])) ≡ (t && below s xs && ltb x s)
+    go true e = e
+    go false e = refl
+
+below-next :
+    (s : ℕ) (xs : List ℕ) (i : ℕ) → i < length xs
+    → below s (take (i + 1) xs) ≡ (below s (take i xs) && ltb (getD xs i 0) s)
+below-next s xs i h = rw (add-one, take-suc xs i 0) (below-last s (take i xs) (getD xs i 0))
+
+module _ (s : ℕ) (xs : List ℕ) (i most : ℕ) (h : i < length xs) (so-far : ltb most s ≡ below s (take i xs)) where
+  pub most-new : most < getD xs i 0 → ltb (getD xs i 0) s ≡ below s (take (i + 1) xs)
+  most-new less = rw (below-next s xs i h, ← so-far) (go (ltb (getD xs i 0) s) refl)
+    where
+      go : (t : Bool) → ltb (getD xs i 0) s ≡ t → ltb (getD xs i 0) s ≡ (ltb most s && ltb (getD xs i 0) s)
+      go true e =
+          let lt : getD xs i 0 < s = ltb-true (getD xs i 0) s e in
+          let also : most < s = omega arith in
+          rw (lt-ltb most s also)
+      go false e = rw e (sym (no-right (ltb most s)))
+
+  pub most-kept : getD xs i 0 ≤ most → ltb most s ≡ below s (take (i + 1) xs)
+  most-kept le = rw (below-next s xs i h, ← so-far) (go (ltb most s) refl)
+    where
+      go : (t : Bool) → ltb most s ≡ t → ltb most s ≡ (ltb most s && ltb (getD xs i 0) s)
+      go true e =
+          let lt : most < s = ltb-true most s e in
+          let also : getD xs i 0 < s = omega arith in
+          rw (e, lt-ltb (getD xs i 0) s also)
+      go false e = rw e
+
 -- What a size above 0 says of the contents.
 data Sizes (v left kind n last size : ℕ) : Type 0 where
   String : 1 ≤ left → left ≤ 8 → last ≡ 0 → kind ≡ 0 → n ≤ 8 → size ≡ left + n → Sizes v left kind n last size
@@ -146,6 +219,10 @@ all-take test n b e = all-left test (take n b) (drop n b) (rw take-append-drop e
 
 all-drop : (test : ℕ → Bool) (n : ℕ) (b : List ℕ) → all test b ≡ true → all test (drop n b) ≡ true
 all-drop test n b e = all-right test (take n b) (drop n b) (rw take-append-drop e)
+
+-- all that stands behind a place
+pub all-behind : (n : ℕ) (b : List ℕ) → take (length b - n) (drop n b) ≡ drop n b
+all-behind n b = take-all (length b - n) (drop n b) (omega (arith, length-drop n b))
 
 -- the first 4 numbers
 first-four :
@@ -376,21 +453,46 @@ module _ (b : List ℕ) (e : valid b ≡ true) where
       rw (n, behind, s)
       (all-flatMap (ruleInRange set) (λ x. ltb x (set .symbols)) body (body-below set) (set .rules) (h .all-rules))
 
+-- What a check's answer says.
+pub decided : {P : Type 0} (t : Bool) → t ≡ true → Decides t P → P
+decided true e d = d
+decided false e d = let z : _≡_ {A = ℕ} 0 1 = cc in absurd (omega arith)
+
+pub denied : {P : Type 0} (t : Bool) → t ≡ false → Decides t P → P → ⊥
+denied true e d = let z : _≡_ {A = ℕ} 0 1 = cc in absurd (omega arith)
+denied false e d = d
+
 -- What is refused is not valid.
-pub refused : (p : Bool) → (p ≡ true → ⊥) → p ≡ false
-refused true h = absurd (h refl)
-refused false h = refl
+pub refused : (b : List ℕ) → (valid b ≡ true → ⊥) → false ≡ valid b
+refused b h = go (valid b) h
+  where
+    go : (p : Bool) → (p ≡ true → ⊥) → false ≡ p
+    go true h = absurd (h refl)
+    go false h = refl
 
 agree : (p q : Bool) → (p ≡ true → q ≡ true) → (q ≡ true → p ≡ true) → p ≡ q
 agree true q f g = sym (f refl)
 agree false true f g = g refl
 agree false false f g = refl
 
+-- With n rules: contents that do not announce what follows them are refused.
+pub unannounced :
+    (b : List ℕ) (n : ℕ) → n ≡ getD b 1 0
+    → announces (getD b 2 0) n (drop 4 b) (length b - (4 + 4 * n)) ≡ false → false ≡ valid b
+unannounced b n e h =
+    refused b
+    (λ v.
+    let yes = valid-announces b v in
+    let no : announces (getD b 2 0) (getD b 1 0) (drop 4 b) (length b - (4 + 4 * getD b 1 0)) ≡ false = rw e at h in
+    let z : _≡_ {A = ℕ} 0 1 = cc in
+    omega arith)
+
 -- With the header and the contents in range, the symbols' range decides.
 pub checked :
-    (b : List ℕ) → Header (getD b 0 0) (getD b 1 0) (getD b 2 0) (getD b 3 0) → 4 + 4 * getD b 1 0 ≤ length b
-    → announces (getD b 2 0) (getD b 1 0) (drop 4 b) (length b - (4 + 4 * getD b 1 0)) ≡ true
-    → below (getD b 0 0) (drop (4 + 4 * getD b 1 0) b) ≡ valid b
-checked b h room announced =
-    agree (below (getD b 0 0) (drop (4 + 4 * getD b 1 0) b)) (valid b) (checked-valid b h room announced)
-    (valid-symbols b)
+    (b : List ℕ) (n : ℕ) → n ≡ getD b 1 0 → Header (getD b 0 0) (getD b 1 0) (getD b 2 0) (getD b 3 0)
+    → 4 + 4 * n ≤ length b → announces (getD b 2 0) n (drop 4 b) (length b - (4 + 4 * n)) ≡ true
+    → below (getD b 0 0) (drop (4 + 4 * n) b) ≡ valid b
+checked b n e h room announced =
+    rw e
+    (agree (below (getD b 0 0) (drop (4 + 4 * getD b 1 0) b)) (valid b)
+    (checked-valid b h (omega arith) (rw e at announced)) (valid-symbols b))
