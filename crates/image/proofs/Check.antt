@@ -44,13 +44,17 @@ use Rattle.image.proofs.Places.{contents-within, header-symbols, header
 
 -- The size that a rule's contents announce, where they are in range, and where a byte is not.
 module _ (v left kind n last : ℕ) where
-  pub size-string : 1 ≤ left → left ≤ 8 → last ≡ 0 → kind ≡ 0 → n ≤ 8 → bodySize v left kind n last ≡ left + n
+  pub size-string :
+      (1 ≤ left) × (left ≤ 8) × (last ≡ 0) × (kind ≡ 0) × (n ≤ 8) → bodySize v left kind n last ≡ left + n
   unfolding bodySize
-  size-string a b z k h = rw (le-leb 1 left a, le-leb left 8 b, eq-eqb last 0 z, eq-eqb kind 0 k, le-leb n 8 h)
+  size-string h =
+      rw (le-leb 1 left (h .0), le-leb left 8 (h .1), eq-eqb last 0 (h .2), eq-eqb kind 0 (h .3), le-leb n 8 (h .4))
 
-  pub size-verdict : 1 ≤ left → left ≤ 8 → last ≡ 0 → kind ≡ 1 → n < v → bodySize v left kind n last ≡ left
+  pub size-verdict :
+      (1 ≤ left) × (left ≤ 8) × (last ≡ 0) × (kind ≡ 1) × (n < v) → bodySize v left kind n last ≡ left
   unfolding bodySize
-  size-verdict a b z k h = rw (le-leb 1 left a, le-leb left 8 b, eq-eqb last 0 z, k, lt-ltb n v h)
+  size-verdict h =
+      rw (le-leb 1 left (h .0), le-leb left 8 (h .1), eq-eqb last 0 (h .2), h .3, lt-ltb n v (h .4))
 
   pub size-no-left : left < 1 → bodySize v left kind n last ≡ 0
   unfolding bodySize
@@ -60,23 +64,28 @@ module _ (v left kind n last : ℕ) where
   unfolding bodySize
   size-long-left h = let a : 1 ≤ left = omega arith in rw (le-leb 1 left a, lt-leb left 8 h)
 
-  pub size-last : 1 ≤ left → left ≤ 8 → (last ≡ 0 → ⊥) → bodySize v left kind n last ≡ 0
+  pub size-last : (1 ≤ left) × (left ≤ 8) × (0 < last) → bodySize v left kind n last ≡ 0
   unfolding bodySize
-  size-last a b h = rw (le-leb 1 left a, le-leb left 8 b, ne-eqb last 0 h)
+  size-last h =
+      rw (le-leb 1 left (h .0), le-leb left 8 (h .1), ne-eqb last 0 (λ (e : last ≡ 0). omega (arith, h .2)))
 
   pub size-long-right :
-      1 ≤ left → left ≤ 8 → last ≡ 0 → kind ≡ 0 → 8 < n → bodySize v left kind n last ≡ 0
+      (1 ≤ left) × (left ≤ 8) × (last ≡ 0) × (kind ≡ 0) × (8 < n) → bodySize v left kind n last ≡ 0
   unfolding bodySize
-  size-long-right a b z k h = rw (le-leb 1 left a, le-leb left 8 b, eq-eqb last 0 z, eq-eqb kind 0 k, lt-leb n 8 h)
+  size-long-right h =
+      rw (le-leb 1 left (h .0), le-leb left 8 (h .1), eq-eqb last 0 (h .2), eq-eqb kind 0 (h .3), lt-leb n 8 (h .4))
 
-  pub size-kind :
-      1 ≤ left → left ≤ 8 → last ≡ 0 → (kind ≡ 0 → ⊥) → (kind ≡ 1 → ⊥) → bodySize v left kind n last ≡ 0
+  pub size-kind : (1 ≤ left) × (left ≤ 8) × (last ≡ 0) × (1 < kind) → bodySize v left kind n last ≡ 0
   unfolding bodySize
-  size-kind a b z k h = rw (le-leb 1 left a, le-leb left 8 b, eq-eqb last 0 z, ne-eqb kind 0 k, ne-eqb kind 1 h)
+  size-kind h =
+      rw (le-leb 1 left (h .0), le-leb left 8 (h .1), eq-eqb last 0 (h .2))
+      (rw (ne-eqb kind 0 (λ (e : kind ≡ 0). omega (arith, h .3)), ne-eqb kind 1 (λ (e : kind ≡ 1). omega (arith, h .3))))
 
-  pub size-no-verdict : 1 ≤ left → left ≤ 8 → last ≡ 0 → kind ≡ 1 → v ≤ n → bodySize v left kind n last ≡ 0
+  pub size-no-verdict :
+      (1 ≤ left) × (left ≤ 8) × (last ≡ 0) × (kind ≡ 1) × (v ≤ n) → bodySize v left kind n last ≡ 0
   unfolding bodySize
-  size-no-verdict a b z k h = rw (le-leb 1 left a, le-leb left 8 b, eq-eqb last 0 z, k, le-ltb n v h)
+  size-no-verdict h =
+      rw (le-leb 1 left (h .0), le-leb left 8 (h .1), eq-eqb last 0 (h .2), h .3, le-ltb n v (h .4))
 
 -- One rule of the contents more: out of range, announcing more symbols than are left, or neither.
 module _ (v n : ℕ) (c : List ℕ) (m : ℕ) where
@@ -379,10 +388,10 @@ size-of :
     → bodySize (set .verdicts) (length left) (kind x) (lengthOrVerdict x) 0 ≡ length left + length (symbolsOf x)
 unfolding kind lengthOrVerdict symbolsOf rightInRange
 size-of set left (Put v) some few e =
-    size-string (set .verdicts) (length left) 0 (length v) 0 some few refl refl
-    (leb-true (length v) 8 (and-left (leb (length v) 8) (below (set .symbols) v) e))
+    size-string (set .verdicts) (length left) 0 (length v) 0
+    (some, few, refl, refl, leb-true (length v) 8 (and-left (leb (length v) 8) (below (set .symbols) v) e))
 size-of set left (Close v) some few e =
-    size-verdict (set .verdicts) (length left) 1 v 0 some few refl refl (ltb-true v (set .verdicts) e) ∙ omega arith
+    size-verdict (set .verdicts) (length left) 1 v 0 (some, few, refl, refl, ltb-true v (set .verdicts) e) ∙ omega arith
 
 size-rule :
     (set : RuleSet) (r : Rule) (x : List ℕ) → ruleInRange set r ≡ true
