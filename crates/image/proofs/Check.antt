@@ -38,9 +38,16 @@ use Rattle.image.specs.Image.{
   read,
   valid,
 }
-use Rattle.image.specs.Check.{Decides, Header, bodySize, firstSize, announces}
+use Rattle.image.specs.Check.{Decides, Header, bodySize, firstSize, announces, announced}
 use Rattle.image.proofs.Image.{valid-in-range, valid-encoding, drop-contents, length-image, drop-image, body-below}
-use Rattle.image.proofs.Places.{contents-within, header-symbols, header-rules, header-verdicts, header-events, body-left}
+use Rattle.image.proofs.Places.{
+  contents-within,
+  header-symbols,
+  header-rules,
+  header-verdicts,
+  header-events,
+  body-left,
+}
 
 -- The size that a rule's contents announce, where they are in range, and where a byte is not.
 module _ (v left kind n last : ℕ) where
@@ -272,7 +279,8 @@ module _ (set : RuleSet) (c b : List ℕ) (four : 4 ≤ length c) (symbols : bel
       record {
         same-contents = rw (take-four c four, last, kind-0, long, wide);
         same-body = rw (size, kind-0, take-add);
-        rule-in-range = rw (kind-0, long, wide, le-leb 1 l some, le-leb l 8 few, left-below, le-leb n 8 short, right-below);
+        rule-in-range =
+            rw (kind-0, long, wide, le-leb 1 l some, le-leb l 8 few, left-below, le-leb n 8 short, right-below);
       }
 
   back-verdict :
@@ -286,7 +294,8 @@ module _ (set : RuleSet) (c b : List ℕ) (four : 4 ≤ length c) (symbols : bel
       record {
         same-contents = rw (take-four c four, last, kind-1, long);
         same-body = rw (size, kind-1, append-nil);
-        rule-in-range = rw (kind-1, long, le-leb 1 l some, le-leb l 8 few, left-below, lt-ltb (getD c 2 0) (set .verdicts) short);
+        rule-in-range =
+            rw (kind-1, long, le-leb 1 l some, le-leb l 8 few, left-below, lt-ltb (getD c 2 0) (set .verdicts) short);
       }
 
   back : 1 ≤ firstSize (set .verdicts) c → firstSize (set .verdicts) c ≤ length b → Back set c b
@@ -339,13 +348,17 @@ readings set (suc n) c b fits symbols e =
       all-in-range = rw long (and-both (h .rule-in-range) (ih .all-in-range));
     }
 
+-- the first four bytes are in range
+abbrev pub HeaderOf : List ℕ → Type 0
+HeaderOf b = Header (getD b 0 0) (getD b 1 0) (getD b 2 0) (getD b 3 0)
+
 -- Bytes that pass the checks are valid.
 pub checked-valid :
-    (b : List ℕ) → Header (getD b 0 0) (getD b 1 0) (getD b 2 0) (getD b 3 0) → 4 + 4 * getD b 1 0 ≤ length b
-    → announces (getD b 2 0) (getD b 1 0) (drop 4 b) (length b - (4 + 4 * getD b 1 0)) ≡ true
+    (b : List ℕ) → HeaderOf b → 4 + 4 * getD b 1 0 ≤ length b
+    → announced b (getD b 1 0) ≡ true
     → below (getD b 0 0) (drop (4 + 4 * getD b 1 0) b) ≡ true → valid b ≡ true
 unfolding valid inRange imageOf read
-checked-valid b h room announced symbols = and-both in-range (eq-same (imageOf (read b)) b encoded)
+checked-valid b h room told symbols = and-both in-range (eq-same (imageOf (read b)) b encoded)
   where
     n : ℕ
     n = getD b 1 0
@@ -357,7 +370,7 @@ checked-valid b h room announced symbols = and-both in-range (eq-same (imageOf (
     long = length-drop (4 + 4 * n) b
 
     there : Readings (read b) n (drop 4 b) bodies
-    there = readings (read b) n (drop 4 b) bodies (simp length-drop (omega arith)) symbols (rw long announced)
+    there = readings (read b) n (drop 4 b) bodies (simp length-drop (omega arith)) symbols (rw long told)
 
     in-range : inRange (read b) ≡ true
     in-range =
@@ -426,7 +439,7 @@ announced-rules set (r ∷ rs) x e =
 
 -- A valid image passes each check.
 module _ (b : List ℕ) (e : valid b ≡ true) where
-  pub valid-header : Header (getD b 0 0) (getD b 1 0) (getD b 2 0) (getD b 3 0)
+  pub valid-header : HeaderOf b
   valid-header =
       let h : Ranges (read b) = ranges (read b) (valid-in-range b e) in
       omega (arith, header-symbols b, header-rules b e, header-verdicts b, header-events b)
@@ -435,7 +448,7 @@ module _ (b : List ℕ) (e : valid b ≡ true) where
   valid-room = omega (arith, header-rules b e, contents-within b e)
 
   pub valid-announces :
-      announces (getD b 2 0) (getD b 1 0) (drop 4 b) (length b - (4 + 4 * getD b 1 0)) ≡ true
+      announced b (getD b 1 0) ≡ true
   unfolding imageOf
   valid-announces =
       let set : RuleSet = read b in
@@ -487,21 +500,21 @@ agree false false f g = refl
 -- With n rules: contents that do not announce what follows them are refused.
 pub unannounced :
     (b : List ℕ) (n : ℕ) → n ≡ getD b 1 0
-    → announces (getD b 2 0) n (drop 4 b) (length b - (4 + 4 * n)) ≡ false → false ≡ valid b
+    → announced b n ≡ false → false ≡ valid b
 unannounced b n e h =
     refused b
     (λ v.
     let yes = valid-announces b v in
-    let no : announces (getD b 2 0) (getD b 1 0) (drop 4 b) (length b - (4 + 4 * getD b 1 0)) ≡ false = rw e at h in
+    let no : announced b (getD b 1 0) ≡ false = rw e at h in
     let z : _≡_ {A = ℕ} 0 1 = cc in
     omega arith)
 
 -- With the header and the contents in range, the symbols' range decides.
 pub checked :
-    (b : List ℕ) (n : ℕ) → n ≡ getD b 1 0 → Header (getD b 0 0) (getD b 1 0) (getD b 2 0) (getD b 3 0)
-    → 4 + 4 * n ≤ length b → announces (getD b 2 0) n (drop 4 b) (length b - (4 + 4 * n)) ≡ true
+    (b : List ℕ) (n : ℕ) → n ≡ getD b 1 0 → HeaderOf b
+    → 4 + 4 * n ≤ length b → announced b n ≡ true
     → below (getD b 0 0) (drop (4 + 4 * n) b) ≡ valid b
-checked b n e h room announced =
+checked b n e h room told =
     rw e
     (agree (below (getD b 0 0) (drop (4 + 4 * getD b 1 0) b)) (valid b)
-    (checked-valid b h (omega arith) (rw e at announced)) (valid-symbols b))
+    (checked-valid b h (omega arith) (rw e at told)) (valid-symbols b))

@@ -1,11 +1,11 @@
 -- What the code checks of an image: the header, then the contents, which announce how many symbols follow them.
 -- The contracts of the code's parts cite these; that together with the symbols' range they are `valid` is proved
 -- (`checked`, proofs/Check.antt).
-use Prim.Native.Nat.{ℕ, zero, suc, _+_, _-_, _≤_}
+use Prim.Native.Nat.{ℕ, zero, suc, _+_, _*_, _-_, _≤_}
 use mathlib.Core.Bool.{Bool, true, false, cond, _&&_}
 use mathlib.Core.List.{List}
 use lib.Dec.{eqb, leb, ltb}
-use lib.ListN.{getD, drop}
+use lib.ListN.{length, getD, drop}
 use Rattle.rewriting.specs.Lists.{between}
 
 -- the answer says whether P holds
@@ -38,3 +38,7 @@ firstSize v c = bodySize v (getD c 0 0) (getD c 1 0) (getD c 2 0) (getD c 3 0)
 unfoldable pub announces : ℕ → ℕ → List ℕ → ℕ → Bool
 announces v zero c m = eqb m 0
 announces v (suc n) c m = leb 1 (firstSize v c) && leb (firstSize v c) m && announces v n (drop 4 c) (m - firstSize v c)
+
+-- the contents of the n rules of the image b are in range, and announce as many symbols as follow them
+abbrev pub announced : List ℕ → ℕ → Bool
+announced b n = announces (getD b 2 0) n (drop 4 b) (length b - (4 + 4 * n))

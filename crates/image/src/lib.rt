@@ -1,11 +1,11 @@
 // The rule image: the check behind refusal 7, and what stands where in a valid image.
-ghost use Prim.Native.Nat.{_+_, _*_, _-_, _<_, _≤_};
+ghost use Prim.Native.Nat.{_+_, _*_, _<_, _≤_};
 ghost use mathlib.Core.Path.{_≡_};
 ghost use mathlib.Core.Bool.{true};
-ghost use lib.ListN.{length, getD, drop};
+ghost use lib.ListN.{length, drop};
 ghost use Rattle.rewriting.specs.Lists.{below};
 ghost use Rattle.rewriting.specs.Rules.{rule};
-ghost use Rattle.image.specs.Check.{Decides, Header, bodySize, firstSize, announces};
+ghost use Rattle.image.specs.Check.{Decides, Header, bodySize, firstSize, announced};
 ghost use Rattle.image.specs.Image.{body, read, valid};
 ghost use Rattle.image.specs.Places.{leftAt, rightAt, rightSideOf};
 
@@ -95,7 +95,7 @@ fn size_at(image: &[u8], at: usize, verdicts: u8) -> usize
 // Whether the contents of so many rules are in range and announce as many symbols as follow them.
 fn contents_in_range(image: &[u8], rules: usize) -> bool
     requires { ⌜ 4 + 4 * rules ≤ length (now image) ⌝ }
-    ensures { λ r. ⌜ r ≡ announces (getD (now (image .entry)) 2 0) rules (drop 4 (now (image .entry))) (length (now (image .entry)) - (4 + 4 * rules)) ⌝ }
+    ensures { λ r. ⌜ r ≡ announced (now (image .entry)) rules ⌝ }
 {
     let verdicts = image[2];
     let mut left = image.len() - (4 + 4 * rules);

@@ -13,7 +13,8 @@ use Rattle.image.proofs.contents_in_range.Tie as tie
 
 abbrev Inv-loop : tie.InvT-loop
 Inv-loop image rules verdicts left₀ i₀ left i =
-    (i ≤ rules) × (announces verdicts (rules - i) (drop (4 + 4 * i) image) left ≡ announces verdicts rules (drop 4 image) left₀)
+    (i ≤ rules)
+    × (announces verdicts (rules - i) (drop (4 + 4 * i) image) left ≡ announces verdicts rules (drop 4 image) left₀)
 
 abbrev μ-loop : tie.MeasureT-loop
 μ-loop image rules verdicts left₀ i₀ left i = rules - i

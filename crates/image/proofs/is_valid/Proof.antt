@@ -7,18 +7,15 @@ use native.Mathlib.Omega.{arith}
 use borrow.Author.Needs.{needs}
 use lib.ListN.{getD}
 use Rattle.rewriting.specs.Lists.{below}
-use Rattle.image.specs.Check.{Header}
-use Rattle.image.proofs.Check.{all-behind, decided, denied, refused, unannounced, checked, valid-header, valid-room}
+use Rattle.image.proofs.Check.{HeaderOf, all-behind, decided, denied, refused, unannounced, checked, valid-header, valid-room}
 use Rattle.image.proofs.is_valid.Statement.{statement}
 use Rattle.image.proofs.is_valid.Tie as tie
 
 -- the header is in range
-header :
-    (c : tie.After-wide)
-    → Header (getD (c .before .before .before .before .before .before .before .before .before .before .args .image .now) 0 0) (getD (c .before .before .before .before .before .before .before .before .before .before .args .image .now) 1 0)
-    (getD (c .before .before .before .before .before .before .before .before .before .before .args .image .now) 2 0) (getD (c .before .before .before .before .before .before .before .before .before .before .args .image .now) 3 0)
+header : (c : tie.After-wide) → HeaderOf (c .before .before .before .before .before .before .before .before .before .before .args .image .now)
 header c =
-    decided (c .before .before .before .header-in-range .result) (c .before .before .if2 .taken) (c .before .before .before .header-in-range .ensures)
+    let h = c .before .before .before .header-in-range in
+    decided (h .result) (c .before .before .if2 .taken) (h .ensures)
 
 returns : tie.Need-returns
 returns c =
@@ -77,21 +74,25 @@ all-below-requires c κs = omega (arith, header (c .before .before .before .befo
 
 returns-3 : tie.Need-returns-3
 returns-3 c =
-    let b = c .before .before .before .before .before .before .before .before .before .before .before .before .before .before .before .before .args .image .now in
     let w = c .before .before .before .before .before .before in
-    c .all-below .ensures ∙ ap (below (getD b 0 0)) (all-behind (4 + 4 * w .wide .result) b) ∙ checked b (w .wide .result) (w .wide .ensures) (header w) (omega arith) (sym (c .before .before .before .before .contents-in-range .ensures) ∙ c .before .before .before .if4 .taken)
+    let b = w .before .before .before .before .before .before .before .before .before .before .args .image .now in
+    let n = w .wide .result in
+    let told = sym (c .before .before .before .before .contents-in-range .ensures) ∙ c .before .before .before .if4 .taken in
+    c .all-below .ensures
+    ∙ ap (below (getD b 0 0)) (all-behind (4 + 4 * n) b)
+    ∙ checked b n (w .wide .ensures) (header w) (omega arith) told
 
 returns-4 : tie.Need-returns-4
 returns-4 c =
-    let b = c .before .before .before .before .before .before .before .before .before .before .before .before .before .args .image .now in
     let w = c .before .before .before in
+    let b = w .before .before .before .before .before .before .before .before .before .before .args .image .now in
     unannounced b (w .wide .result) (w .wide .ensures) (sym (c .before .contents-in-range .ensures) ∙ c .if4 .left)
 
 returns-5 : tie.Need-returns-5
 returns-5 c =
+    let h = c .before .header-in-range in
     let b = c .before .before .before .before .before .before .before .before .args .image .now in
-    refused b
-    (λ e. denied (c .before .header-in-range .result) (c .if2 .left) (c .before .header-in-range .ensures) (valid-header b e))
+    refused b (λ e. denied (h .result) (c .if2 .left) (h .ensures) (valid-header b e))
 
 pub is-valid-spec : {M : Type 1} → statement M
 is-valid-spec =
