@@ -154,6 +154,14 @@ longest b e =
     let h : Ranges set = ranges set (valid-in-range b e) in
     omega (arith, ap length (valid-encoding b e), length-image set, length-bodies set (set .rules) (h .all-rules))
 
+-- the symbols of a rule in range are below S
+pub body-below : (set : RuleSet) (r : Rule) → ruleInRange set r ≡ true → below (set .symbols) (body r) ≡ true
+unfolding body
+body-below set r e =
+    let g : RuleRanges set r = rule-ranges set r e in
+    all-append (λ x. ltb x (set .symbols)) (r .left) (symbolsOf (r .right)) (g .left-below)
+    (right-below set (r .right) (g .right-in-range))
+
 -- the contents and the body of a rule in range are bytes
 module _ (set : RuleSet) (h : Ranges set) (r : Rule) (e : ruleInRange set r ≡ true) where
   contents-fit : below 256 (contents r) ≡ true
@@ -167,12 +175,7 @@ module _ (set : RuleSet) (h : Ranges set) (r : Rule) (e : ruleInRange set r ≡ 
       simp lt-ltb
 
   body-fits : below 256 (body r) ≡ true
-  unfolding body
-  body-fits =
-      let g : RuleRanges set r = rule-ranges set r e in
-      let right : below (set .symbols) (symbolsOf (r .right)) ≡ true = right-below set (r .right) (g .right-in-range) in
-      below-weaken (set .symbols) 256 (r .left ++ symbolsOf (r .right)) (omega arith)
-      (all-append (λ x. ltb x (set .symbols)) (r .left) (symbolsOf (r .right)) (g .left-below) right)
+  body-fits = below-weaken (set .symbols) 256 (body r) (omega arith) (body-below set r e)
 
 -- the image of a rule set in range is bytes
 pub image-fits : (set : RuleSet) → Ranges set → below 256 (imageOf set) ≡ true

@@ -1,4 +1,5 @@
 pub mod Image
 pub mod Refusals
 pub mod Places
+pub mod Check
 pub mod Computed

@@ -2,3 +2,4 @@
 pub mod Image
 pub mod Refusals
 pub mod Places
+pub mod Check

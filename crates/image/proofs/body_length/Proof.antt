@@ -20,20 +20,25 @@ right-side-requires c κs = search needs
 enum-known-n : tie.Need-enum-known-n
 enum-known-n c = search needs
 
+-- the rule
+rule-of : (c : tie.After-right-side) → Rule
+rule-of c = rule (read (c .before .before .before .args .image .now) .rules) (c .before .before .before .args .i)
+
 -- the left symbols and the right symbols are the body
 whole :
     (c : tie.After-known-told)
-    → c .before .before .before .before .left-length .result + c .before .n .given .0 .0
-    ≡ length (body (rule (read (c .before .before .before .before .before .before .args .image .now) .rules) (c .before .before .before .before .before .before .args .i)))
+    → c .before .before .before .before .left-length .result + c .before .n .given .0 .0 ≡ length (body (rule-of (c .before .before .before)))
+unfolding rule-of
 whole c =
-    let s = c .before .before .before .before .before .before in
-    let r : Rule = rule (read (s .args .image .now) .rules) (s .args .i) in
-    let n : length (symbolsOf (r .right)) ≡ c .before .n .given .0 .0 =
-    put-length (r .right) (c .before .n .given .0 .0) (sym (c .before .before .before .right-side .ensures) ∙ c .before .n .given .1)
+    let n = c .before .n .given in
+    let r : Rule = rule-of (c .before .before .before) in
+    let right : length (symbolsOf (r .right)) ≡ n .0 .0 =
+    put-length (r .right) (n .0 .0) (sym (c .before .before .before .right-side .ensures) ∙ n .1)
     in
     omega (arith, body-left r)
 
 add-result : tie.Need-add-result
+unfolding rule-of
 add-result c =
     let s = c .before .before .before .before .before .before in
     omega (arith, whole c, left-within (s .args .image .now) (s .pre .0) (s .args .i) (s .pre .1))
@@ -42,13 +47,17 @@ enum-told : tie.Need-enum-told
 enum-told c = search needs
 
 returns : tie.Need-returns
+unfolding rule-of
 returns c = whole c
 
 returns-2 : tie.Need-returns-2
+unfolding rule-of
 returns-2 c =
-    let s = c .before .before .before .before .before in
-    let r : Rule = rule (read (s .args .image .now) .rules) (s .args .i) in
-    let n : length (symbolsOf (r .right)) ≡ 0 = close-length (r .right) (c .enum-told .given .0 .0) (sym (c .before .before .right-side .ensures) ∙ c .enum-told .given .1) in
+    let n = c .enum-told .given in
+    let r : Rule = rule-of (c .before .before) in
+    let right : length (symbolsOf (r .right)) ≡ 0 =
+    close-length (r .right) (n .0 .0) (sym (c .before .before .right-side .ensures) ∙ n .1)
+    in
     omega (arith, body-left r)
 
 pub body-length-spec : {M : Type 1} → statement M

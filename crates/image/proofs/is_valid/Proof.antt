@@ -1,0 +1,120 @@
+-- `image::is_valid` meets its contract: what fails a check is not valid, and what passes the others is valid exactly when its
+-- symbols are below S.
+-- Assumes nothing.
+use Prim.Native.Nat.{_+_, _*_}
+use mathlib.Core.Path.{sym, ap, _∙_}
+use native.Mathlib.Omega.{arith}
+use borrow.Author.Needs.{needs}
+use lib.ListN.{getD}
+use Rattle.rewriting.specs.Lists.{below}
+use Rattle.image.proofs.Check.{HeaderOf, all-behind, decided, denied, refused, unannounced, checked, valid-header, valid-room}
+use Rattle.image.proofs.is_valid.Statement.{statement}
+use Rattle.image.proofs.is_valid.Tie as tie
+
+-- the header is in range
+header : (c : tie.After-wide) → HeaderOf (c .before .before .before .before .before .before .before .before .before .before .args .image .now)
+header c =
+    let h = c .before .before .before .header-in-range in
+    decided (h .result) (c .before .before .if2 .taken) (h .ensures)
+
+returns : tie.Need-returns
+returns c =
+    let b = c .before .before .args .image .now in
+    refused b (λ e. omega (arith, valid-room b e))
+
+shared-slice-read-header-in-range : tie.Need-shared-slice-read-header-in-range
+shared-slice-read-header-in-range c = search needs
+
+shared-slice-read-header-in-range-2 : tie.Need-shared-slice-read-header-in-range-2
+shared-slice-read-header-in-range-2 c = search needs
+
+shared-slice-read-header-in-range-3 : tie.Need-shared-slice-read-header-in-range-3
+shared-slice-read-header-in-range-3 c = search needs
+
+shared-slice-read-header-in-range-4 : tie.Need-shared-slice-read-header-in-range-4
+shared-slice-read-header-in-range-4 c = search needs
+
+header-in-range-requires : tie.Need-header-in-range-requires
+header-in-range-requires c κs = search needs
+
+shared-slice-read-wide : tie.Need-shared-slice-read-wide
+shared-slice-read-wide c = search needs
+
+wide-requires : tie.Need-wide-requires
+wide-requires c κs = search needs
+
+mul-bodies : tie.Need-mul-bodies
+mul-bodies c = omega (arith, header c)
+
+add-bodies : tie.Need-add-bodies
+add-bodies c = omega (arith, header c)
+
+returns-2 : tie.Need-returns-2
+returns-2 c =
+    let b = c .before .before .before .before .before .before .before .before .before .before .before .args .image .now in
+    refused b (λ e. omega (arith, valid-room b e))
+
+contents-in-range-requires : tie.Need-contents-in-range-requires
+contents-in-range-requires c κs = search needs
+
+sub-all-below : tie.Need-sub-all-below
+sub-all-below c = search needs
+
+part-all-below-start : tie.Need-part-all-below-start
+part-all-below-start c = search needs
+
+part-all-below-end : tie.Need-part-all-below-end
+part-all-below-end c = search needs
+
+shared-slice-read-all-below : tie.Need-shared-slice-read-all-below
+shared-slice-read-all-below c = search needs
+
+all-below-requires : tie.Need-all-below-requires
+all-below-requires c κs = omega (arith, header (c .before .before .before .before .before))
+
+returns-3 : tie.Need-returns-3
+returns-3 c =
+    let w = c .before .before .before .before .before .before in
+    let b = w .before .before .before .before .before .before .before .before .before .before .args .image .now in
+    let n = w .wide .result in
+    let told = sym (c .before .before .before .before .contents-in-range .ensures) ∙ c .before .before .before .if4 .taken in
+    c .all-below .ensures
+    ∙ ap (below (getD b 0 0)) (all-behind (4 + 4 * n) b)
+    ∙ checked b n (w .wide .ensures) (header w) (omega arith) told
+
+returns-4 : tie.Need-returns-4
+returns-4 c =
+    let w = c .before .before .before in
+    let b = w .before .before .before .before .before .before .before .before .before .before .args .image .now in
+    unannounced b (w .wide .result) (w .wide .ensures) (sym (c .before .contents-in-range .ensures) ∙ c .if4 .left)
+
+returns-5 : tie.Need-returns-5
+returns-5 c =
+    let h = c .before .header-in-range in
+    let b = c .before .before .before .before .before .before .before .before .args .image .now in
+    refused b (λ e. denied (h .result) (c .if2 .left) (h .ensures) (valid-header b e))
+
+pub is-valid-spec : {M : Type 1} → statement M
+is-valid-spec =
+    tie.close
+    (tie.spec
+    returns
+    shared-slice-read-header-in-range
+    shared-slice-read-header-in-range-2
+    shared-slice-read-header-in-range-3
+    shared-slice-read-header-in-range-4
+    header-in-range-requires
+    shared-slice-read-wide
+    wide-requires
+    mul-bodies
+    add-bodies
+    returns-2
+    contents-in-range-requires
+    sub-all-below
+    part-all-below-start
+    part-all-below-end
+    shared-slice-read-all-below
+    all-below-requires
+    returns-3
+    returns-4
+    returns-5)
