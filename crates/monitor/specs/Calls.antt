@@ -6,11 +6,10 @@ use mathlib.Core.Option.{Option, none, some}
 use mathlib.Core.List.{List, [], _∷_, _++_}
 use lib.Dec.{eqb, leb, ltb}
 use lib.ListN.{length, replicate}
-use Rattle.rewriting.specs.Lists.{prefix}
 use Rattle.rewriting.specs.Rules.{RuleSet}
-use Rattle.image.specs.Image.{read, valid}
+use Rattle.image.specs.Image.{read}
 use Rattle.image.specs.Refusals.{Check, refusal}
-use Rattle.table.specs.Table.{tableOf}
+use Rattle.table.specs.Check.{tableChecks}
 use Rattle.monitor.specs.declared.Standing.{Standing}
 use Rattle.monitor.specs.declared.Head.{Head}
 use Rattle.monitor.specs.declared.Answer.{Answer}
@@ -55,9 +54,8 @@ fuelOf (GoOn fuel) = fuel
 -- described, or a settled state has a match, or the verdict isn't that of its rule"
 unfoldable pub lentChecks : ℕ → List ℕ → List ℕ → Monitor → List Check
 lentChecks capacity image table m =
-    (valid image, 7)
-    ∷ (prefix (tableOf (read image)) table, 9)
-    ∷ (sized capacity (m .bytes) (m .words), 10)
+    tableChecks image table
+    ++ (sized capacity (m .bytes) (m .words), 10)
     ∷ (described (read image) capacity m, 11)
     ∷ []
 

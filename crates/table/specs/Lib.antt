@@ -2,4 +2,5 @@
 pub mod States
 pub mod Table
 pub mod Compile
+pub mod Check
 pub mod Nodes

@@ -6,3 +6,9 @@ pub enum Compiled {
     Words(usize),
     Refused(u32),
 }
+
+// What a check of a lent image and table answers.
+pub enum Checked {
+    Passed,
+    Refused(u32),
+}
