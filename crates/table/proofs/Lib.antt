@@ -4,3 +4,4 @@ pub mod Table
 pub mod Compile
 pub mod Computed
 pub mod RowWords
+pub mod Filling

@@ -1,8 +1,14 @@
 // The rows and match words of the table, filled from the trie. specs/Rows.antt says what stands in them on the way.
 ghost use Prim.Native.Nat.{_+_, _*_, _≤_, _<_};
 ghost use mathlib.Core.Path.{_≡_};
+ghost use mathlib.Core.Bool.{true};
+ghost use mathlib.Core.List.{map};
 ghost use lib.ListN.{length, replicate};
-ghost use Rattle.table.specs.Rows.{Merged, Noted};
+ghost use Rattle.image.specs.Image.{read, valid};
+ghost use Rattle.table.specs.States.{states, matching};
+ghost use Rattle.table.specs.Table.{matchWord};
+ghost use Rattle.table.specs.Nodes.{Trie};
+ghost use Rattle.table.specs.Rows.{Laid, Merged, Noted, Matched};
 use crate::trie::failure_of;
 use crate::trie::wide;
 
@@ -41,4 +47,33 @@ fn note(trie: &mut [u16], q: usize, f: usize)
     let other = trie[8 * f + 6];
     trie[8 * q + 7] = f as u16;
     trie[8 * q + 6] = if own == 0 { other } else { own };
+}
+
+// Each node's number into the row of its parent.
+fn lay_children(image: &[u8], trie: &[u16], n: usize, rows: &mut [u16])
+    requires { ⌜ valid (now image) ≡ true ⌝ }
+    requires trie { ⌜ Trie (states (read (now image) .rules)) (read (now image) .symbols) (now trie) ⌝ }
+    requires count { ⌜ n ≡ length (states (read (now image) .rules)) ⌝ }
+    requires clear { ⌜ now rows ≡ replicate (n * read (now image) .symbols) 0 ⌝ }
+    ensures { λ _. ⌜ Laid (read (now (image .entry))) (now (rows .exit)) ⌝ }
+{
+    let s = image::symbols(image);
+    for c in 1..n {
+        let p = wide(trie[8 * c]);
+        let a = wide(trie[8 * c + 1]);
+        rows[p * s + a] = c as u16;
+    }
+}
+
+// The match words from the nodes.
+pub fn write_matches(image: &[u8], trie: &[u16], n: usize, words: &mut [u16])
+    requires matches { ⌜ Matched (read (now image)) (now trie) ⌝ }
+    requires count { ⌜ n ≡ length (states (read (now image) .rules)) ⌝ }
+    requires nodes { ⌜ 8 * n ≤ length (now trie) ⌝ }
+    requires size { ⌜ length (now words) ≡ n ⌝ }
+    ensures { λ _. ⌜ now (words .exit) ≡ map (λ q. matchWord (matching (read (now (image .entry)) .rules) q)) (states (read (now (image .entry)) .rules)) ⌝ }
+{
+    for q in 0..n {
+        words[q] = trie[8 * q + 6];
+    }
 }
