@@ -19,7 +19,7 @@ use Rattle.rewriting.proofs.Choice.{tie-earlier, tie-later, tie-none}
 use Rattle.table.specs.States.{isPrefix, state, next, matching, known, states, number}
 use Rattle.table.specs.Table.{matchWord}
 use Rattle.table.specs.Nodes.{parent, symbol, depth, youngest, older, children, matched, failure, Linked, Trie, failureBy}
-use Rattle.table.specs.Rows.{entry, text, numberBelow, childNumber, Laid, Merged, Noted, reached, Filling, Matched}
+use Rattle.table.specs.Rows.{entry, text, numberBelow, childNumber, Laid, Merged, Noted, reached, Filling, FillingAt, Matched}
 use Rattle.table.proofs.Matching.{state-snoc, state-suffix, next-child, next-fail, matching-fail}
 use Rattle.table.proofs.States.{known-states, state-known, number-at, known-at, number-back, number-zero, state-zero, few-states}
 use Rattle.table.proofs.RowWords.{row-end, row-apart, place-row}
@@ -191,3 +191,401 @@ written-all set t words matches size all =
   where
     word : List ℕ → ℕ
     word q = matchWord (matching (set .rules) q)
+
+-- each state but the empty one has a first symbol
+first-symbol : (rules : List Rule) (c : ℕ) → 0 < c → c < length (states rules)
+    → (y : ℕ) × (w : List ℕ) × (getD (states rules) c [] ≡ y ∷ w)
+first-symbol rules c pos below = go (getD (states rules) c []) refl
+  where
+    go : (v : List ℕ) → getD (states rules) c [] ≡ v → (y : ℕ) × (w : List ℕ) × (getD (states rules) c [] ≡ y ∷ w)
+    go [] e =
+        let zero-too : c ≡ 0 = sym (number-back rules c below) ∙ ap (number (states rules)) e ∙ number-zero rules in
+        absurd (omega arith)
+    go (y ∷ w) e = (y, w, e)
+
+-- the state of a string is no longer than the string
+length-state : (rules : List Rule) (p : List ℕ) → length (state rules p) ≤ length p
+length-state rules p =
+    let (u, e) = state-suffix rules p in
+    omega (arith, simp length-append at (ap length e))
+
+-- where the state of a string is listed
+record Listed (rules : List Rule) (p : List ℕ) (f : ℕ) : Type 0 where
+  place : f < length (states rules)
+  string : getD (states rules) f [] ≡ state rules p
+  short : length (getD (states rules) f []) ≤ length p
+
+listed : (rules : List Rule) (p : List ℕ) (f : ℕ) → f ≡ number (states rules) (state rules p) → Listed rules p f
+listed rules p f e =
+    let at = number-at (states rules) (state rules p) (state-known rules p) in
+    let there : getD (states rules) f [] ≡ state rules p = ap (λ (i : ℕ). getD (states rules) i []) e ∙ at .1 in
+    record {
+      place = rw e (at .0);
+      string = there;
+      short = rw there (length-state rules p);
+    }
+
+-- the row of a state with a first symbol: its children, and for the other symbols the words of its failure state's row
+row-filled : (rules : List Rule) (y : ℕ) (w : List ℕ) (a : ℕ)
+    → cond (eqb (childNumber (states rules) (y ∷ w) a) 0) (number (states rules) (next rules (state rules w) a))
+    (childNumber (states rules) (y ∷ w) a)
+    ≡ number (states rules) (next rules (y ∷ w) a)
+unfolding childNumber
+row-filled rules y w a = go (known s (y ∷ w ++ a ∷ [])) refl
+  where
+    s : List (List ℕ)
+    s = states rules
+
+    go : (b : Bool) → known s (y ∷ w ++ a ∷ []) ≡ b
+        → cond (eqb (cond b (number s (y ∷ w ++ a ∷ [])) 0) 0) (number s (next rules (state rules w) a))
+        (cond b (number s (y ∷ w ++ a ∷ [])) 0)
+        ≡ number s (next rules (y ∷ w) a)
+    go true e =
+        rw (ne-eqb (number s (y ∷ w ++ a ∷ [])) 0 (child-some rules (y ∷ w) a e))
+        (ap (number s) (sym (next-child rules (y ∷ w) a (sym (known-states rules (y ∷ w ++ a ∷ [])) ∙ e))))
+    go false e = ap (number s) (sym (next-fail rules y w a (sym (known-states rules (y ∷ w ++ a ∷ [])) ∙ e)))
+
+-- where there is an earlier occurrence, it is taken
+tie-own : (i : ℕ) (later : Option ℕ) → tie (some i) later ≡ some i
+tie-own i later = go (tie (some i) later) refl
+  where
+    go : (o : Option ℕ) → tie (some i) later ≡ o → o ≡ some i
+    go none e = sym (tie-none (some i) later e .0)
+    go (some k) e = ap some (tie-earlier (some i) later k i e refl)
+
+-- its match word: that of its own left side, or where there is none of its failure state
+match-filled : (rules : List Rule) (y : ℕ) (w : List ℕ)
+    → cond (eqb (matchWord (lowest rules (y ∷ w))) 0) (matchWord (matching rules (state rules w))) (matchWord (lowest rules (y ∷ w)))
+    ≡ matchWord (matching rules (y ∷ w))
+unfolding matchWord
+match-filled rules y w = rw (matching-fail rules y w) (go (lowest rules (y ∷ w)) (matching rules (state rules w)))
+  where
+    go : (own other : Option ℕ) → cond (eqb (matchWord own) 0) (matchWord other) (matchWord own) ≡ matchWord (tie own other)
+    go none other = rw (tie-later other)
+    go (some i) other = rw (tie-own i other, ne-eqb (suc i) 0 (λ e. omega arith))
+
+-- the trie stays where only match words and failure states change
+trie-keeps : (s : List (List ℕ)) (symbols : ℕ) (t t′ : List ℕ) (q f : ℕ) → q < length s → Trie s symbols t → Noted t t′ q f
+    → Trie s symbols t′
+trie-keeps s symbols t t′ q f below trie noted =
+    record {
+      linked =
+          record {
+            size = rw (noted .size) (links .size);
+            up = λ c pos h. rw (parent-same c) (links .up c pos h);
+            young = λ c h. rw (youngest-same c) (links .young c h);
+            young-of = λ c h pos.
+                let pos₀ : 0 < youngest t c = rw (youngest-same c) at pos in
+                rw (youngest-same c, parent-same (youngest t c)) (links .young-of c h pos₀);
+            young-last = λ c b h pos k e. rw (youngest-same c) (links .young-last c b h pos k (sym (parent-same b) ∙ e));
+            old = λ c pos h. rw (older-same c) (links .old c pos h);
+            old-of = λ c pos h more.
+                let more₀ : 0 < older t c = rw (older-same c) at more in
+                rw (older-same c, parent-same (older t c), parent-same c) (links .old-of c pos h more₀);
+            old-next = λ c b pos h pos₂ k e.
+                rw (older-same c) (links .old-next c b pos h pos₂ k (sym (parent-same b) ∙ e ∙ parent-same c));
+          };
+      some-node = trie .some-node;
+      root = trie .root;
+      once = trie .once;
+      made = λ c pos h. rw (parent-same c, symbol-same c) (trie .made c pos h);
+      small = λ c pos h. rw (symbol-same c) (trie .small c pos h);
+      deep = λ c h. depth-same c ∙ trie .deep c h;
+      counted = λ c h. children-same c ∙ trie .counted c h;
+      clear = λ k h. noted .rest k (λ e. omega arith) (λ e. omega arith) ∙ trie .clear k h;
+    }
+  where
+    links : Linked t (length s)
+    links = trie .linked
+
+    parent-same : (c : ℕ) → parent t′ c ≡ parent t c
+    parent-same c = noted .rest (8 * c) (λ e. omega arith) (λ e. omega arith)
+
+    symbol-same : (c : ℕ) → symbol t′ c ≡ symbol t c
+    symbol-same c = noted .rest (8 * c + 1) (λ e. omega arith) (λ e. omega arith)
+
+    depth-same : (c : ℕ) → depth t′ c ≡ depth t c
+    depth-same c = noted .rest (8 * c + 2) (λ e. omega arith) (λ e. omega arith)
+
+    youngest-same : (c : ℕ) → youngest t′ c ≡ youngest t c
+    youngest-same c = noted .rest (8 * c + 3) (λ e. omega arith) (λ e. omega arith)
+
+    older-same : (c : ℕ) → older t′ c ≡ older t c
+    older-same c = noted .rest (8 * c + 4) (λ e. omega arith) (λ e. omega arith)
+
+    children-same : (c : ℕ) → children t′ c ≡ children t c
+    children-same c = noted .rest (8 * c + 5) (λ e. omega arith) (λ e. omega arith)
+
+-- State q, whose turn it is: every shorter state is done.
+module _ (set : RuleSet) (done : ℕ → Bool) (t rows : List ℕ) (filling : Filling set done t rows) (q : ℕ) (pos : 0 < q)
+    (below : q < length (states (set .rules)))
+    (shorter : (c : ℕ) → c < length (states (set .rules)) → length (text set c) < length (text set q) → done c ≡ true)
+  where
+    -- its failure state is the state of its string without the first symbol
+    pub failure-found : failureBy t rows (set .symbols) q ≡ number (states (set .rules)) (state (set .rules) (drop 1 (text set q)))
+    unfolding failureBy state
+    failure-found = go (eqb (parent t q) 0) refl
+      where
+        rules : List Rule
+        rules = set .rules
+
+        s : List (List ℕ)
+        s = states rules
+
+        made : getD s q [] ≡ getD s (parent t q) [] ++ symbol t q ∷ []
+        made = filling .trie .made q pos below
+
+        -- by the failure state of the parent, whose string is y ∷ w
+        by-parent : 0 < parent t q → parent t q < length s → (y : ℕ) (w : List ℕ) → getD s (parent t q) [] ≡ y ∷ w
+            → getD rows (failure t (parent t q) * set .symbols + symbol t q) 0 ≡ number s (state rules (drop 1 (getD s q [])))
+        by-parent pos-up below-up y w string =
+            let whole : getD s q [] ≡ y ∷ w ++ symbol t q ∷ [] = rw string at made in
+            let size : length (getD s q []) ≡ suc (length w) + 1 = simp length-append at (ap length whole) in
+            let size-up : length (getD s (parent t q) []) ≡ suc (length w) = ap length string in
+            let f : failure t (parent t q) ≡ number s (state rules w) =
+            rw string at (filling .failures (parent t q) pos-up below-up (shorter (parent t q) below-up (omega arith)))
+            in
+            let l = listed rules w (failure t (parent t q)) f in
+            let final = shorter (failure t (parent t q)) (l .place) (omega (arith, l .short)) in
+            rw final at (filling .table (failure t (parent t q)) (symbol t q) (l .place) (filling .trie .small q pos below))
+            ∙ ap (λ (v : List ℕ). number s (next rules v (symbol t q))) (l .string)
+            ∙ ap (number s) (state-snoc rules w (symbol t q))
+            ∙ ap (λ (v : List ℕ). number s (state rules (drop 1 v))) (sym whole)
+
+        go : (b : Bool) → eqb (parent t q) 0 ≡ b
+            → cond b 0 (getD rows (failure t (parent t q) * set .symbols + symbol t q) 0) ≡ number s (state rules (drop 1 (getD s q [])))
+        go true e =
+            let root : getD s (parent t q) [] ≡ [] = ap (λ (i : ℕ). getD s i []) (eqb-true (parent t q) 0 e) ∙ filling .trie .root in
+            rw (made, root) (sym (number-zero rules))
+        go false e =
+            let up : parent t q < q = filling .trie .linked .up q pos below in
+            let differs = eqb-false (parent t q) 0 e in
+            let pos-up : 0 < parent t q = omega (arith, differs) in
+            let below-up : parent t q < length s = omega arith in
+            let (y, w, string) = first-symbol rules (parent t q) pos-up below-up in
+            by-parent pos-up below-up y w string
+
+    -- with it, its match word and its row q is done too
+    pub state-filled : (done′ : ℕ → Bool) (t′ rows′ : List ℕ) (f : ℕ) → done q ≡ false → done′ q ≡ true
+        → ((c : ℕ) → (c ≡ q → ⊥) → done′ c ≡ done c) → f ≡ failureBy t rows (set .symbols) q → Noted t t′ q f
+        → Merged rows rows′ (set .symbols) q f (set .symbols) → Filling set done′ t′ rows′
+    state-filled done′ t′ rows′ f not-yet own others is noted merged =
+        record {
+          trie = trie-keeps s (set .symbols) t t′ q f below (filling .trie) noted;
+          size = merged .size ∙ filling .size;
+          matches = λ c h. match c h (eqb c q) refl;
+          failures = λ c pos₂ h e. failing c pos₂ h e (eqb c q) refl;
+          table = λ c a h k. word c a h k (eqb c q) refl;
+        }
+      where
+        rules : List Rule
+        rules = set .rules
+
+        s : List (List ℕ)
+        s = states rules
+
+        y : ℕ
+        y = first-symbol rules q pos below .0
+
+        w : List ℕ
+        w = first-symbol rules q pos below .1
+
+        string : text set q ≡ y ∷ w
+        string = first-symbol rules q pos below .2
+
+        f-is : f ≡ number s (state rules w)
+        f-is = is ∙ failure-found ∙ ap (λ (v : List ℕ). number s (state rules (drop 1 v))) string
+
+        l : Listed rules w f
+        l = listed rules w f f-is
+
+        f-done : done f ≡ true
+        f-done =
+            let size : length (text set q) ≡ suc (length w) = ap length string in
+            let short : length (text set f) ≤ length w = l .short in
+            shorter f (l .place) (omega arith)
+
+        match : (c : ℕ) → c < length s → (b : Bool) → eqb c q ≡ b
+            → matched t′ c ≡ cond (done′ c) (matchWord (matching rules (text set c))) (matchWord (lowest rules (text set c)))
+        match c h true e =
+            let same : c ≡ q = eqb-true c q e in
+            let mine : matched t q ≡ matchWord (lowest rules (y ∷ w)) = rw (not-yet, string) at (filling .matches q below) in
+            let other : matched t f ≡ matchWord (matching rules (state rules w)) = rw (f-done, l .string) at (filling .matches f (l .place)) in
+            rw (same, own, string, noted .own-match, mine, other) (match-filled rules y w)
+        match c h false e =
+            let differs = eqb-false c q e in
+            rw (others c differs)
+            (noted .rest (8 * c + 6) (λ p. differs (omega arith)) (λ p. omega arith) ∙ filling .matches c h)
+
+        failing : (c : ℕ) → 0 < c → c < length s → done′ c ≡ true → (b : Bool) → eqb c q ≡ b
+            → failure t′ c ≡ number s (state rules (drop 1 (text set c)))
+        failing c pos₂ h e true p =
+            let same : c ≡ q = eqb-true c q p in
+            rw same (noted .own-failure ∙ is ∙ failure-found)
+        failing c pos₂ h e false p =
+            let differs = eqb-false c q p in
+            noted .rest (8 * c + 7) (λ x. omega arith) (λ x. differs (omega arith))
+            ∙ filling .failures c pos₂ h (sym (others c differs) ∙ e)
+
+        word : (c a : ℕ) → c < length s → a < set .symbols → (b : Bool) → eqb c q ≡ b
+            → entry (set .symbols) rows′ c a ≡ cond (done′ c) (number s (next rules (text set c) a)) (childNumber s (text set c) a)
+        word c a h k true e =
+            let same : c ≡ q = eqb-true c q e in
+            let mine : entry (set .symbols) rows q a ≡ childNumber s (y ∷ w) a = rw (not-yet, string) at (filling .table q a below k) in
+            let other : entry (set .symbols) rows f a ≡ number s (next rules (state rules w) a) =
+            rw (f-done, l .string) at (filling .table f a (l .place) k)
+            in
+            rw (same, own, string, merged .own a k, mine, other) (row-filled rules y w a)
+        word c a h k false e =
+            let differs = eqb-false c q e in
+            rw (others c differs)
+            (⊎-elim (λ (x : c * set .symbols + set .symbols ≤ q * set .symbols). merged .before (c * set .symbols + a) (omega arith))
+            (λ (x : q * set .symbols + set .symbols ≤ c * set .symbols). merged .behind (c * set .symbols + a) (omega arith))
+            (row-apart (set .symbols) q c differs)
+            ∙ filling .table c a h k)
+
+-- Which states are done, where state q of the states of length d is next.
+module _ (s : List (List ℕ)) (d q : ℕ) where
+  pub reached-shorter : (c : ℕ) → length (getD s c []) < d → reached s d q c ≡ true
+  unfolding reached
+  reached-shorter c h = rw (lt-ltb (length (getD s c [])) d h)
+
+  pub reached-own : length (getD s q []) ≡ d → reached s d (q + 1) q ≡ true
+  unfolding reached
+  reached-own e =
+      rw (le-ltb (length (getD s q [])) d (omega arith), eq-eqb (length (getD s q [])) d e, lt-ltb q (q + 1) (omega arith))
+
+  pub reached-next : length (getD s q []) ≡ d → reached s d q q ≡ false
+  unfolding reached
+  reached-next e =
+      rw (le-ltb (length (getD s q [])) d (omega arith), eq-eqb (length (getD s q [])) d e, le-ltb q q (omega arith))
+
+  pub reached-other : (c : ℕ) → (c ≡ q → ⊥) → reached s d (q + 1) c ≡ reached s d q c
+  unfolding reached
+  reached-other c differs = rw (go (ltb c q) refl)
+    where
+      go : (b : Bool) → ltb c q ≡ b → ltb c (q + 1) ≡ ltb c q
+      go true e = lt-ltb c (q + 1) (omega (arith, ltb-true c q e)) ∙ sym e
+      go false e = le-ltb c (q + 1) (omega (arith, ltb-false c q e, differs)) ∙ sym e
+
+  -- a state of another length is passed over
+  pub reached-skip : (length (getD s q []) ≡ d → ⊥) → (c : ℕ) → reached s d (q + 1) c ≡ reached s d q c
+  unfolding reached
+  reached-skip apart c = go (eqb c q) refl
+    where
+      go : (b : Bool) → eqb c q ≡ b → reached s d (q + 1) c ≡ reached s d q c
+      go true e =
+          let same : c ≡ q = eqb-true c q e in
+          rw (same, ne-eqb (length (getD s q [])) d apart)
+      go false e = reached-other c (eqb-false c q e)
+
+-- the states of length d are done: those of length d + 1 are next
+pub reached-longer : (s : List (List ℕ)) (d : ℕ) → getD s 0 [] ≡ [] → (c : ℕ) → c < length s
+    → reached s (d + 1) 1 c ≡ reached s d (length s) c
+unfolding reached
+reached-longer s d root c h = go (ltb l (d + 1)) refl
+  where
+    l : ℕ
+    l = length (getD s c [])
+
+    some-symbol : d < l → 1 ≤ c
+    some-symbol long = turn (eqb c 0) refl
+      where
+        turn : (b : Bool) → eqb c 0 ≡ b → 1 ≤ c
+        turn true e =
+            let empty : l ≡ 0 = ap (λ (i : ℕ). length (getD s i [])) (eqb-true c 0 e) ∙ ap length root in
+            omega arith
+        turn false e = omega (arith, eqb-false c 0 e)
+
+    go : (b : Bool) → ltb l (d + 1) ≡ b → reached s (d + 1) 1 c ≡ reached s d (length s) c
+    go true e = rw e (sym (turn (ltb l d) refl))
+      where
+        turn : (b : Bool) → ltb l d ≡ b → (ltb l d || (eqb l d && ltb c (length s))) ≡ true
+        turn true p = rw p
+        turn false p =
+            let same : l ≡ d = omega (arith, ltb-true l (d + 1) e, ltb-false l d p) in
+            rw (p, eq-eqb l d same, lt-ltb c (length s) h)
+    go false e =
+        let long : d + 1 ≤ l = ltb-false l (d + 1) e in
+        rw (e, le-ltb c 1 (some-symbol (omega arith)), le-ltb l d (omega arith), ne-eqb l d (λ p. omega arith), and-false)
+
+-- what is done may be said in another way
+pub filling-same : (set : RuleSet) (done done′ : ℕ → Bool) (t rows : List ℕ)
+    → ((c : ℕ) → c < length (states (set .rules)) → done′ c ≡ done c) → Filling set done t rows → Filling set done′ t rows
+filling-same set done done′ t rows same filling =
+    record {
+      trie = filling .trie;
+      size = filling .size;
+      matches = λ c h. rw (same c h) (filling .matches c h);
+      failures = λ c pos h e. filling .failures c pos h (sym (same c h) ∙ e);
+      table = λ c a h k. rw (same c h) (filling .table c a h k);
+    }
+
+-- State q is passed over where it has another length, and otherwise filled.
+pub filling-skip : (set : RuleSet) (d q : ℕ) (t rows : List ℕ) → (depth t q ≡ d → ⊥) → q < length (states (set .rules))
+    → FillingAt set d q t rows → FillingAt set d (q + 1) t rows
+filling-skip set d q t rows apart h filling =
+    filling-same set (reached s d q) (reached s d (q + 1)) t rows
+    (λ c _. reached-skip s d q (λ e. apart (filling .trie .deep q h ∙ e)) c) filling
+  where
+    s : List (List ℕ)
+    s = states (set .rules)
+
+-- the states of length d are done
+pub filling-longer : (set : RuleSet) (d : ℕ) (t rows : List ℕ) → FillingAt set d (length (states (set .rules))) t rows
+    → FillingAt set (d + 1) 1 t rows
+filling-longer set d t rows filling =
+    filling-same set (reached s d (length s)) (reached s (d + 1) 1) t rows (reached-longer s d (filling .trie .root)) filling
+  where
+    s : List (List ℕ)
+    s = states (set .rules)
+
+-- State q of depth d is filled: where its failure state stands, and what holds with it.
+module _ (set : RuleSet) (q : ℕ) (t rows : List ℕ) (filling : FillingAt set (depth t q) q t rows) (pos : 0 < q)
+    (below : q < length (states (set .rules)))
+  where
+    long : length (text set q) ≡ depth t q
+    long = sym (filling .trie .deep q below)
+
+    shorter : (c : ℕ) → c < length (states (set .rules)) → length (text set c) < length (text set q)
+        → reached (states (set .rules)) (depth t q) q c ≡ true
+    shorter c h k = reached-shorter (states (set .rules)) (depth t q) q c (rw long at k)
+
+    -- the word by which the failure state is found stands in the rows
+    pub failure-place : 0 < parent t q → failure t (parent t q) * set .symbols + symbol t q < length rows
+    failure-place pos-up =
+        let up : parent t q < q = filling .trie .linked .up q pos below in
+        let below-up : parent t q < length (states (set .rules)) = omega arith in
+        let low : symbol t q < set .symbols = filling .trie .small q pos below in
+        let size : length (text set q) ≡ length (text set (parent t q)) + 1 =
+        simp length-append at (ap length (filling .trie .made q pos below))
+        in
+        let f = filling .failures (parent t q) pos-up below-up (shorter (parent t q) below-up (omega arith)) in
+        let l = listed (set .rules) (drop 1 (text set (parent t q))) (failure t (parent t q)) f in
+        omega (arith, filling .size, row-end (set .symbols) (failure t (parent t q)) (length (states (set .rules))) (l .place))
+
+    -- the failure state's node and both rows lie within their areas, and its number fits 16 bits
+    pub failure-within : inRange set ≡ true → (f : ℕ) → f ≡ failureBy t rows (set .symbols) q
+        → (8 * f + 7 < length t)
+        × (f < 65536)
+        × (q * set .symbols + set .symbols ≤ length rows)
+        × (f * set .symbols + set .symbols ≤ length rows)
+    failure-within in-range f is =
+        let n : ℕ = length (states (set .rules)) in
+        let size : length rows ≡ n * set .symbols = filling .size in
+        let room : 8 * n ≤ length t = filling .trie .linked .size in
+        let found = failure-found set (reached (states (set .rules)) (depth t q) q) t rows filling q pos below shorter in
+        let l = listed (set .rules) (drop 1 (text set q)) f (is ∙ found) in
+        let place : f < n = l .place in (
+          omega arith,
+          omega (arith, few-states set in-range),
+          omega (arith, row-end (set .symbols) q n below),
+          omega (arith, row-end (set .symbols) f n place),
+        )
+
+    pub filling-more : (t′ rows′ : List ℕ) (f : ℕ) → f ≡ failureBy t rows (set .symbols) q → Noted t t′ q f
+        → Merged rows rows′ (set .symbols) q f (set .symbols) → FillingAt set (depth t q) (q + 1) t′ rows′
+    filling-more t′ rows′ f is noted merged =
+        state-filled set (reached (states (set .rules)) (depth t q) q) t rows filling q pos below shorter
+        (reached (states (set .rules)) (depth t q) (q + 1)) t′ rows′ f (reached-next (states (set .rules)) (depth t q) q long)
+        (reached-own (states (set .rules)) (depth t q) q long) (reached-other (states (set .rules)) (depth t q) q) is noted merged

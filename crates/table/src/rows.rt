@@ -7,8 +7,8 @@ ghost use lib.ListN.{length, replicate};
 ghost use Rattle.image.specs.Image.{read, valid};
 ghost use Rattle.table.specs.States.{states, matching};
 ghost use Rattle.table.specs.Table.{matchWord};
-ghost use Rattle.table.specs.Nodes.{Trie};
-ghost use Rattle.table.specs.Rows.{Laid, Merged, Noted, Matched};
+ghost use Rattle.table.specs.Nodes.{depth, Trie};
+ghost use Rattle.table.specs.Rows.{Laid, Merged, Noted, FillingAt, Matched};
 use crate::trie::failure_of;
 use crate::trie::wide;
 
@@ -63,6 +63,19 @@ fn lay_children(image: &[u8], trie: &[u16], n: usize, rows: &mut [u16])
         let a = wide(trie[8 * c + 1]);
         rows[p * s + a] = c as u16;
     }
+}
+
+// State q, whose turn it is: its failure state, match word and row.
+fn fill_state(image: &[u8], trie: &mut [u16], rows: &mut [u16], q: usize)
+    requires { ⌜ valid (now image) ≡ true ⌝ }
+    requires state { ⌜ (0 < q) × (q < length (states (read (now image) .rules))) ⌝ }
+    requires filling { ⌜ FillingAt (read (now image)) (depth (now trie) q) q (now trie) (now rows) ⌝ }
+    ensures { λ _. ⌜ FillingAt (read (now (image .entry))) (depth (now (trie .entry)) q) (q + 1) (now (trie .exit)) (now (rows .exit)) ⌝ }
+{
+    let s = image::symbols(image);
+    let f = failure_of(trie, rows, s, q);
+    note(trie, q, f);
+    merge(rows, s, q, f);
 }
 
 // The match words from the nodes.

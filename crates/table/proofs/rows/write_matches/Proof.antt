@@ -5,6 +5,7 @@ use mathlib.Core.Path.{_≡_, refl}
 use native.Mathlib.Omega.{arith}
 use native.Mathlib.Nat.{not-suc-le-zero}
 use lib.ListN.{length, getD, length-set}
+use Rattle.image.specs.Image.{read}
 use Rattle.table.specs.Nodes.{matched}
 use Rattle.table.proofs.Filling.{written-more, written-all}
 use Rattle.table.proofs.rows.write_matches.Statement.{statement}
@@ -46,8 +47,12 @@ loop-less c = omega arith
 
 loop-again : tie.Need-loop-again Inv-loop μ-loop
 loop-again c =
-    let turn = c .before .before .loop in
-    (omega arith, simp length-set (turn .inv .1), written-more _ _ (turn .q) (omega arith) (turn .inv .2))
+    let start = c .before .before .before in
+    let turn = c .before .before .loop in (
+      omega arith,
+      simp length-set (turn .inv .1),
+      written-more (start .args .trie .now) (turn .words) (turn .q) (omega arith) (turn .inv .2),
+    )
 
 same-length : tie.Need-same-length Inv-loop μ-loop
 same-length c = c .before .loop .inv .1
@@ -56,7 +61,7 @@ returns : tie.Need-returns Inv-loop μ-loop
 returns c =
     let start = c .before .before in
     let turn = c .before .loop in
-    written-all _ _ _ (start .pre .0) (omega arith) (λ k h. turn .inv .2 k (omega arith))
+    written-all (read (start .args .image .now)) (start .args .trie .now) (turn .words) (start .pre .0) (omega arith) (λ k h. turn .inv .2 k (omega arith))
 
 pub write-matches-spec : {M : Type 1} → statement M
 write-matches-spec =
