@@ -78,6 +78,20 @@ fn fill_state(image: &[u8], trie: &mut [u16], rows: &mut [u16], q: usize)
     merge(rows, s, q, f);
 }
 
+// The states of depth d, whose turn it is.
+fn fill_depth(image: &[u8], trie: &mut [u16], rows: &mut [u16], n: usize, d: u16)
+    requires { ⌜ valid (now image) ≡ true ⌝ }
+    requires count { ⌜ n ≡ length (states (read (now image) .rules)) ⌝ }
+    requires filling { ⌜ FillingAt (read (now image)) d 1 (now trie) (now rows) ⌝ }
+    ensures { λ _. ⌜ FillingAt (read (now (image .entry))) (d + 1) 1 (now (trie .exit)) (now (rows .exit)) ⌝ }
+{
+    for q in 1..n {
+        if trie[8 * q + 2] == d {
+            fill_state(image, trie, rows, q);
+        }
+    }
+}
+
 // The match words from the nodes.
 pub fn write_matches(image: &[u8], trie: &[u16], n: usize, words: &mut [u16])
     requires matches { ⌜ Matched (read (now image)) (now trie) ⌝ }
