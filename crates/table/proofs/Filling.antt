@@ -193,7 +193,7 @@ written-all set t words matches size all =
     word q = matchWord (matching (set .rules) q)
 
 -- each state but the empty one has a first symbol
-first-symbol : (rules : List Rule) (c : ℕ) → 0 < c → c < length (states rules)
+pub first-symbol : (rules : List Rule) (c : ℕ) → 0 < c → c < length (states rules)
     → (y : ℕ) × (w : List ℕ) × (getD (states rules) c [] ≡ y ∷ w)
 first-symbol rules c pos below = go (getD (states rules) c []) refl
   where

@@ -5,3 +5,4 @@ pub mod Compile
 pub mod Computed
 pub mod RowWords
 pub mod Filling
+pub mod Filled

@@ -8,7 +8,7 @@ ghost use Rattle.image.specs.Image.{read, valid};
 ghost use Rattle.table.specs.States.{states, matching};
 ghost use Rattle.table.specs.Table.{matchWord};
 ghost use Rattle.table.specs.Nodes.{depth, Trie};
-ghost use Rattle.table.specs.Rows.{Laid, Merged, Noted, FillingAt, Matched};
+ghost use Rattle.table.specs.Rows.{Laid, Merged, Noted, FillingAt, Matched, Fillable, Filled};
 use crate::trie::failure_of;
 use crate::trie::wide;
 
@@ -89,6 +89,19 @@ fn fill_depth(image: &[u8], trie: &mut [u16], rows: &mut [u16], n: usize, d: u16
         if trie[8 * q + 2] == d {
             fill_state(image, trie, rows, q);
         }
+    }
+}
+
+// The rows of the table, and its match words in the nodes: short states before long, as a failure state is shorter.
+pub fn fill(image: &[u8], trie: &mut [u16], n: usize, rows: &mut [u16])
+    requires { ⌜ valid (now image) ≡ true ⌝ }
+    requires fillable { ⌜ Fillable (read (now image)) (now trie) n (now rows) ⌝ }
+    ensures { λ _. ⌜ Filled (read (now (image .entry))) (now (trie .entry)) (now (trie .exit)) (now (rows .exit)) ⌝ }
+{
+    clear(rows);
+    lay_children(image, trie, n, rows);
+    for d in 1..9 {
+        fill_depth(image, trie, rows, n, d);
     }
 }
 
