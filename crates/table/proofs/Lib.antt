@@ -7,3 +7,6 @@ pub mod Nodes
 pub mod Growth
 pub mod Walk
 pub mod Computed
+pub mod RowWords
+pub mod Filling
+pub mod Filled

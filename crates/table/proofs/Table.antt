@@ -21,7 +21,8 @@ use Rattle.table.specs.States.{next, matching, states, number}
 use Rattle.table.specs.Table.{matchWord, row, tableOf}
 use Rattle.table.proofs.States.{next-below, few-states}
 
-length-row : (set : RuleSet) (q : List ℕ) → length (row set q) ≡ set .symbols
+-- a row has a word for each symbol: the number of the next state
+pub length-row : (set : RuleSet) (q : List ℕ) → length (row set q) ≡ set .symbols
 unfolding row
 length-row set q = rw (length-map, length-upTo)
 
@@ -64,7 +65,7 @@ table-match set i h =
     (List·getD-append (matchWords set) (flatMap (row set) (states (set .rules))) 0 i (omega arith)
     ∙ getD-map (λ q. matchWord (matching (set .rules) q)) (states (set .rules)) i [] 0 h)
 
-row-at : (set : RuleSet) (q : List ℕ) (a : ℕ) → a < set .symbols
+pub row-at : (set : RuleSet) (q : List ℕ) (a : ℕ) → a < set .symbols
     → getD (row set q) a 0 ≡ number (states (set .rules)) (next (set .rules) q a)
 unfolding row
 row-at set q a h =

@@ -4,3 +4,4 @@ pub mod Table
 pub mod Compile
 pub mod Check
 pub mod Nodes
+pub mod Rows

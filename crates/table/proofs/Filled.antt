@@ -1,0 +1,165 @@
+-- Where the filling of the rows begins and ends: with the children alone it holds of the empty state, and when the states of
+-- 8 symbols are done, the rows and match words are the table's.
+-- Assumes nothing.
+use Prim.Native.Nat.{ℕ, _+_, _*_, _/_, _%_, _≤_, _<_}
+use mathlib.Core.Path.{_≡_, refl, sym, ap, _∙_}
+use mathlib.Core.Bool.{Bool, true, false, cond, _||_, and-false}
+use mathlib.Core.Logic.{_⊎_, inl, inr}
+use mathlib.Core.Option.{Option, none, some}
+use mathlib.Core.List.{List, [], _∷_, flatMap}
+use native.Mathlib.Omega.{arith}
+use native.Mathlib.Nat.{mod-lt, div-add-mod', div-lt-iff-lt-mul}
+use lib.Dec.{eqb}
+use lib.ListN.{length, getD, drop, length-append}
+use lib.Seq.{ext-getD}
+use borrow.Author.Tests.{eqb-true, eqb-false, le-ltb}
+use Rattle.rewriting.specs.Lists.{all, prefix}
+use Rattle.rewriting.specs.Rules.{Rule, RuleSet, rule, ruleInRange, inRange}
+use Rattle.rewriting.specs.Occurrences.{lowest, ending}
+use Rattle.rewriting.proofs.Lists.{and-left, and-right, or-cases, prefix-rest, length-flatMap, getD-flatMap}
+use Rattle.rewriting.proofs.Ranges.{rule-ranges, ranges, rule-at}
+use Rattle.rewriting.proofs.Scan.{lowest-left}
+use Rattle.table.specs.States.{isPrefix, state, next, matching, known, states, number}
+use Rattle.table.specs.Table.{matchWord, row}
+use Rattle.table.specs.Nodes.{matched, Trie, Owned}
+use Rattle.table.specs.Rows.{entry, text, childNumber, Laid, reached, Filling, FillingAt, Matched, Filled}
+use Rattle.table.proofs.States.{known-states, listed-prefix, number-zero, state-zero}
+use Rattle.table.proofs.Table.{length-row, row-at}
+use Rattle.table.proofs.Filling.{first-symbol, reached-shorter}
+
+-- no left side is empty, so the empty state has no match word
+root-match : (set : RuleSet) → inRange set ≡ true → matchWord (lowest (set .rules) []) ≡ matchWord (matching (set .rules) [])
+unfolding matching ending
+root-match set e = ap matchWord (go (lowest (set .rules) []) refl)
+  where
+    go : (o : Option ℕ) → lowest (set .rules) [] ≡ o → o ≡ none
+    go none p = refl
+    go (some i) p =
+        let found = lowest-left (set .rules) [] i p in
+        let size : length (rule (set .rules) i .left) ≡ 0 = ap length (found .1) in
+        absurd (omega (arith, rule-at set (ranges set e) i (found .0) .some-left))
+
+-- the row of the empty state has its children alone
+root-row : (rules : List Rule) (a : ℕ) → childNumber (states rules) [] a ≡ number (states rules) (next rules [] a)
+unfolding childNumber next state
+root-row rules a = rw (known-states rules (a ∷ [])) (go (isPrefix rules (a ∷ [])))
+  where
+    go : (b : Bool) → cond b (number (states rules) (a ∷ [])) 0 ≡ number (states rules) (cond b (a ∷ []) [])
+    go true = refl
+    go false = sym (number-zero rules)
+
+-- the states longer than the empty one are not done at the start
+reached-root : (rules : List Rule) (c : ℕ) → 0 < c → c < length (states rules) → reached (states rules) 1 1 c ≡ false
+unfolding reached
+reached-root rules c pos below =
+    let (y, w, string) = first-symbol rules c pos below in
+    let size = ap length string in
+    rw (le-ltb (length (getD (states rules) c [])) 1 (omega arith), le-ltb c 1 pos, and-false)
+
+-- With the children laid, the empty state is done.
+pub filling-start : (set : RuleSet) (t rows : List ℕ) → inRange set ≡ true → Trie (states (set .rules)) (set .symbols) t
+    → Owned (set .rules) (states (set .rules)) t → Laid set rows → FillingAt set 1 1 t rows
+filling-start set t rows e trie owned laid =
+    record {
+      trie = trie;
+      size = laid .size;
+      matches = λ c h. match c h (eqb c 0) refl;
+      failures = λ c pos h p.
+          let z : _≡_ {A = Bool} false true = sym (reached-root (set .rules) c pos h) ∙ p in
+          let zero-one : _≡_ {A = ℕ} 0 1 = cc in
+          absurd (omega arith);
+      table = λ c a h k. word c a h k (eqb c 0) refl;
+    }
+  where
+    rules : List Rule
+    rules = set .rules
+
+    s : List (List ℕ)
+    s = states rules
+
+    root : reached s 1 1 0 ≡ true
+    root = let size = ap length (state-zero rules) in reached-shorter s 1 1 0 (omega arith)
+
+    match : (c : ℕ) → c < length s → (b : Bool) → eqb c 0 ≡ b
+        → matched t c ≡ cond (reached s 1 1 c) (matchWord (matching rules (text set c))) (matchWord (lowest rules (text set c)))
+    match c h true p =
+        let same : c ≡ 0 = eqb-true c 0 p in
+        let own : matched t 0 ≡ matchWord (lowest rules []) = rw state-zero at (owned 0 (rw same at h)) in
+        rw (same, root, state-zero) (own ∙ root-match set e)
+    match c h false p =
+        let differs = eqb-false c 0 p in
+        rw (reached-root rules c (omega (arith, differs)) h) (owned c h)
+
+    word : (c a : ℕ) → c < length s → a < set .symbols → (b : Bool) → eqb c 0 ≡ b
+        → entry (set .symbols) rows c a ≡ cond (reached s 1 1 c) (number s (next rules (text set c) a)) (childNumber s (text set c) a)
+    word c a h k true p =
+        let same : c ≡ 0 = eqb-true c 0 p in
+        let own : entry (set .symbols) rows 0 a ≡ childNumber s [] a = rw state-zero at (laid .table 0 a (rw same at h) k) in
+        rw (same, root, state-zero) (own ∙ root-row rules a)
+    word c a h k false p =
+        let differs = eqb-false c 0 p in
+        rw (reached-root rules c (omega (arith, differs)) h) (laid .table c a h k)
+
+-- a prefix of a left side has at most 8 symbols, and so has each state
+prefix-short : (set : RuleSet) (rules : List Rule) → all (ruleInRange set) rules ≡ true
+    → (v : List ℕ) → isPrefix rules v ≡ true → length v ≤ 8
+unfolding isPrefix
+prefix-short set [] e v p = let z : _≡_ {A = ℕ} 0 1 = cc in absurd (omega arith)
+prefix-short set (r ∷ rules) e v p =
+    go (or-cases (prefix v (r .left)) (isPrefix rules v) p)
+    (prefix-short set rules (and-right (ruleInRange set r) (all (ruleInRange set) rules) e) v)
+  where
+    go : (prefix v (r .left) ≡ true) ⊎ (isPrefix rules v ≡ true) → (isPrefix rules v ≡ true → length v ≤ 8) → length v ≤ 8
+    go (inl h) ih =
+        let own = rule-ranges set r (and-left (ruleInRange set r) (all (ruleInRange set) rules) e) in
+        let size : length (r .left) ≡ length v + length (drop (length v) (r .left)) =
+        ap length (prefix-rest v (r .left) h) ∙ length-append v (drop (length v) (r .left))
+        in
+        omega (arith, own .short-left)
+    go (inr h) ih = ih h
+
+short-state : (set : RuleSet) → inRange set ≡ true → (c : ℕ) → c < length (states (set .rules)) → length (text set c) ≤ 8
+short-state set e c h = go (listed-prefix (set .rules) c h)
+  where
+    go : (text set c ≡ []) ⊎ (isPrefix (set .rules) (text set c) ≡ true) → length (text set c) ≤ 8
+    go (inl p) = let size = ap length p in omega arith
+    go (inr p) = prefix-short set (set .rules) (ranges set e .all-rules) (text set c) p
+
+-- rows of the next states, word by word, are the rows of the table
+rows-whole : (set : RuleSet) (rows : List ℕ) → 0 < set .symbols → length rows ≡ length (states (set .rules)) * set .symbols
+    → ((c a : ℕ) → c < length (states (set .rules)) → a < set .symbols
+    → entry (set .symbols) rows c a ≡ number (states (set .rules)) (next (set .rules) (text set c) a))
+    → rows ≡ flatMap (row set) (states (set .rules))
+rows-whole set rows pos size each =
+    ext-getD 0 rows (flatMap (row set) s) (size ∙ sym (length-flatMap (row set) (set .symbols) (length-row set) s)) word
+  where
+    s : List (List ℕ)
+    s = states (set .rules)
+
+    word : (k : ℕ) → k < length rows → getD rows k 0 ≡ getD (flatMap (row set) s) k 0
+    word k h =
+        let q : ℕ = k / set .symbols in
+        let a : ℕ = k % set .symbols in
+        let low : a < set .symbols = mod-lt k pos in
+        let listed : q < length s = div-lt-iff-lt-mul pos .1 (rw size at h) in
+        let place : q * set .symbols + a ≡ k = div-add-mod' k (set .symbols) in
+        ap (λ (i : ℕ). getD rows i 0) (sym place)
+        ∙ each q a listed low
+        ∙ sym (row-at set (getD s q []) a low)
+        ∙ sym (getD-flatMap (row set) (set .symbols) (length-row set) s q a [] 0 listed low)
+        ∙ ap (λ (i : ℕ). getD (flatMap (row set) s) i 0) place
+
+-- When the states of 8 symbols are done, all are.
+pub filling-end : (set : RuleSet) (t t′ rows : List ℕ) → inRange set ≡ true → length t′ ≡ length t → FillingAt set 9 1 t′ rows
+    → Filled set t t′ rows
+filling-end set t t′ rows e size filling =
+    record {
+      size = size;
+      table =
+          rows-whole set rows (ranges set e .some-symbol) (filling .size)
+          (λ c a h k. rw (final c h) at (filling .table c a h k));
+      matches = λ c h. rw (final c h) at (filling .matches c h);
+    }
+  where
+    final : (c : ℕ) → c < length (states (set .rules)) → reached (states (set .rules)) 9 1 c ≡ true
+    final c h = let short = short-state set e c h in reached-shorter (states (set .rules)) 9 1 c (omega arith)

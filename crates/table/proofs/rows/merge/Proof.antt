@@ -1,0 +1,103 @@
+-- `table::rows::merge` meets its contract. The loop's invariant: the first `a` words of the row of `q` are merged.
+-- Assumes nothing.
+use Prim.Native.Nat.{_+_, _*_, _≤_, _<_, _-_}
+use mathlib.Core.Path.{_≡_, refl}
+use mathlib.Core.Bool.{cond}
+use mathlib.Core.Logic.{⊎-elim}
+use native.Mathlib.Omega.{arith}
+use lib.Dec.{eqb}
+use lib.ListN.{length, getD, length-set}
+use Rattle.table.specs.Rows.{Merged}
+use Rattle.table.proofs.RowWords.{chosen-zero, chosen-own, merged-none, merged-more}
+use Rattle.table.proofs.rows.merge.Statement.{statement}
+use Rattle.table.proofs.rows.merge.Tie as tie
+
+abbrev Inv-loop : tie.InvT-loop
+Inv-loop rows₀ s q f to from a₀ rows a = (a ≤ s) × (length rows ≡ length rows₀) × Merged rows₀ rows s q f a
+
+abbrev μ-loop : tie.MeasureT-loop
+μ-loop rows₀ s q f to from a₀ rows a = s - a
+
+mul-to : tie.Need-mul-to Inv-loop μ-loop
+mul-to c = omega arith
+
+mul-from : tie.Need-mul-from Inv-loop μ-loop
+mul-from c = omega arith
+
+loop-holds : tie.Need-loop-holds Inv-loop μ-loop
+loop-holds c = (omega arith, refl, merged-none _ _ _ _)
+
+add-x : tie.Need-add-x Inv-loop μ-loop
+add-x c = omega arith
+
+mul-x : tie.Need-mul-x Inv-loop μ-loop
+mul-x c = omega arith
+
+slice-read-x : tie.Need-slice-read-x Inv-loop μ-loop
+slice-read-x c = omega arith
+
+add-y : tie.Need-add-y Inv-loop μ-loop
+add-y c = omega arith
+
+mul-y : tie.Need-mul-y Inv-loop μ-loop
+mul-y c = omega arith
+
+slice-read-y : tie.Need-slice-read-y Inv-loop μ-loop
+slice-read-y c = omega arith
+
+add-rows : tie.Need-add-rows Inv-loop μ-loop
+add-rows c = omega arith
+
+mul-rows : tie.Need-mul-rows Inv-loop μ-loop
+mul-rows c = omega arith
+
+slice-write-rows : tie.Need-slice-write-rows Inv-loop μ-loop
+slice-write-rows c = omega arith
+
+add-a : tie.Need-add-a Inv-loop μ-loop
+add-a c = omega arith
+
+loop-less : tie.Need-loop-less Inv-loop μ-loop
+loop-less c = omega arith
+
+loop-again : tie.Need-loop-again Inv-loop μ-loop
+loop-again c =
+    let turn = c .before .before .before .before .loop in
+    let start = c .before .before .before .before .before in (
+      omega arith,
+      simp length-set (turn .inv .1),
+      merged-more _ _ _ _ _ _ (start .pre .0) (c .before .before .before .loop-test .taken) (turn .inv .2) _
+          (⊎-elim (λ w. chosen-zero _ _ _ (w .0 .taken) (w .1)) (λ w. chosen-own _ _ _ (w .0 .left) (w .1)) (c .if1 .came)),
+    )
+
+same-length : tie.Need-same-length Inv-loop μ-loop
+same-length c = c .before .loop .inv .1
+
+returns : tie.Need-returns Inv-loop μ-loop
+returns c =
+    let all : c .before .loop .a ≡ c .before .before .args .s = omega arith in
+    rw all at (c .before .loop .inv .2)
+
+pub merge-spec : {M : Type 1} → statement M
+merge-spec =
+    tie.close
+    (tie.spec
+    Inv-loop
+    μ-loop
+    mul-to
+    mul-from
+    loop-holds
+    add-x
+    mul-x
+    slice-read-x
+    add-y
+    mul-y
+    slice-read-y
+    add-rows
+    mul-rows
+    slice-write-rows
+    add-a
+    loop-less
+    loop-again
+    same-length
+    returns)
