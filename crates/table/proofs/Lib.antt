@@ -1,11 +1,12 @@
 pub mod Matching
 pub mod States
 pub mod Table
-pub mod Compile
+pub mod Compilation
 pub mod Tally
 pub mod Nodes
 pub mod Growth
 pub mod Walk
+pub mod Written
 pub mod Computed
 pub mod RowWords
 pub mod Filling

@@ -43,7 +43,7 @@ unfoldable pub wordCount : Compiled → ℕ
 wordCount (Words n) = n
 wordCount (Refused n) = 0
 
--- What is promised of compile on whatever image and area, and of what it leads to: `compile-theorem` (proofs/Compile.antt).
+-- What is promised of compile on whatever image and area, and of what it leads to: `compile-theorem` (proofs/Compilation.antt).
 pub record CompileEnded (image area : List ℕ) (c : Compilation) : Type 0 where
   -- It is refused with 7 or 8, and then the area is as it was, ..
   pub refused : (n : ℕ) → refusedBy (c .answer) ≡ some n

@@ -1,0 +1,66 @@
+-- The table written in parts: its first two words, then the rows, then the match words between them.
+-- Assumes nothing.
+use Prim.Native.Nat.{ℕ, suc, _+_, _-_, _≤_, _<_}
+use mathlib.Core.Path.{_≡_, refl, sym, ap, _∙_}
+use mathlib.Core.List.{List, [], _∷_, _++_, append-nil}
+use native.Mathlib.Omega.{arith}
+use lib.ListN.{length, take, drop, set, length-append, length-set, length-drop}
+use lib.Seq.{length-take-le, drop-drop, drop-length, drop-at}
+use borrow.Rule.Slice.PartMut.{putMid}
+
+-- an area whose first two words are n and s
+abbrev pub headed : List ℕ → ℕ → ℕ → List ℕ
+headed table n s = set (set table 0 n) 1 s
+
+-- .. with rows behind the place of n match words
+abbrev pub rowed : List ℕ → ℕ → ℕ → List ℕ → List ℕ
+rowed table n s rows = putMid (2 + n) (length (headed table n s) - (2 + n)) (headed table n s) rows
+
+-- .. and with the match words
+abbrev pub wordsOf : List ℕ → ℕ → ℕ → List ℕ → List ℕ → List ℕ
+wordsOf table n s rows matches = putMid 2 (2 + n - 2) (rowed table n s rows) matches
+
+module _ (table : List ℕ) (n s r : ℕ) (size : length table ≡ 2 + n + r) where
+  pub headed-length : length (headed table n s) ≡ 2 + n + r
+  headed-length = simp length-set size
+
+  pub rows-part : length (take (length (headed table n s) - (2 + n)) (drop (2 + n) (headed table n s))) ≡ r
+  rows-part =
+      let e = headed-length in
+      let d = length-drop (2 + n) (headed table n s) in
+      length-take-le (length (headed table n s) - (2 + n)) (drop (2 + n) (headed table n s)) (omega arith) ∙ omega arith
+
+  module _ (rows : List ℕ) (long : length rows ≡ r) where
+    rowed-is : rowed table n s rows ≡ n ∷ s ∷ (take n (drop 2 table) ++ rows)
+    rowed-is = go table size
+      where
+        go : (table : List ℕ) → length table ≡ 2 + n + r → rowed table n s rows ≡ n ∷ s ∷ (take n (drop 2 table) ++ rows)
+        go [] e = absurd (omega arith)
+        go (x ∷ []) e = absurd (omega arith)
+        go (x ∷ y ∷ l) e =
+            let two : 2 + n ≡ suc (suc n) = omega arith in
+            let rest : drop (length (n ∷ s ∷ l) - (2 + n)) (drop n l) ≡ [] =
+            drop-drop (length (n ∷ s ∷ l) - (2 + n)) n l
+            ∙ (let all : n + (length (n ∷ s ∷ l) - (2 + n)) ≡ length l = omega arith in rw all (drop-length l))
+            in
+            rw two (rw (← two) (ap (λ (z : List ℕ). n ∷ s ∷ (take n l ++ (rows ++ z))) rest ∙ rw append-nil))
+
+    within : length (take n (drop 2 table)) ≡ n
+    within = length-take-le n (drop 2 table) (rw length-drop (omega arith))
+
+    pub rowed-length : length (rowed table n s rows) ≡ 2 + n + r
+    rowed-length = rw rowed-is (let e = within in simp length-append (omega arith))
+
+    pub matches-part : length (take (2 + n - 2) (drop 2 (rowed table n s rows))) ≡ n
+    matches-part =
+        let e = rowed-length in
+        let d = length-drop 2 (rowed table n s rows) in
+        length-take-le (2 + n - 2) (drop 2 (rowed table n s rows)) (omega arith) ∙ omega arith
+
+    pub words-are : (matches : List ℕ) → wordsOf table n s rows matches ≡ n ∷ s ∷ (matches ++ rows)
+    words-are matches =
+        let back : 2 + n - 2 ≡ n = omega arith in
+        rw (rowed-is, back, drop-at (take n (drop 2 table)) rows n within)
+
+    pub words-length : (matches : List ℕ) → length matches ≡ n → length (wordsOf table n s rows matches) ≡ length table
+    words-length matches e = rw words-are (simp length-append (omega arith))
