@@ -4,5 +4,7 @@ pub mod Table
 pub mod Compile
 pub mod Computed
 pub mod RowWords
+pub mod Laying
 pub mod Filling
+pub mod Turns
 pub mod Filled

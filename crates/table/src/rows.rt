@@ -21,6 +21,22 @@ fn clear(rows: &mut [u16])
     }
 }
 
+// Each node's number into the row of its parent.
+fn lay_children(image: &[u8], trie: &[u16], n: usize, rows: &mut [u16])
+    requires { ⌜ valid (now image) ≡ true ⌝ }
+    requires trie { ⌜ Trie (states (read (now image) .rules)) (read (now image) .symbols) (now trie) ⌝ }
+    requires count { ⌜ n ≡ length (states (read (now image) .rules)) ⌝ }
+    requires clear { ⌜ now rows ≡ replicate (n * read (now image) .symbols) 0 ⌝ }
+    ensures { λ _. ⌜ Laid (read (now (image .entry))) (now (rows .exit)) ⌝ }
+{
+    let s = image::symbols(image);
+    for c in 1..n {
+        let p = wide(trie[8 * c]);
+        let a = wide(trie[8 * c + 1]);
+        rows[p * s + a] = c as u16;
+    }
+}
+
 // Each 0 in the row of q becomes the word of the row of f. The store is made at every symbol, so that many go at once.
 fn merge(rows: &mut [u16], s: usize, q: usize, f: usize)
     requires own { ⌜ q * s + s ≤ length (now rows) ⌝ }
@@ -47,22 +63,6 @@ fn note(trie: &mut [u16], q: usize, f: usize)
     let other = trie[8 * f + 6];
     trie[8 * q + 7] = f as u16;
     trie[8 * q + 6] = if own == 0 { other } else { own };
-}
-
-// Each node's number into the row of its parent.
-fn lay_children(image: &[u8], trie: &[u16], n: usize, rows: &mut [u16])
-    requires { ⌜ valid (now image) ≡ true ⌝ }
-    requires trie { ⌜ Trie (states (read (now image) .rules)) (read (now image) .symbols) (now trie) ⌝ }
-    requires count { ⌜ n ≡ length (states (read (now image) .rules)) ⌝ }
-    requires clear { ⌜ now rows ≡ replicate (n * read (now image) .symbols) 0 ⌝ }
-    ensures { λ _. ⌜ Laid (read (now (image .entry))) (now (rows .exit)) ⌝ }
-{
-    let s = image::symbols(image);
-    for c in 1..n {
-        let p = wide(trie[8 * c]);
-        let a = wide(trie[8 * c + 1]);
-        rows[p * s + a] = c as u16;
-    }
 }
 
 // State q, whose turn it is: its failure state, match word and row.

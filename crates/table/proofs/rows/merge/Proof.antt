@@ -1,12 +1,10 @@
 -- `table::rows::merge` meets its contract. The loop's invariant: the first `a` words of the row of `q` are merged.
 -- Assumes nothing.
-use Prim.Native.Nat.{_+_, _*_, _≤_, _<_, _-_}
+use Prim.Native.Nat.{_≤_, _-_}
 use mathlib.Core.Path.{_≡_, refl}
-use mathlib.Core.Bool.{cond}
 use mathlib.Core.Logic.{⊎-elim}
 use native.Mathlib.Omega.{arith}
-use lib.Dec.{eqb}
-use lib.ListN.{length, getD, length-set}
+use lib.ListN.{length, length-set}
 use Rattle.table.specs.Rows.{Merged}
 use Rattle.table.proofs.RowWords.{chosen-zero, chosen-own, merged-none, merged-more}
 use Rattle.table.proofs.rows.merge.Statement.{statement}
