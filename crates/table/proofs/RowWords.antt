@@ -10,7 +10,7 @@ use native.Mathlib.Nat.{not-suc-le-zero, suc-mul, mul-le-mul-right}
 use lib.Dec.{eqb, ltb}
 use lib.ListN.{length, getD, set, length-set}
 use lib.Seq.{getD-set-same, getD-set-other}
-use borrow.Author.Tests.{ltb-true, ltb-false, eqb-true, eqb-false, eq-eqb, ne-eqb}
+use borrow.Author.Tests.{ltb-true, ltb-false, eqb-true, eqb-false}
 use Rattle.table.specs.Nodes.{parent, symbol, depth, youngest, older, children, matched, Linked, Trie}
 use Rattle.table.specs.Rows.{Merged, Noted}
 
@@ -47,13 +47,6 @@ place-row s q f a b h k e = go (eqb q f) refl
         absurd
         (⊎-elim (λ (l : q * s + s ≤ f * s). omega arith) (λ (l : f * s + s ≤ q * s). omega arith)
         (row-apart s f q (eqb-false q f p)))
-
--- a word, and another in its place where it is 0
-pub chosen-zero : (x y v : ℕ) → x ≡ 0 → v ≡ y → v ≡ cond (eqb x 0) y x
-chosen-zero x y v e p = rw (eq-eqb x 0 e) p
-
-pub chosen-own : (x y v : ℕ) → (x ≡ 0 → ⊥) → v ≡ x → v ≡ cond (eqb x 0) y x
-chosen-own x y v e p = rw (ne-eqb x 0 e) p
 
 -- before the first word is merged
 pub merged-none : (rows : List ℕ) (s q f : ℕ) → Merged rows rows s q f 0
