@@ -1,31 +1,32 @@
--- Where the filling of the rows begins and ends: with the children alone it holds of the empty state, and when the states of
--- 8 symbols are done, the rows and match words are the table's.
+-- Where the filling of the rows begins and ends: with the children laid the empty state is done, and when the states of 8
+-- symbols are done, the rows and match words are the table's, and are written there.
 -- Assumes nothing.
 use Prim.Native.Nat.{ℕ, _+_, _*_, _/_, _%_, _≤_, _<_}
 use mathlib.Core.Path.{_≡_, refl, sym, ap, _∙_}
-use mathlib.Core.Bool.{Bool, true, false, cond, _||_, and-false}
+use mathlib.Core.Bool.{Bool, true, false, cond, and-false}
 use mathlib.Core.Logic.{_⊎_, inl, inr}
 use mathlib.Core.Option.{Option, none, some}
-use mathlib.Core.List.{List, [], _∷_, flatMap}
+use mathlib.Core.List.{List, [], _∷_, flatMap, map}
 use native.Mathlib.Omega.{arith}
 use native.Mathlib.Nat.{mod-lt, div-add-mod', div-lt-iff-lt-mul}
 use lib.Dec.{eqb}
-use lib.ListN.{length, getD, drop, length-append}
-use lib.Seq.{ext-getD}
+use lib.ListN.{length, getD, drop, length-append, length-map, set as store}
+use lib.Seq.{ext-getD, getD-set-same, getD-set-other}
 use borrow.Author.Tests.{eqb-true, eqb-false, le-ltb}
 use Rattle.rewriting.specs.Lists.{all, prefix}
 use Rattle.rewriting.specs.Rules.{Rule, RuleSet, rule, ruleInRange, inRange}
 use Rattle.rewriting.specs.Occurrences.{lowest, ending}
-use Rattle.rewriting.proofs.Lists.{and-left, and-right, or-cases, prefix-rest, length-flatMap, getD-flatMap}
+use Rattle.rewriting.proofs.Lists.{and-left, and-right, or-cases, prefix-rest, length-flatMap, getD-flatMap, getD-map}
 use Rattle.rewriting.proofs.Ranges.{rule-ranges, ranges, rule-at}
 use Rattle.rewriting.proofs.Scan.{lowest-left}
-use Rattle.table.specs.States.{isPrefix, state, next, matching, known, states, number}
+use Rattle.table.specs.States.{isPrefix, state, next, matching, states, number}
 use Rattle.table.specs.Table.{matchWord, row}
 use Rattle.table.specs.Nodes.{matched, Trie, Owned}
-use Rattle.table.specs.Rows.{entry, text, childNumber, Laid, reached, Filling, FillingAt, Matched, Filled}
+use Rattle.table.specs.Rows.{entry, text, childNumber, Laid, reached, FillingAt, Matched, Filled}
 use Rattle.table.proofs.States.{known-states, listed-prefix, number-zero, state-zero}
 use Rattle.table.proofs.Table.{length-row, row-at}
-use Rattle.table.proofs.Filling.{first-symbol, reached-shorter}
+use Rattle.table.proofs.Filling.{first-symbol}
+use Rattle.table.proofs.Turns.{reached-shorter}
 
 -- no left side is empty, so the empty state has no match word
 root-match : (set : RuleSet) → inRange set ≡ true → matchWord (lowest (set .rules) []) ≡ matchWord (matching (set .rules) [])
@@ -163,3 +164,26 @@ filling-end set t t′ rows e size filling =
   where
     final : (c : ℕ) → c < length (states (set .rules)) → reached (states (set .rules)) 9 1 c ≡ true
     final c h = let short = short-state set e c h in reached-shorter (states (set .rules)) 9 1 c (omega arith)
+
+-- The match words are written one by one.
+pub written-more : (t words : List ℕ) (q : ℕ) → q < length words → ((k : ℕ) → k < q → getD words k 0 ≡ matched t k)
+    → (k : ℕ) → k < q + 1 → getD (store words q (matched t q)) k 0 ≡ matched t k
+written-more t words q h all k l = go (eqb k q) refl
+  where
+    go : (b : Bool) → eqb k q ≡ b → getD (store words q (matched t q)) k 0 ≡ matched t k
+    go true e =
+        let same : k ≡ q = eqb-true k q e in
+        rw same (getD-set-same words q (matched t q) 0 h)
+    go false e =
+        let differs = eqb-false k q e in
+        getD-set-other words q k (matched t q) 0 differs ∙ all k (omega (arith, differs))
+
+pub written-all : (set : RuleSet) (t words : List ℕ) → Matched set t → length words ≡ length (states (set .rules))
+    → ((k : ℕ) → k < length words → getD words k 0 ≡ matched t k)
+    → words ≡ map (λ q. matchWord (matching (set .rules) q)) (states (set .rules))
+written-all set t words matches size all =
+    ext-getD 0 words (map word (states (set .rules))) (size ∙ sym (length-map (states (set .rules)) word))
+    (λ k h. all k h ∙ matches k (omega arith) ∙ sym (getD-map word (states (set .rules)) k [] 0 (omega arith)))
+  where
+    word : List ℕ → ℕ
+    word q = matchWord (matching (set .rules) q)

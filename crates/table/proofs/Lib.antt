@@ -9,5 +9,7 @@ pub mod Walk
 pub mod Written
 pub mod Computed
 pub mod RowWords
+pub mod Laying
 pub mod Filling
+pub mod Turns
 pub mod Filled

@@ -20,10 +20,6 @@ entry symbols rows q a = getD rows (q * symbols + a) 0
 abbrev pub text : RuleSet → ℕ → List ℕ
 text set c = getD (states (set .rules)) c []
 
--- the number of the string v where it is a state below n, else 0
-unfoldable pub numberBelow : List (List ℕ) → ℕ → List ℕ → ℕ
-numberBelow s n v = cond (known s v && ltb (number s v) n) (number s v) 0
-
 -- the child of state v by symbol a, 0 where it has none
 unfoldable pub childNumber : List (List ℕ) → List ℕ → ℕ → ℕ
 childNumber s v a = cond (known s (v ++ a ∷ [])) (number s (v ++ a ∷ [])) 0

@@ -1,8 +1,9 @@
 // The rows and match words of the table, filled from the trie. specs/Rows.antt says what stands in them on the way.
 ghost use Prim.Native.Nat.{_+_, _*_, _≤_, _<_};
 ghost use mathlib.Core.Path.{_≡_};
-ghost use mathlib.Core.Bool.{true};
+ghost use mathlib.Core.Bool.{true, cond};
 ghost use mathlib.Core.List.{map};
+ghost use lib.Dec.{eqb};
 ghost use lib.ListN.{length, replicate};
 ghost use Rattle.image.specs.Image.{read, valid};
 ghost use Rattle.table.specs.States.{states, matching};
@@ -21,34 +22,6 @@ fn clear(rows: &mut [u16])
     }
 }
 
-// Each 0 in the row of q becomes the word of the row of f. The store is made at every symbol, so that many go at once.
-fn merge(rows: &mut [u16], s: usize, q: usize, f: usize)
-    requires own { ⌜ q * s + s ≤ length (now rows) ⌝ }
-    requires other { ⌜ f * s + s ≤ length (now rows) ⌝ }
-    ensures { λ _. ⌜ Merged (now (rows .entry)) (now (rows .exit)) s q f s ⌝ }
-{
-    let to = q * s;
-    let from = f * s;
-    for a in 0..s {
-        let x = rows[to + a];
-        let y = rows[from + a];
-        rows[to + a] = if x == 0 { y } else { x };
-    }
-}
-
-// The failure state f of node q and, where q has no match word of its own, that of f.
-fn note(trie: &mut [u16], q: usize, f: usize)
-    requires own { ⌜ 8 * q + 7 < length (now trie) ⌝ }
-    requires other { ⌜ 8 * f + 7 < length (now trie) ⌝ }
-    requires small { ⌜ f < 65536 ⌝ }
-    ensures { λ _. ⌜ Noted (now (trie .entry)) (now (trie .exit)) q f ⌝ }
-{
-    let own = trie[8 * q + 6];
-    let other = trie[8 * f + 6];
-    trie[8 * q + 7] = f as u16;
-    trie[8 * q + 6] = if own == 0 { other } else { own };
-}
-
 // Each node's number into the row of its parent.
 fn lay_children(image: &[u8], trie: &[u16], n: usize, rows: &mut [u16])
     requires { ⌜ valid (now image) ≡ true ⌝ }
@@ -63,6 +36,39 @@ fn lay_children(image: &[u8], trie: &[u16], n: usize, rows: &mut [u16])
         let a = wide(trie[8 * c + 1]);
         rows[p * s + a] = c as u16;
     }
+}
+
+// A word, or another in its place where it is 0. As a function of its own it becomes a choice without a branch, so that
+// merge takes many words at once.
+fn chosen(own: u16, other: u16) -> u16
+    ensures { λ r. ⌜ r ≡ cond (eqb own 0) other own ⌝ }
+{
+    if own == 0 { other } else { own }
+}
+
+// Each 0 in the row of q becomes the word of the row of f.
+fn merge(rows: &mut [u16], s: usize, q: usize, f: usize)
+    requires own { ⌜ q * s + s ≤ length (now rows) ⌝ }
+    requires other { ⌜ f * s + s ≤ length (now rows) ⌝ }
+    ensures { λ _. ⌜ Merged (now (rows .entry)) (now (rows .exit)) s q f s ⌝ }
+{
+    let to = q * s;
+    let from = f * s;
+    for a in 0..s {
+        rows[to + a] = chosen(rows[to + a], rows[from + a]);
+    }
+}
+
+// The failure state f of node q and, where q has no match word of its own, that of f.
+fn note(trie: &mut [u16], q: usize, f: usize)
+    requires own { ⌜ 8 * q + 7 < length (now trie) ⌝ }
+    requires other { ⌜ 8 * f + 7 < length (now trie) ⌝ }
+    requires small { ⌜ f < 65536 ⌝ }
+    ensures { λ _. ⌜ Noted (now (trie .entry)) (now (trie .exit)) q f ⌝ }
+{
+    let word = chosen(trie[8 * q + 6], trie[8 * f + 6]);
+    trie[8 * q + 7] = f as u16;
+    trie[8 * q + 6] = word;
 }
 
 // State q, whose turn it is: its failure state, match word and row.

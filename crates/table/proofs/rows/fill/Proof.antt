@@ -1,6 +1,6 @@
 -- `table::rows::fill` meets its contract. The loop's invariant: the states of depth below `d` are done.
 -- Assumes nothing.
-use Prim.Native.Nat.{ℕ, _*_, _≤_, _<_, _-_}
+use Prim.Native.Nat.{ℕ, _*_, _≤_, _-_}
 use mathlib.Core.Path.{_≡_, refl, sym, ap, _∙_}
 use native.Mathlib.Omega.{arith}
 use lib.ListN.{length, replicate}

@@ -1,16 +1,15 @@
 -- `table::rows::fill_depth` meets its contract. The loop's invariant: of the states of depth `d` those below `q` are done.
 -- Assumes nothing.
 use Prim.Native.Nat.{_≤_, _<_, _-_}
-use mathlib.Core.Path.{_≡_, refl, sym, _∙_}
+use mathlib.Core.Path.{_≡_, refl, _∙_}
 use mathlib.Core.Logic.{⊎-elim}
 use native.Mathlib.Omega.{arith}
 use lib.ListN.{length}
-use borrow.Author.Needs.{needs}
 use Rattle.image.specs.Image.{read}
 use Rattle.table.specs.States.{states}
 use Rattle.table.specs.Rows.{FillingAt}
 use Rattle.table.proofs.States.{some-state}
-use Rattle.table.proofs.Filling.{filling-skip, filling-longer}
+use Rattle.table.proofs.Turns.{filling-skip, filling-longer}
 use Rattle.table.proofs.rows.fill_depth.Statement.{statement}
 use Rattle.table.proofs.rows.fill_depth.Tie as tie
 

@@ -6,7 +6,8 @@ use native.Mathlib.Omega.{arith}
 use Rattle.image.specs.Image.{read}
 use Rattle.image.proofs.Image.{valid-in-range}
 use Rattle.table.specs.Nodes.{failureBy}
-use Rattle.table.proofs.Filling.{Within, within, failure-place, failure-within, filling-more}
+use Rattle.table.proofs.Laying.{Within, within}
+use Rattle.table.proofs.Turns.{failure-place, failure-within, filling-more}
 use borrow.Author.Needs.{needs}
 use Rattle.table.proofs.rows.fill_state.Statement.{statement}
 use Rattle.table.proofs.rows.fill_state.Tie as tie

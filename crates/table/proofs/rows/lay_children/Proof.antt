@@ -1,7 +1,7 @@
 -- `table::rows::lay_children` meets its contract. The loop's invariant: the children below `c` are laid.
 -- Assumes nothing.
 use Prim.Native.Nat.{ℕ, _+_, _*_, _≤_, _<_, _-_}
-use mathlib.Core.Path.{_≡_, refl, sym, ap, _∙_}
+use mathlib.Core.Path.{_≡_, refl, ap, _∙_}
 use native.Mathlib.Omega.{arith}
 use lib.ListN.{length, replicate, length-set, length-replicate}
 use borrow.Author.Needs.{needs}
@@ -10,7 +10,7 @@ use Rattle.image.proofs.Image.{valid-in-range}
 use Rattle.table.specs.States.{states}
 use Rattle.table.specs.Nodes.{parent, symbol}
 use Rattle.table.proofs.States.{some-state}
-use Rattle.table.proofs.Filling.{LaidBelow, laid-none, laid-more, laid-all, Within, within}
+use Rattle.table.proofs.Laying.{LaidBelow, laid-none, laid-more, laid-all, Within, within}
 use Rattle.table.proofs.rows.lay_children.Statement.{statement}
 use Rattle.table.proofs.rows.lay_children.Tie as tie
 

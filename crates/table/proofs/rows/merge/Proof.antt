@@ -1,14 +1,12 @@
 -- `table::rows::merge` meets its contract. The loop's invariant: the first `a` words of the row of `q` are merged.
 -- Assumes nothing.
-use Prim.Native.Nat.{_+_, _*_, _≤_, _<_, _-_}
+use Prim.Native.Nat.{_≤_, _-_}
 use mathlib.Core.Path.{_≡_, refl}
-use mathlib.Core.Bool.{cond}
-use mathlib.Core.Logic.{⊎-elim}
 use native.Mathlib.Omega.{arith}
-use lib.Dec.{eqb}
-use lib.ListN.{length, getD, length-set}
+use lib.ListN.{length, length-set}
+use borrow.Author.Needs.{needs}
 use Rattle.table.specs.Rows.{Merged}
-use Rattle.table.proofs.RowWords.{chosen-zero, chosen-own, merged-none, merged-more}
+use Rattle.table.proofs.RowWords.{merged-none, merged-more}
 use Rattle.table.proofs.rows.merge.Statement.{statement}
 use Rattle.table.proofs.rows.merge.Tie as tie
 
@@ -27,23 +25,26 @@ mul-from c = omega arith
 loop-holds : tie.Need-loop-holds Inv-loop μ-loop
 loop-holds c = (omega arith, refl, merged-none _ _ _ _)
 
-add-x : tie.Need-add-x Inv-loop μ-loop
-add-x c = omega arith
+add-chosen : tie.Need-add-chosen Inv-loop μ-loop
+add-chosen c = omega arith
 
-mul-x : tie.Need-mul-x Inv-loop μ-loop
-mul-x c = omega arith
+mul-chosen : tie.Need-mul-chosen Inv-loop μ-loop
+mul-chosen c = omega arith
 
-slice-read-x : tie.Need-slice-read-x Inv-loop μ-loop
-slice-read-x c = omega arith
+slice-read-chosen : tie.Need-slice-read-chosen Inv-loop μ-loop
+slice-read-chosen c = omega arith
 
-add-y : tie.Need-add-y Inv-loop μ-loop
-add-y c = omega arith
+add-chosen-2 : tie.Need-add-chosen-2 Inv-loop μ-loop
+add-chosen-2 c = omega arith
 
-mul-y : tie.Need-mul-y Inv-loop μ-loop
-mul-y c = omega arith
+mul-chosen-2 : tie.Need-mul-chosen-2 Inv-loop μ-loop
+mul-chosen-2 c = omega arith
 
-slice-read-y : tie.Need-slice-read-y Inv-loop μ-loop
-slice-read-y c = omega arith
+slice-read-chosen-2 : tie.Need-slice-read-chosen-2 Inv-loop μ-loop
+slice-read-chosen-2 c = omega arith
+
+chosen-requires : tie.Need-chosen-requires Inv-loop μ-loop
+chosen-requires c κs = search needs
 
 add-rows : tie.Need-add-rows Inv-loop μ-loop
 add-rows c = omega arith
@@ -63,11 +64,10 @@ loop-less c = omega arith
 loop-again : tie.Need-loop-again Inv-loop μ-loop
 loop-again c =
     let turn = c .before .before .before .before .loop in
-    let start = c .before .before .before .before .before in (
+    let start = c .before .before .before .before .before .before in (
       omega arith,
       simp length-set (turn .inv .1),
-      merged-more _ _ _ _ _ _ (start .pre .0) (c .before .before .before .loop-test .taken) (turn .inv .2) _
-          (⊎-elim (λ w. chosen-zero _ _ _ (w .0 .taken) (w .1)) (λ w. chosen-own _ _ _ (w .0 .left) (w .1)) (c .if1 .came)),
+      merged-more _ _ _ _ _ _ (start .pre .0) (c .before .before .before .loop-test .taken) (turn .inv .2) _ (c .chosen .ensures),
     )
 
 same-length : tie.Need-same-length Inv-loop μ-loop
@@ -75,7 +75,7 @@ same-length c = c .before .loop .inv .1
 
 returns : tie.Need-returns Inv-loop μ-loop
 returns c =
-    let all : c .before .loop .a ≡ c .before .before .args .s = omega arith in
+    let all : c .before .loop .a ≡ c .before .before .before .args .s = omega arith in
     rw all at (c .before .loop .inv .2)
 
 pub merge-spec : {M : Type 1} → statement M
@@ -87,12 +87,13 @@ merge-spec =
     mul-to
     mul-from
     loop-holds
-    add-x
-    mul-x
-    slice-read-x
-    add-y
-    mul-y
-    slice-read-y
+    add-chosen
+    mul-chosen
+    slice-read-chosen
+    add-chosen-2
+    mul-chosen-2
+    slice-read-chosen-2
+    chosen-requires
     add-rows
     mul-rows
     slice-write-rows

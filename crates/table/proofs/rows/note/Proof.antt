@@ -1,36 +1,38 @@
 -- `table::rows::note` meets its contract.
 -- Assumes nothing.
-use mathlib.Core.Logic.{⊎-elim}
 use native.Mathlib.Omega.{arith}
 use lib.ListN.{length-set}
-use Rattle.table.proofs.RowWords.{chosen-zero, chosen-own, noted}
+use Rattle.table.proofs.RowWords.{noted}
 use borrow.Author.Needs.{needs}
 use Rattle.table.proofs.rows.note.Statement.{statement}
 use Rattle.table.proofs.rows.note.Tie as tie
 
-mul-own : tie.Need-mul-own
-mul-own c = search needs
+mul-chosen : tie.Need-mul-chosen
+mul-chosen c = search needs
 
-add-own : tie.Need-add-own
-add-own c = search needs
+add-chosen : tie.Need-add-chosen
+add-chosen c = search needs
 
-mul-own-2 : tie.Need-mul-own-2
-mul-own-2 c = search needs
+mul-chosen-2 : tie.Need-mul-chosen-2
+mul-chosen-2 c = search needs
 
-slice-read-own : tie.Need-slice-read-own
-slice-read-own c = search needs
+slice-read-chosen : tie.Need-slice-read-chosen
+slice-read-chosen c = search needs
 
-mul-other : tie.Need-mul-other
-mul-other c = search needs
+mul-chosen-3 : tie.Need-mul-chosen-3
+mul-chosen-3 c = search needs
 
-add-other : tie.Need-add-other
-add-other c = search needs
+add-chosen-2 : tie.Need-add-chosen-2
+add-chosen-2 c = search needs
 
-mul-other-2 : tie.Need-mul-other-2
-mul-other-2 c = search needs
+mul-chosen-4 : tie.Need-mul-chosen-4
+mul-chosen-4 c = search needs
 
-slice-read-other : tie.Need-slice-read-other
-slice-read-other c = search needs
+slice-read-chosen-2 : tie.Need-slice-read-chosen-2
+slice-read-chosen-2 c = search needs
+
+chosen-requires : tie.Need-chosen-requires
+chosen-requires c κs = search needs
 
 cast-trie : tie.Need-cast-trie
 cast-trie c = search needs
@@ -63,22 +65,21 @@ same-length : tie.Need-same-length
 same-length c = search needs
 
 returns : tie.Need-returns
-returns c =
-    let start = c .before .before .before in
-    noted _ _ _ _ (start .pre .0) (⊎-elim (λ w. chosen-zero _ _ _ (w .0 .taken) (w .1)) (λ w. chosen-own _ _ _ (w .0 .left) (w .1)) (c .if1 .came))
+returns c = noted _ _ _ _ (c .before .before .before .before .pre .0) (c .chosen .ensures)
 
 pub note-spec : {M : Type 1} → statement M
 note-spec =
     tie.close
     (tie.spec
-    mul-own
-    add-own
-    mul-own-2
-    slice-read-own
-    mul-other
-    add-other
-    mul-other-2
-    slice-read-other
+    mul-chosen
+    add-chosen
+    mul-chosen-2
+    slice-read-chosen
+    mul-chosen-3
+    add-chosen-2
+    mul-chosen-4
+    slice-read-chosen-2
+    chosen-requires
     cast-trie
     mul-trie
     add-trie

@@ -7,7 +7,7 @@ use native.Mathlib.Nat.{not-suc-le-zero}
 use lib.ListN.{length, getD, length-set}
 use Rattle.image.specs.Image.{read}
 use Rattle.table.specs.Nodes.{matched}
-use Rattle.table.proofs.Filling.{written-more, written-all}
+use Rattle.table.proofs.Filled.{written-more, written-all}
 use Rattle.table.proofs.rows.write_matches.Statement.{statement}
 use Rattle.table.proofs.rows.write_matches.Tie as tie
 
