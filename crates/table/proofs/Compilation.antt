@@ -1,20 +1,23 @@
 -- Laws of compile: what it answers, and what it leaves in the area.
 -- Assumes nothing.
-use Prim.Native.Nat.{ℕ, _≤_}
-use mathlib.Core.Path.{_≡_, refl}
-use mathlib.Core.Bool.{true}
+use Prim.Native.Nat.{ℕ, _+_, _*_, _≤_, _<_}
+use mathlib.Core.Path.{_≡_, refl, sym}
+use mathlib.Core.Bool.{true, false}
 use mathlib.Core.Option.{Option, none, some}
-use mathlib.Core.List.{List, [], _∷_, map}
+use mathlib.Core.List.{List, [], _∷_, _++_, map}
 use native.Mathlib.Omega.{arith}
 use lib.ListN.{length, drop, length-append, length-drop}
 use lib.Seq.{take-append-seam, drop-append-seam}
-use borrow.Author.Tests.{leb-true}
+use borrow.Author.Tests.{leb-true, lt-leb, le-leb}
 use Rattle.image.specs.Image.{read, valid}
 use Rattle.image.specs.Refusals.{Check, refusal}
+use Rattle.image.proofs.Image.{valid-in-range}
 use Rattle.image.proofs.Refusals.{refusal-passed, refusal-rest, refusal-number}
 use Rattle.table.specs.declared.Compiled.the-variants.{Words, Refused}
 use Rattle.table.specs.Table.{tableOf}
 use Rattle.table.specs.Compile.{over, compileChecks, compiled, compileOf, refusedBy, wordCount, CompileEnded, CompileCompiles}
+use Rattle.table.specs.Nodes.{Built}
+use Rattle.table.proofs.Table.{length-table, table-length}
 
 -- a refusal leaves the area
 pub compile-refused : (image area : List ℕ) (n : ℕ) → refusal (compileChecks image area) ≡ some n
@@ -76,3 +79,39 @@ compile-theorem image area = go (refusal (compileChecks image area)) refl
           );
           size = length-over table area (accepted-fits image area e);
         }
+
+refusal-seven : (image area : List ℕ) → valid image ≡ false → refusal (compileChecks image area) ≡ some 7
+unfolding compileChecks refusal
+refusal-seven image area e = rw e
+
+refusal-eight : (image area : List ℕ) → valid image ≡ true → length area < length (tableOf (read image)) → refusal (compileChecks image area) ≡ some 8
+unfolding compileChecks refusal
+refusal-eight image area e short = rw (e, lt-leb (length (tableOf (read image))) (length area) short)
+
+refusal-none : (image area : List ℕ) → valid image ≡ true → length (tableOf (read image)) ≤ length area → refusal (compileChecks image area) ≡ none
+unfolding compileChecks refusal
+refusal-none image area e fits = rw (e, le-leb (length (tableOf (read image))) (length area) fits)
+
+-- Each of the three ways, by what the code found.
+module _ (image area : List ℕ) where
+  pub compile-seven : valid image ≡ false → (Refused 7 ≡ compileOf image area .answer) × (area ≡ compileOf image area .area)
+  compile-seven e = let c = compile-refused image area 7 (refusal-seven image area e) in (rw c, rw c)
+
+  pub compile-eight : valid image ≡ true → length area < length (tableOf (read image))
+      → (Refused 8 ≡ compileOf image area .answer) × (area ≡ compileOf image area .area)
+  compile-eight e short = let c = compile-refused image area 8 (refusal-eight image area e short) in (rw c, rw c)
+
+  pub compile-words : valid image ≡ true → length (tableOf (read image)) ≤ length area → (words : ℕ) → words ≡ length (tableOf (read image))
+      → (table : List ℕ) → table ≡ tableOf (read image)
+      → (Words words ≡ compileOf image area .answer) × (table ++ drop words area ≡ compileOf image area .area)
+  unfolding over
+  compile-words e fits words n table t =
+      let c = compile-accepted image area (refusal-none image area e fits) in
+      (rw (c, n), rw (c, n, t))
+
+-- the number of words by the number of states that were built, within document 01's bound
+pub words-built : (image : List ℕ) → valid image ≡ true → (n : ℕ) (t : List ℕ) → Built (read image) n t → (s : ℕ) → s ≡ read image .symbols
+    → (2 + n + n * s ≡ length (tableOf (read image))) × (2 + n + n * s ≤ 16931)
+words-built image e n t b s is =
+    let w : 2 + n + n * s ≡ length (tableOf (read image)) = rw (b .nodes, is) (sym (length-table (read image))) in
+    (w, rw w (table-length (read image) (valid-in-range image e)))
