@@ -3,3 +3,4 @@ pub mod States
 pub mod Table
 pub mod Compile
 pub mod Nodes
+pub mod Consistent

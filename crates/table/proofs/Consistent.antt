@@ -1,0 +1,168 @@
+-- Why a table can be checked in place: it passes every state's tests exactly where it is the rules' table.
+-- Assumes nothing.
+use Prim.Native.Nat.{ℕ, zero, suc, _+_, _*_, _≤_, _<_}
+use mathlib.Core.Path.{_≡_, refl, sym, ap, _∙_}
+use mathlib.Core.Bool.{Bool, true, false, cond, not, _&&_}
+use mathlib.Core.Logic.{_⊎_, inl, inr, ⊎-elim}
+use mathlib.Core.Option.{Option, none, some}
+use mathlib.Core.List.{List, [], _∷_, _++_}
+use native.Mathlib.Omega.{arith}
+use native.Mathlib.Nat.{not-suc-le-zero}
+use lib.Dec.{eqb, ltb}
+use lib.ListN.{length, getD, drop, length-append, length-drop}
+use lib.Seq.{drop-append-le}
+use borrow.Author.Tests.{ltb-true, ltb-false, eqb-true, eqb-false, eq-eqb, ne-eqb}
+use Rattle.rewriting.specs.Rules.{Rule}
+use Rattle.rewriting.specs.Occurrences.{lowest, tie}
+use Rattle.rewriting.proofs.Lists.{and-left, and-right, and-both}
+use Rattle.rewriting.proofs.Choice.{tie-earlier, tie-later, tie-none}
+use Rattle.table.specs.States.{isPrefix, state, next, matching, known, states, number}
+use Rattle.table.specs.Table.{matchWord}
+use Rattle.table.specs.Nodes.{parent, symbol, children, matched, failure, tally, Trie, Owned, failureBy}
+use Rattle.table.specs.Consistent.{transition, differing, leaving, ownOr, passes, Passed, RootPassed, RightTable}
+use Rattle.table.proofs.Matching.{state-drop, state-snoc, state-suffix, next-child, next-fail, matching-fail}
+use Rattle.table.proofs.States.{known-nil, prefix-known, known-prefix, state-known, next-known, number-at, known-at, listed-prefix, number-zero}
+
+module _ (P Q : ℕ → Bool) where
+  -- two tests that agree have the same tally
+  pub tally-agree : (n : ℕ) → ((a : ℕ) → a < n → P a ≡ Q a) → tally P n ≡ tally Q n
+  unfolding tally
+  tally-agree zero h = refl
+  tally-agree (suc n) h = rw (tally-agree n (λ a lt. h a (omega arith)), h n (omega arith))
+
+  tally-less : (n : ℕ) → ((a : ℕ) → a < n → P a ≡ true → Q a ≡ true) → tally P n ≤ tally Q n
+  unfolding tally
+  tally-less zero h = omega arith
+  tally-less (suc n) h = go (P n) refl (Q n) refl (tally-less n (λ a lt. h a (omega arith)))
+    where
+      go : (b : Bool) → P n ≡ b → (c : Bool) → Q n ≡ c → tally P n ≤ tally Q n → tally P n + cond b 1 0 ≤ tally Q n + cond c 1 0
+      go true p true q ih = omega arith
+      go true p false q ih = let e = h n (omega arith) p in let z : _≡_ {A = ℕ} 0 1 = cc in absurd (omega arith)
+      go false p true q ih = omega arith
+      go false p false q ih = omega arith
+
+  -- of two tests, the first of which implies the second, and whose tallies are equal, the second implies the first
+  pub tally-same : (n : ℕ) → ((a : ℕ) → a < n → P a ≡ true → Q a ≡ true) → tally P n ≡ tally Q n
+      → (a : ℕ) → a < n → Q a ≡ true → P a ≡ true
+  unfolding tally
+  tally-same zero h e a lt q = absurd (not-suc-le-zero lt)
+  tally-same (suc n) h e a lt q = go (P n) refl (Q n) refl e (tally-less n (λ a lt. h a (omega arith))) (tally-same n (λ a lt. h a (omega arith)))
+    where
+      last : P n ≡ Q n → (tally P n ≡ tally Q n → (a : ℕ) → a < n → Q a ≡ true → P a ≡ true) → tally P n ≡ tally Q n → (b : Bool) → ltb a n ≡ b → P a ≡ true
+      last agree ih same true l = ih same a (ltb-true a n l) q
+      last agree ih same false l =
+          let here : a ≡ n = omega (arith, ltb-false a n l) in
+          let p : P n ≡ Q n = agree in
+          rw here (p ∙ rw here at q)
+
+      go : (b : Bool) → P n ≡ b → (c : Bool) → Q n ≡ c → tally P n + cond b 1 0 ≡ tally Q n + cond c 1 0 → tally P n ≤ tally Q n
+          → (tally P n ≡ tally Q n → (a : ℕ) → a < n → Q a ≡ true → P a ≡ true) → P a ≡ true
+      go true p true r e less ih = last (p ∙ sym r) ih (omega arith) (ltb a n) refl
+      go true p false r e less ih = let e = h n (omega arith) p in let z : _≡_ {A = ℕ} 0 1 = cc in absurd (omega arith)
+      go false p true r e less ih = absurd (omega arith)
+      go false p false r e less ih = last (p ∙ sym r) ih (omega arith) (ltb a n) refl
+
+-- the match word of two rules that end together, the longer one's first
+pub match-own : (earlier later : Option ℕ) → matchWord (tie earlier later) ≡ ownOr (matchWord earlier) (matchWord later)
+unfolding matchWord ownOr
+match-own none later = rw tie-later
+match-own (some i) later = go (tie (some i) later) refl
+  where
+    go : (m : Option ℕ) → tie (some i) later ≡ m → matchWord m ≡ ownOr (matchWord (some i)) (matchWord later)
+    go none e = let p = tie-none (some i) later e .0 in let z : _≡_ {A = ℕ} 0 1 = cc in absurd (omega arith)
+    go (some k) e = rw (ne-eqb (suc i) 0 (λ p. omega arith)) (ap suc (tie-earlier (some i) later k i e refl))
+
+-- A state's row beside the row that it inherits from. `v` is the state, and where it has no child by a symbol `a`, its
+-- next state is `w a`, which is shorter than a child. `here` and `base` are the two rows' words.
+module _ (rules : List Rule) (symbols : ℕ) (v : List ℕ) (w : ℕ → List ℕ)
+    (listed : (a : ℕ) → known (states rules) (w a) ≡ true) (short : (a : ℕ) → length (w a) ≤ length v)
+    (inherited : (a : ℕ) → isPrefix rules (v ++ a ∷ []) ≡ false → next rules v a ≡ w a)
+    (here base : ℕ → ℕ) (based : (a : ℕ) → a < symbols → base a ≡ number (states rules) (w a)) where
+  -- a child is the next state
+  next-listed : (a : ℕ) → known (states rules) (v ++ a ∷ []) ≡ true → next rules v a ≡ v ++ a ∷ []
+  next-listed a k = go (known-prefix rules (v ++ a ∷ []) k)
+    where
+      go : (v ++ a ∷ [] ≡ []) ⊎ (isPrefix rules (v ++ a ∷ []) ≡ true) → next rules v a ≡ v ++ a ∷ []
+      go (inl e) = absurd (omega (arith, simp length-append at (ap length e)))
+      go (inr e) = next-child rules v a e
+
+  next-other : (a : ℕ) → known (states rules) (v ++ a ∷ []) ≡ false → next rules v a ≡ w a
+  next-other a k = go (isPrefix rules (v ++ a ∷ [])) refl
+    where
+      go : (b : Bool) → isPrefix rules (v ++ a ∷ []) ≡ b → next rules v a ≡ w a
+      go true e = let e = prefix-known rules (v ++ a ∷ []) e in let z : _≡_ {A = ℕ} 0 1 = cc in absurd (omega arith)
+      go false e = inherited a e
+
+  -- a child's number is not the inherited one
+  child-differs : (a : ℕ) → a < symbols → known (states rules) (v ++ a ∷ []) ≡ true → here a ≡ number (states rules) (v ++ a ∷ [])
+      → not (eqb (here a) (base a)) ≡ true
+  child-differs a lt k e = rw (ne-eqb (here a) (base a) different)
+    where
+      different : here a ≡ base a → ⊥
+      different p =
+          let child = number-at (states rules) (v ++ a ∷ []) k .1 in
+          let other = number-at (states rules) (w a) (listed a) .1 in
+          let at : number (states rules) (v ++ a ∷ []) ≡ number (states rules) (w a) = sym e ∙ p ∙ based a lt in
+          let same : v ++ a ∷ [] ≡ w a = sym child ∙ rw at other in
+          let s = short a in
+          omega (arith, simp length-append at (ap length same))
+
+  -- the rows of the table differ just where there is a child
+  differs-child : ((a : ℕ) → a < symbols → here a ≡ number (states rules) (next rules v a))
+      → tally (λ a. not (eqb (here a) (base a))) symbols ≡ tally (λ a. known (states rules) (v ++ a ∷ [])) symbols
+  differs-child right =
+      tally-agree (λ a. not (eqb (here a) (base a))) (λ a. known (states rules) (v ++ a ∷ [])) symbols
+      (λ a lt. go a lt (known (states rules) (v ++ a ∷ [])) refl)
+    where
+      go : (a : ℕ) → a < symbols → (b : Bool) → known (states rules) (v ++ a ∷ []) ≡ b → not (eqb (here a) (base a)) ≡ b
+      go a lt true k = child-differs a lt k (right a lt ∙ ap (number (states rules)) (next-listed a k))
+      go a lt false k =
+          rw (eq-eqb (here a) (base a) (right a lt ∙ ap (number (states rules)) (next-other a k) ∙ sym (based a lt)))
+
+  -- and a row that differs in so many words, with each child in its place, is right
+  row-right : tally (λ a. not (eqb (here a) (base a))) symbols ≡ tally (λ a. known (states rules) (v ++ a ∷ [])) symbols
+      → ((a : ℕ) → a < symbols → known (states rules) (v ++ a ∷ []) ≡ true → here a ≡ number (states rules) (v ++ a ∷ []))
+      → (a : ℕ) → a < symbols → here a ≡ number (states rules) (next rules v a)
+  row-right count placed a lt = go (known (states rules) (v ++ a ∷ [])) refl (eqb (here a) (base a)) refl
+    where
+      back : not (eqb (here a) (base a)) ≡ true → known (states rules) (v ++ a ∷ []) ≡ true
+      back =
+          tally-same (λ a. known (states rules) (v ++ a ∷ [])) (λ a. not (eqb (here a) (base a))) symbols
+          (λ a lt k. child-differs a lt k (placed a lt k)) (sym count) a lt
+
+      go : (b : Bool) → known (states rules) (v ++ a ∷ []) ≡ b → (d : Bool) → eqb (here a) (base a) ≡ d
+          → here a ≡ number (states rules) (next rules v a)
+      go true k d e = placed a lt k ∙ ap (number (states rules)) (sym (next-listed a k))
+      go false k true e = eqb-true (here a) (base a) e ∙ based a lt ∙ ap (number (states rules)) (sym (next-other a k))
+      go false k false e = let r = back (rw e) in let z : _≡_ {A = ℕ} 0 1 = cc in absurd (omega arith)
+
+-- the failure state of v, which is not empty: the state of v without its first symbol
+abbrev fallback : List Rule → List ℕ → List ℕ
+fallback rules v = state rules (drop 1 v)
+
+state-short : (rules : List Rule) (p : List ℕ) → length (state rules p) ≤ length p
+state-short rules p =
+    let s = state-suffix rules p in
+    omega (arith, simp length-append at (ap length (s .1)))
+
+fallback-shorter : (rules : List Rule) (v : List ℕ) → 0 < length v → length (fallback rules v) < length v
+fallback-shorter rules v h = omega (arith, state-short rules (drop 1 v), length-drop 1 v)
+
+fallback-short : (rules : List Rule) (v : List ℕ) → 0 < length v → (a : ℕ) → length (next rules (fallback rules v) a) ≤ length v
+unfolding next
+fallback-short rules v h a =
+    omega (arith, fallback-shorter rules v h, simp length-append at (state-short rules (fallback rules v ++ a ∷ [])))
+
+fallback-next : (rules : List Rule) (v : List ℕ) → 0 < length v → (a : ℕ) → isPrefix rules (v ++ a ∷ []) ≡ false
+    → next rules v a ≡ next rules (fallback rules v) a
+fallback-next rules [] h a e = absurd (not-suc-le-zero h)
+fallback-next rules (y ∷ p) h a e = next-fail rules y p a e
+
+root-next : (rules : List Rule) (a : ℕ) → isPrefix rules ([] ++ a ∷ []) ≡ false → next rules [] a ≡ []
+unfolding next state
+root-next rules a e = state-drop rules a [] e
+
+fallback-match : (rules : List Rule) (v : List ℕ) → 0 < length v
+    → matchWord (matching rules v) ≡ ownOr (matchWord (lowest rules v)) (matchWord (matching rules (fallback rules v)))
+fallback-match rules [] h = absurd (not-suc-le-zero h)
+fallback-match rules (y ∷ p) h = ap matchWord (matching-fail rules y p) ∙ match-own (lowest rules (y ∷ p)) (matching rules (state rules p))
