@@ -9,8 +9,8 @@ use mathlib.Core.List.{List, [], _∷_, _++_}
 use native.Mathlib.Omega.{arith}
 use native.Mathlib.Nat.{not-suc-le-zero}
 use lib.Dec.{eqb, ltb}
-use lib.ListN.{length, getD, drop, length-append, length-drop}
-use lib.Seq.{drop-append-le}
+use lib.ListN.{length, getD, take, drop, length-append, length-drop}
+use lib.Seq.{drop-append-le, take-at, getD-at}
 use borrow.Author.Tests.{ltb-true, ltb-false, eqb-true, eqb-false, eq-eqb, ne-eqb}
 use Rattle.rewriting.specs.Rules.{Rule}
 use Rattle.rewriting.specs.Occurrences.{lowest, tie}
@@ -166,3 +166,101 @@ fallback-match : (rules : List Rule) (v : List ℕ) → 0 < length v
     → matchWord (matching rules v) ≡ ownOr (matchWord (lowest rules v)) (matchWord (matching rules (fallback rules v)))
 fallback-match rules [] h = absurd (not-suc-le-zero h)
 fallback-match rules (y ∷ p) h = ap matchWord (matching-fail rules y p) ∙ match-own (lowest rules (y ∷ p)) (matching rules (state rules p))
+
+snoc-inj : (u v : List ℕ) (a b : ℕ) → u ++ a ∷ [] ≡ v ++ b ∷ [] → (u ≡ v) × (a ≡ b)
+snoc-inj u v a b e =
+    let long : length v ≡ length u = omega (arith, simp length-append at (ap length e)) in (
+      sym (take-at u (a ∷ []) (length u) refl) ∙ ap (take (length u)) e ∙ take-at v (b ∷ []) (length u) long,
+      sym (getD-at u a [] 0 (length u) refl) ∙ ap (λ (l : List ℕ). getD l (length u) 0) e ∙ getD-at v b [] 0 (length u) long,
+    )
+
+-- The laws of one trie and one table.
+module _ (rules : List Rule) (symbols : ℕ) (t matches rows : List ℕ) (trie : Trie (states rules) symbols t) where
+  state-long : (c : ℕ) → 0 < c → c < length (states rules) → 0 < length (getD (states rules) c [])
+  state-long c pos lt = omega (arith, simp length-append at (ap length (trie .made c pos lt)))
+
+  -- the failure state of a node is right where that of its parent, and the word of that state's row, are
+  failure-step : (c : ℕ) → 0 < c → c < length (states rules)
+      → (0 < parent t c → failure t (parent t c) ≡ number (states rules) (fallback rules (getD (states rules) (parent t c) [])))
+      → (0 < parent t c → transition rows symbols (failure t (parent t c)) (symbol t c)
+      ≡ number (states rules) (next rules (getD (states rules) (failure t (parent t c)) []) (symbol t c)))
+      → failureBy t rows symbols c ≡ number (states rules) (fallback rules (getD (states rules) c []))
+  unfolding failureBy state
+  failure-step c pos lt up word = go (eqb (parent t c) 0) refl
+    where
+      go : (b : Bool) → eqb (parent t c) 0 ≡ b
+          → cond b 0 (getD rows (failure t (parent t c) * symbols + symbol t c) 0) ≡ number (states rules) (fallback rules (getD (states rules) c []))
+      go true e =
+          let made = trie .made c pos lt in
+          let above : getD (states rules) (parent t c) [] ≡ [] = rw (eqb-true (parent t c) 0 e) (trie .root) in
+          rw (made, above) (sym (number-zero rules))
+      go false e =
+          let high : 0 < parent t c = omega (arith, eqb-false (parent t c) 0 e) in
+          let below : parent t c < length (states rules) = omega (arith, trie .linked .up c pos lt) in
+          let above = getD (states rules) (parent t c) [] in
+          let at : getD (states rules) (failure t (parent t c)) [] ≡ fallback rules above =
+          ap (λ (n : ℕ). getD (states rules) n []) (up high) ∙ number-at (states rules) (fallback rules above) (state-known rules (drop 1 above)) .1
+          in
+          let step : next rules (fallback rules above) (symbol t c) ≡ fallback rules (getD (states rules) c []) =
+          state-snoc rules (drop 1 above) (symbol t c)
+          ∙ ap (state rules) (sym (drop-append-le 1 above (symbol t c ∷ []) (state-long (parent t c) high below)))
+          ∙ ap (fallback rules) (sym (trie .made c pos lt))
+          in
+          word high ∙ ap (λ (u : List ℕ). number (states rules) (next rules u (symbol t c))) at ∙ ap (number (states rules)) step
+
+  -- the failure states kept below node q are right where the rows are
+  pub failures-right : RightTable rules symbols matches rows → (q : ℕ) → q ≤ length (states rules)
+      → ((c : ℕ) → 0 < c → c < q → failure t c ≡ failureBy t rows symbols c)
+      → (c : ℕ) → 0 < c → c < q → failure t c ≡ number (states rules) (fallback rules (getD (states rules) c []))
+  failures-right right q within failing c pos lt = go q c lt pos lt
+    where
+      turn : (c : ℕ) → 0 < c → c < q
+          → (0 < parent t c → failure t (parent t c) ≡ number (states rules) (fallback rules (getD (states rules) (parent t c) [])))
+          → failure t c ≡ number (states rules) (fallback rules (getD (states rules) c []))
+      turn c pos lt up =
+          failing c pos lt
+          ∙ failure-step c pos (omega arith) up
+          (λ high.
+          let below = number-at (states rules) (fallback rules (getD (states rules) (parent t c) [])) (state-known rules (drop 1 (getD (states rules) (parent t c) []))) .0 in
+          right .right-next (failure t (parent t c)) (symbol t c) (omega (arith, up high)) (trie .small c pos (omega arith)))
+
+      go : (d c : ℕ) → c < d → 0 < c → c < q → failure t c ≡ number (states rules) (fallback rules (getD (states rules) c []))
+      go zero c h pos lt = absurd (not-suc-le-zero h)
+      go (suc d) c h pos lt =
+          let up = trie .linked .up c pos (omega arith) in
+          turn c pos lt (λ high. go d (parent t c) (omega arith) high (omega arith))
+
+  -- in the right table, each state whose failure state is right passes its tests
+  right-state : RightTable rules symbols matches rows → Owned rules (states rules) t → (c : ℕ) → 0 < c → c < length (states rules)
+      → failure t c ≡ number (states rules) (fallback rules (getD (states rules) c [])) → passes t matches rows symbols c ≡ true
+  unfolding passes differing
+  right-state right owned c pos lt fails =
+      let p : ℕ = parent t c in
+      let below : p < length (states rules) = omega (arith, trie .linked .up c pos lt) in
+      let v : List ℕ = getD (states rules) c [] in
+      let long : 0 < length v = state-long c pos lt in
+      let f = number-at (states rules) (fallback rules v) (state-known rules (drop 1 v)) in
+      let inside : failure t c < length (states rules) = omega (arith, fails, f .0) in
+      let at : getD (states rules) (failure t c) [] ≡ fallback rules v = ap (λ (n : ℕ). getD (states rules) n []) fails ∙ f .1 in
+      and-both
+      (and-both
+      (eq-eqb (transition rows symbols p (symbol t c)) c
+      (right .right-next p (symbol t c) below (trie .small c pos lt) ∙ ap (number (states rules)) (leads c pos lt) ∙ trie .once c lt))
+      (eq-eqb (getD matches c 0) (ownOr (matched t c) (getD matches (failure t c) 0))
+      (right .right-match c lt ∙ fallback-match rules v long
+      ∙ sym (rw (owned c lt, right .right-match (failure t c) inside, at)))))
+      (eq-eqb (differing rows symbols c (failure t c)) (children t c)
+      (differs-child rules symbols v (λ a. next rules (fallback rules v) a) (λ a. next-known rules (fallback rules v) a) (fallback-short rules v long)
+      (fallback-next rules v long) (λ a. transition rows symbols c a) (λ a. transition rows symbols (failure t c) a)
+      (λ a small. right .right-next (failure t c) a inside small ∙ ap (λ (u : List ℕ). number (states rules) (next rules u a)) at)
+      (λ a small. right .right-next c a lt small)
+      ∙ sym (trie .counted c lt)))
+    where
+      -- a node's parent leads to it
+      leads : (c : ℕ) → 0 < c → c < length (states rules) → next rules (getD (states rules) (parent t c) []) (symbol t c) ≡ getD (states rules) c []
+      leads c pos lt = go (listed-prefix rules c lt)
+        where
+          go : (getD (states rules) c [] ≡ []) ⊎ (isPrefix rules (getD (states rules) c []) ≡ true)
+              → next rules (getD (states rules) (parent t c) []) (symbol t c) ≡ getD (states rules) c []
+          go (inl e) = absurd (omega (arith, state-long c pos lt, ap length e))
+          go (inr e) = next-child rules (getD (states rules) (parent t c) []) (symbol t c) (rw (← trie .made c pos lt) e) ∙ sym (trie .made c pos lt)
