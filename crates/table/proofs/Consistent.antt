@@ -13,7 +13,7 @@ use lib.ListN.{length, getD, take, drop, length-append, length-drop}
 use lib.Seq.{drop-append-le, take-at, getD-at}
 use borrow.Author.Tests.{ltb-true, ltb-false, eqb-true, eqb-false, eq-eqb, ne-eqb}
 use Rattle.rewriting.specs.Rules.{Rule}
-use Rattle.rewriting.specs.Occurrences.{lowest, tie}
+use Rattle.rewriting.specs.Occurrences.{lowest, tie, ending}
 use Rattle.rewriting.proofs.Lists.{and-left, and-right, and-both}
 use Rattle.rewriting.proofs.Choice.{tie-earlier, tie-later, tie-none}
 use Rattle.table.specs.States.{isPrefix, state, next, matching, known, states, number}
@@ -264,3 +264,146 @@ module _ (rules : List Rule) (symbols : ℕ) (t matches rows : List ℕ) (trie :
               → next rules (getD (states rules) (parent t c) []) (symbol t c) ≡ getD (states rules) c []
           go (inl e) = absurd (omega (arith, state-long c pos lt, ap length e))
           go (inr e) = next-child rules (getD (states rules) (parent t c) []) (symbol t c) (rw (← trie .made c pos lt) e) ∙ sym (trie .made c pos lt)
+
+  root-row : (a : ℕ) → transition rows symbols 0 a ≡ getD rows a 0
+  root-row a = let at : 0 * symbols + a ≡ a = omega arith in rw at
+
+  -- and so does the root
+  pub right-root : RightTable rules symbols matches rows → RootPassed t matches rows symbols
+  unfolding leaving matching ending matchWord
+  right-root right =
+      record {
+        no-match = right .right-match 0 (trie .some-node) ∙ rw (trie .root);
+        leads =
+            differs-child rules symbols [] (λ a. []) (λ a. known-nil rules) (λ a. omega arith) (root-next rules)
+            (λ a. getD rows a 0) (λ a. 0) (λ a small. sym (number-zero rules))
+            (λ a small. sym (root-row a) ∙ right .right-next 0 a (trie .some-node) small ∙ rw (trie .root))
+            ∙ sym (trie .counted 0 (trie .some-node) ∙ rw (trie .root));
+      }
+
+  -- where each node's parent leads to it, a child stands in its state's row
+  children-placed : ((c : ℕ) → 0 < c → c < length (states rules) → transition rows symbols (parent t c) (symbol t c) ≡ c)
+      → (c a : ℕ) → c < length (states rules) → known (states rules) (getD (states rules) c [] ++ a ∷ []) ≡ true
+      → transition rows symbols c a ≡ number (states rules) (getD (states rules) c [] ++ a ∷ [])
+  children-placed led c a lt k =
+      let v : List ℕ = getD (states rules) c [] in
+      let b : ℕ = number (states rules) (v ++ a ∷ []) in
+      let at = number-at (states rules) (v ++ a ∷ []) k in
+      let pos : 0 < b = high b (at .1) in
+      let same = snoc-inj (getD (states rules) (parent t b) []) v (symbol t b) a (sym (trie .made b pos (at .0)) ∙ at .1) in
+      let below : parent t b < length (states rules) = omega (arith, trie .linked .up b pos (at .0), at .0) in
+      let up : parent t b ≡ c = sym (trie .once (parent t b) below) ∙ ap (number (states rules)) (same .0) ∙ trie .once c lt in
+      rw (up, same .1) at (led b pos (at .0))
+    where
+      high : (b : ℕ) → getD (states rules) b [] ≡ getD (states rules) c [] ++ a ∷ [] → 0 < b
+      high b e = go (ltb 0 b) refl
+        where
+          go : (d : Bool) → ltb 0 b ≡ d → 0 < b
+          go true l = ltb-true 0 b l
+          go false l =
+              let none : b ≡ 0 = omega (arith, ltb-false 0 b l) in
+              let empty : getD (states rules) b [] ≡ [] = rw none (trie .root) in
+              absurd (omega (arith, simp length-append at (ap length (sym e ∙ empty))))
+
+  -- state c stands in the table as it should
+  record RightState (c : ℕ) : Type 0 where
+    row : (a : ℕ) → a < symbols → transition rows symbols c a ≡ number (states rules) (next rules (getD (states rules) c []) a)
+    word : getD matches c 0 ≡ matchWord (matching rules (getD (states rules) c []))
+    fails : 0 < c → failure t c ≡ number (states rules) (fallback rules (getD (states rules) c []))
+
+  module _ (owned : Owned rules (states rules) t) (root : RootPassed t matches rows symbols)
+      (each : (c : ℕ) → 0 < c → c < length (states rules) → Passed t matches rows symbols (length (states rules)) c) where
+    led : (c : ℕ) → 0 < c → c < length (states rules) → transition rows symbols (parent t c) (symbol t c) ≡ c
+    unfolding passes
+    led c pos lt =
+        let up : Bool = eqb (transition rows symbols (parent t c) (symbol t c)) c in
+        let word : Bool = eqb (getD matches c 0) (ownOr (matched t c) (getD matches (failure t c) 0)) in
+        let row : Bool = eqb (differing rows symbols c (failure t c)) (children t c) in
+        eqb-true (transition rows symbols (parent t c) (symbol t c)) c (and-left up word (and-left (up && word) row (each c pos lt .passing)))
+
+    inherits : (c : ℕ) → 0 < c → c < length (states rules) → getD matches c 0 ≡ ownOr (matched t c) (getD matches (failure t c) 0)
+    unfolding passes
+    inherits c pos lt =
+        let up : Bool = eqb (transition rows symbols (parent t c) (symbol t c)) c in
+        let word : Bool = eqb (getD matches c 0) (ownOr (matched t c) (getD matches (failure t c) 0)) in
+        let row : Bool = eqb (differing rows symbols c (failure t c)) (children t c) in
+        eqb-true (getD matches c 0) (ownOr (matched t c) (getD matches (failure t c) 0)) (and-right up word (and-left (up && word) row (each c pos lt .passing)))
+
+    differs : (c : ℕ) → 0 < c → c < length (states rules) → differing rows symbols c (failure t c) ≡ children t c
+    unfolding passes
+    differs c pos lt =
+        let up : Bool = eqb (transition rows symbols (parent t c) (symbol t c)) c in
+        let word : Bool = eqb (getD matches c 0) (ownOr (matched t c) (getD matches (failure t c) 0)) in
+        let row : Bool = eqb (differing rows symbols c (failure t c)) (children t c) in
+        eqb-true (differing rows symbols c (failure t c)) (children t c) (and-right (up && word) row (each c pos lt .passing))
+
+    root-right : RightState 0
+    unfolding leaving matching ending matchWord
+    root-right =
+        record {
+          row = λ a small.
+              root-row a
+              ∙ row-right rules symbols [] (λ a. []) (λ a. known-nil rules) (λ a. omega arith) (root-next rules)
+              (λ a. getD rows a 0) (λ a. 0) (λ a small. sym (number-zero rules))
+              (root .leads ∙ trie .counted 0 (trie .some-node) ∙ rw (trie .root))
+              (λ a small k. sym (root-row a) ∙ children-placed led 0 a (trie .some-node) (rw (trie .root) k) ∙ rw (trie .root))
+              a small
+              ∙ rw (trie .root);
+          word = root .no-match ∙ rw (trie .root);
+          fails = λ pos. absurd (omega arith);
+        }
+
+    -- a state is right where every shorter one is
+    state-right : (c : ℕ) → 0 < c → c < length (states rules)
+        → ((b : ℕ) → b < length (states rules) → length (getD (states rules) b []) < length (getD (states rules) c []) → RightState b)
+        → RightState c
+    unfolding differing
+    state-right c pos lt shorter =
+        record {
+          row =
+              row-right rules symbols v (λ a. next rules (fallback rules v) a) (λ a. next-known rules (fallback rules v) a) (fallback-short rules v long)
+              (fallback-next rules v long) (λ a. transition rows symbols c a) (λ a. transition rows symbols (failure t c) a)
+              (λ a small. rightF .row a small ∙ ap (λ (u : List ℕ). number (states rules) (next rules u a)) at)
+              (differs c pos lt ∙ trie .counted c lt)
+              (λ a small k. children-placed led c a lt k);
+          word = inherits c pos lt ∙ rw (owned c lt, rightF .word, at) (sym (fallback-match rules v long));
+          fails = λ _. found;
+        }
+      where
+        v : List ℕ
+        v = getD (states rules) c []
+
+        long : 0 < length v
+        long = state-long c pos lt
+
+        p : ℕ
+        p = parent t c
+
+        below : p < length (states rules)
+        below = omega (arith, trie .linked .up c pos lt)
+
+        above : RightState p
+        above = shorter p below (omega (arith, simp length-append at (ap length (trie .made c pos lt))))
+
+        over : 0 < p → RightState (failure t p)
+        over high =
+            let at = number-at (states rules) (fallback rules (getD (states rules) p [])) (state-known rules (drop 1 (getD (states rules) p []))) in
+            let is = ap (λ (n : ℕ). getD (states rules) n []) (above .fails high) ∙ at .1 in
+            shorter (failure t p) (each p high below .inside)
+            (omega (
+              arith,
+              simp length-append at (ap length (trie .made c pos lt)),
+              ap length is,
+              fallback-shorter rules (getD (states rules) p []) (state-long p high below),
+            ))
+
+        found : failure t c ≡ number (states rules) (fallback rules v)
+        found =
+            each c pos lt .failing
+            ∙ failure-step c pos lt (above .fails) (λ high. over high .row (symbol t c) (trie .small c pos lt))
+
+        at : getD (states rules) (failure t c) [] ≡ fallback rules v
+        at = ap (λ (n : ℕ). getD (states rules) n []) found ∙ number-at (states rules) (fallback rules v) (state-known rules (drop 1 v)) .1
+
+        rightF : RightState (failure t c)
+        rightF = shorter (failure t c) (each c pos lt .inside) (omega (arith, ap length at, fallback-shorter rules v long))
