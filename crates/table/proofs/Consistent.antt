@@ -2,7 +2,7 @@
 -- Assumes nothing.
 use Prim.Native.Nat.{ℕ, zero, suc, _+_, _*_, _≤_, _<_}
 use mathlib.Core.Path.{_≡_, refl, sym, ap, _∙_}
-use mathlib.Core.Bool.{Bool, true, false, cond, not, _&&_}
+use mathlib.Core.Bool.{Bool, true, false, cond, not}
 use mathlib.Core.Logic.{_⊎_, inl, inr, ⊎-elim}
 use mathlib.Core.Option.{Option, none, some}
 use mathlib.Core.List.{List, [], _∷_, _++_}
@@ -19,7 +19,7 @@ use Rattle.rewriting.proofs.Choice.{tie-earlier, tie-later, tie-none}
 use Rattle.table.specs.States.{isPrefix, state, next, matching, known, states, number}
 use Rattle.table.specs.Table.{matchWord}
 use Rattle.table.specs.Nodes.{parent, symbol, children, matched, failure, tally, Trie, Owned, failureBy}
-use Rattle.table.specs.Consistent.{transition, differing, leaving, ownOr, passes, Passed, RootPassed, RightTable}
+use Rattle.table.specs.Consistent.{transition, differing, leaving, ownOr, Passes, Passed, RootPassed, RightTable}
 use Rattle.table.proofs.Matching.{state-drop, state-snoc, state-suffix, next-child, next-fail, matching-fail}
 use Rattle.table.proofs.States.{known-nil, prefix-known, known-prefix, state-known, next-known, number-at, known-at, listed-prefix, number-zero}
 
@@ -232,8 +232,8 @@ module _ (rules : List Rule) (symbols : ℕ) (t matches rows : List ℕ) (trie :
 
   -- in the right table, each state whose failure state is right passes its tests
   right-state : RightTable rules symbols matches rows → Owned rules (states rules) t → (c : ℕ) → 0 < c → c < length (states rules)
-      → failure t c ≡ number (states rules) (fallback rules (getD (states rules) c [])) → passes t matches rows symbols c ≡ true
-  unfolding passes differing
+      → failure t c ≡ number (states rules) (fallback rules (getD (states rules) c [])) → Passes t matches rows symbols c
+  unfolding differing
   right-state right owned c pos lt fails =
       let p : ℕ = parent t c in
       let below : p < length (states rules) = omega (arith, trie .linked .up c pos lt) in
@@ -242,19 +242,21 @@ module _ (rules : List Rule) (symbols : ℕ) (t matches rows : List ℕ) (trie :
       let f = number-at (states rules) (fallback rules v) (state-known rules (drop 1 v)) in
       let inside : failure t c < length (states rules) = omega (arith, fails, f .0) in
       let at : getD (states rules) (failure t c) [] ≡ fallback rules v = ap (λ (n : ℕ). getD (states rules) n []) fails ∙ f .1 in
-      and-both
-      (and-both
-      (eq-eqb (transition rows symbols p (symbol t c)) c
-      (right .right-next p (symbol t c) below (trie .small c pos lt) ∙ ap (number (states rules)) (leads c pos lt) ∙ trie .once c lt))
-      (eq-eqb (getD matches c 0) (ownOr (matched t c) (getD matches (failure t c) 0))
-      (right .right-match c lt ∙ fallback-match rules v long
-      ∙ sym (rw (owned c lt, right .right-match (failure t c) inside, at)))))
-      (eq-eqb (differing rows symbols c (failure t c)) (children t c)
-      (differs-child rules symbols v (λ a. next rules (fallback rules v) a) (λ a. next-known rules (fallback rules v) a) (fallback-short rules v long)
-      (fallback-next rules v long) (λ a. transition rows symbols c a) (λ a. transition rows symbols (failure t c) a)
-      (λ a small. right .right-next (failure t c) a inside small ∙ ap (λ (u : List ℕ). number (states rules) (next rules u a)) at)
-      (λ a small. right .right-next c a lt small)
-      ∙ sym (trie .counted c lt)))
+      record {
+        led =
+            right .right-next p (symbol t c) below (trie .small c pos lt) ∙ ap (number (states rules)) (leads c pos lt)
+            ∙ trie .once c lt;
+        inherits =
+            right .right-match c lt ∙ fallback-match rules v long
+            ∙ sym (rw (owned c lt, right .right-match (failure t c) inside, at));
+        differs =
+            differs-child rules symbols v (λ a. next rules (fallback rules v) a) (λ a. next-known rules (fallback rules v) a)
+            (fallback-short rules v long) (fallback-next rules v long)
+            (λ a. transition rows symbols c a) (λ a. transition rows symbols (failure t c) a)
+            (λ a small. right .right-next (failure t c) a inside small ∙ ap (λ (u : List ℕ). number (states rules) (next rules u a)) at)
+            (λ a small. right .right-next c a lt small)
+            ∙ sym (trie .counted c lt);
+      }
     where
       -- a node's parent leads to it
       leads : (c : ℕ) → 0 < c → c < length (states rules) → next rules (getD (states rules) (parent t c) []) (symbol t c) ≡ getD (states rules) c []
@@ -264,6 +266,26 @@ module _ (rules : List Rule) (symbols : ℕ) (t matches rows : List ℕ) (trie :
               → next rules (getD (states rules) (parent t c) []) (symbol t c) ≡ getD (states rules) c []
           go (inl e) = absurd (omega (arith, state-long c pos lt, ap length e))
           go (inr e) = next-child rules (getD (states rules) (parent t c) []) (symbol t c) (rw (← trie .made c pos lt) e) ∙ sym (trie .made c pos lt)
+
+  -- The right table passes at node q, whose failure state and those before it were found as the check finds them.
+  pub right-passes : RightTable rules symbols matches rows → Owned rules (states rules) t → (q : ℕ) → 0 < q → q < length (states rules)
+      → ((c : ℕ) → 0 < c → c ≤ q → failure t c ≡ failureBy t rows symbols c) → Passes t matches rows symbols q
+  right-passes right owned q pos lt failing =
+      right-state right owned q pos lt (failures-right right (suc q) (omega arith) (λ c pos less. failing c pos (omega arith)) q pos (omega arith))
+
+  -- and there the failure state is one of the states
+  pub right-inside : RightTable rules symbols matches rows → (q : ℕ) → 0 < q → q < length (states rules)
+      → ((c : ℕ) → 0 < c → c < q → failure t c ≡ failureBy t rows symbols c) → failureBy t rows symbols q < length (states rules)
+  right-inside right q pos lt failing =
+      let up = trie .linked .up q pos lt in
+      let above = fallback rules (getD (states rules) (parent t q) []) in
+      let below = number-at (states rules) above (state-known rules (drop 1 (getD (states rules) (parent t q) []))) .0 in
+      let found : 0 < parent t q → failure t (parent t q) ≡ number (states rules) above =
+      λ high. failures-right right q (omega arith) failing (parent t q) high up
+      in
+      rw (failure-step q pos lt found
+      (λ high. right .right-next (failure t (parent t q)) (symbol t q) (omega (arith, found high)) (trie .small q pos lt)))
+      (number-at (states rules) (fallback rules (getD (states rules) q [])) (state-known rules (drop 1 (getD (states rules) q []))) .0)
 
   root-row : (a : ℕ) → transition rows symbols 0 a ≡ getD rows a 0
   root-row a = let at : 0 * symbols + a ≡ a = omega arith in rw at
@@ -314,28 +336,7 @@ module _ (rules : List Rule) (symbols : ℕ) (t matches rows : List ℕ) (trie :
   module _ (owned : Owned rules (states rules) t) (root : RootPassed t matches rows symbols)
       (each : (c : ℕ) → 0 < c → c < length (states rules) → Passed t matches rows symbols (length (states rules)) c) where
     led : (c : ℕ) → 0 < c → c < length (states rules) → transition rows symbols (parent t c) (symbol t c) ≡ c
-    unfolding passes
-    led c pos lt =
-        let up : Bool = eqb (transition rows symbols (parent t c) (symbol t c)) c in
-        let word : Bool = eqb (getD matches c 0) (ownOr (matched t c) (getD matches (failure t c) 0)) in
-        let row : Bool = eqb (differing rows symbols c (failure t c)) (children t c) in
-        eqb-true (transition rows symbols (parent t c) (symbol t c)) c (and-left up word (and-left (up && word) row (each c pos lt .passing)))
-
-    inherits : (c : ℕ) → 0 < c → c < length (states rules) → getD matches c 0 ≡ ownOr (matched t c) (getD matches (failure t c) 0)
-    unfolding passes
-    inherits c pos lt =
-        let up : Bool = eqb (transition rows symbols (parent t c) (symbol t c)) c in
-        let word : Bool = eqb (getD matches c 0) (ownOr (matched t c) (getD matches (failure t c) 0)) in
-        let row : Bool = eqb (differing rows symbols c (failure t c)) (children t c) in
-        eqb-true (getD matches c 0) (ownOr (matched t c) (getD matches (failure t c) 0)) (and-right up word (and-left (up && word) row (each c pos lt .passing)))
-
-    differs : (c : ℕ) → 0 < c → c < length (states rules) → differing rows symbols c (failure t c) ≡ children t c
-    unfolding passes
-    differs c pos lt =
-        let up : Bool = eqb (transition rows symbols (parent t c) (symbol t c)) c in
-        let word : Bool = eqb (getD matches c 0) (ownOr (matched t c) (getD matches (failure t c) 0)) in
-        let row : Bool = eqb (differing rows symbols c (failure t c)) (children t c) in
-        eqb-true (differing rows symbols c (failure t c)) (children t c) (and-right (up && word) row (each c pos lt .passing))
+    led c pos lt = each c pos lt .passing .led
 
     root-right : RightState 0
     unfolding leaving matching ending matchWord
@@ -364,9 +365,9 @@ module _ (rules : List Rule) (symbols : ℕ) (t matches rows : List ℕ) (trie :
               row-right rules symbols v (λ a. next rules (fallback rules v) a) (λ a. next-known rules (fallback rules v) a) (fallback-short rules v long)
               (fallback-next rules v long) (λ a. transition rows symbols c a) (λ a. transition rows symbols (failure t c) a)
               (λ a small. rightF .row a small ∙ ap (λ (u : List ℕ). number (states rules) (next rules u a)) at)
-              (differs c pos lt ∙ trie .counted c lt)
+              (each c pos lt .passing .differs ∙ trie .counted c lt)
               (λ a small k. children-placed led c a lt k);
-          word = inherits c pos lt ∙ rw (owned c lt, rightF .word, at) (sym (fallback-match rules v long));
+          word = each c pos lt .passing .inherits ∙ rw (owned c lt, rightF .word, at) (sym (fallback-match rules v long));
           fails = λ _. found;
         }
       where
@@ -407,3 +408,21 @@ module _ (rules : List Rule) (symbols : ℕ) (t matches rows : List ℕ) (trie :
 
         rightF : RightState (failure t c)
         rightF = shorter (failure t c) (each c pos lt .inside) (omega (arith, ap length at, fallback-shorter rules v long))
+
+    -- a table whose every state passes its tests is the rules' table
+    pub consistent-right : RightTable rules symbols matches rows
+    consistent-right =
+        record {
+          right-next = λ c a lt small. all (suc (length (getD (states rules) c []))) c lt (omega arith) .row a small;
+          right-match = λ c lt. all (suc (length (getD (states rules) c []))) c lt (omega arith) .word;
+        }
+      where
+        turn : (c : ℕ) → c < length (states rules)
+            → ((b : ℕ) → b < length (states rules) → length (getD (states rules) b []) < length (getD (states rules) c []) → RightState b)
+            → (b : Bool) → ltb 0 c ≡ b → RightState c
+        turn c lt shorter true l = state-right c (ltb-true 0 c l) lt shorter
+        turn c lt shorter false l = let none : c ≡ 0 = omega (arith, ltb-false 0 c l) in rw none root-right
+
+        all : (d c : ℕ) → c < length (states rules) → length (getD (states rules) c []) < d → RightState c
+        all zero c lt h = absurd (not-suc-le-zero h)
+        all (suc d) c lt h = turn c lt (λ b below less. all d b below (omega arith)) (ltb 0 c) refl

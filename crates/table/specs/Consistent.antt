@@ -2,7 +2,7 @@
 -- the trie. A table passes them all exactly where it is the rules' (`consistent-right` and `right-passes`, proofs/Consistent.antt).
 use Prim.Native.Nat.{ℕ, _+_, _*_, _<_}
 use mathlib.Core.Path.{_≡_}
-use mathlib.Core.Bool.{Bool, true, cond, not, _&&_}
+use mathlib.Core.Bool.{Bool, true, false, cond, not}
 use mathlib.Core.List.{List, []}
 use lib.Dec.{eqb}
 use lib.ListN.{length, getD}
@@ -29,17 +29,16 @@ ownOr own other = cond (eqb own 0) other own
 
 -- The tests of state q, other than the root, whose failure state its node holds: its parent leads to it; its match word
 -- is its own or its failure state's; its row differs from its failure state's in as many words as it has children.
-unfoldable pub passes : List ℕ → List ℕ → List ℕ → ℕ → ℕ → Bool
-passes t matches rows symbols q =
-    eqb (transition rows symbols (parent t q) (symbol t q)) q
-    && eqb (getD matches q 0) (ownOr (matched t q) (getD matches (failure t q) 0))
-    && eqb (differing rows symbols q (failure t q)) (children t q)
+pub record Passes (t matches rows : List ℕ) (symbols q : ℕ) : Type 0 where
+  pub led : transition rows symbols (parent t q) (symbol t q) ≡ q
+  pub inherits : getD matches q 0 ≡ ownOr (matched t q) (getD matches (failure t q) 0)
+  pub differs : differing rows symbols q (failure t q) ≡ children t q
 
 -- state q passes its tests, and its node holds a failure state that is a state, by its parent's
 pub record Passed (t matches rows : List ℕ) (symbols n q : ℕ) : Type 0 where
   pub failing : failure t q ≡ failureBy t rows symbols q
   pub inside : failure t q < n
-  pub passing : passes t matches rows symbols q ≡ true
+  pub passing : Passes t matches rows symbols q
 
 -- the tests of the root
 pub record RootPassed (t matches rows : List ℕ) (symbols : ℕ) : Type 0 where
@@ -52,3 +51,8 @@ pub record RightTable (rules : List Rule) (symbols : ℕ) (matches rows : List �
       → transition rows symbols c a ≡ number (states rules) (next rules (getD (states rules) c []) a)
   pub right-match : (c : ℕ) → c < length (states rules)
       → getD matches c 0 ≡ matchWord (matching rules (getD (states rules) c []))
+
+-- the answer b of a test is true exactly where P holds
+abbrev pub Decides : Bool → Type 0 → Type 0
+Decides true P = P
+Decides false P = P → ⊥
