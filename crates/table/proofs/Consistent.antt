@@ -8,6 +8,7 @@ use mathlib.Core.Option.{Option, none, some}
 use mathlib.Core.List.{List, [], _∷_, _++_}
 use native.Mathlib.Omega.{arith}
 use native.Mathlib.Nat.{not-suc-le-zero}
+use native.Mathlib.Numerals.{add-one}
 use lib.Dec.{eqb, ltb}
 use lib.ListN.{length, getD, take, drop, length-append, length-drop}
 use lib.Seq.{drop-append-le, take-at, getD-at}
@@ -61,6 +62,16 @@ module _ (P Q : ℕ → Bool) where
       go true p false r e less ih = let e = h n (omega arith) p in let z : _≡_ {A = ℕ} 0 1 = cc in absurd (omega arith)
       go false p true r e less ih = absurd (omega arith)
       go false p false r e less ih = last (p ∙ sym r) ih (omega arith) (ltb a n) refl
+
+-- how many words of two rows differ, one word further on
+module _ (x y : ℕ → ℕ) (n : ℕ) where
+  pub tally-differ : (x n ≡ y n → ⊥) → tally (λ k. not (eqb (x k) (y k))) (n + 1) ≡ tally (λ k. not (eqb (x k) (y k))) n + 1
+  unfolding tally
+  tally-differ h = rw (add-one n, ne-eqb (x n) (y n) h)
+
+  pub tally-equal : x n ≡ y n → tally (λ k. not (eqb (x k) (y k))) (n + 1) ≡ tally (λ k. not (eqb (x k) (y k))) n
+  unfolding tally
+  tally-equal h = rw (add-one n, eq-eqb (x n) (y n) h) (omega arith)
 
 -- the match word of two rules that end together, the longer one's first
 pub match-own : (earlier later : Option ℕ) → matchWord (tie earlier later) ≡ ownOr (matchWord earlier) (matchWord later)

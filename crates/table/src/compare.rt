@@ -1,0 +1,99 @@
+// The check of a lent table, in place: each state against its parent, its failure state and its node of the trie. It
+// holds exactly where the table is the one that compile writes (specs/Consistent.antt has the tests).
+ghost use Prim.Native.Nat.{_+_, _*_, _≤_, _<_};
+ghost use mathlib.Core.Path.{_≡_};
+ghost use mathlib.Core.Bool.{true};
+ghost use lib.ListN.{length, getD};
+ghost use Rattle.image.specs.Image.{read, valid};
+ghost use Rattle.rewriting.specs.Lists.{prefix};
+ghost use Rattle.table.specs.States.{states};
+ghost use Rattle.table.specs.Table.{tableOf};
+ghost use Rattle.table.specs.Nodes.{parent, symbol, failure, Trie, Owned};
+ghost use Rattle.table.specs.Consistent.{differing, leaving, ownOr, Passes, RootPassed, RightTable, Decides};
+
+use crate::trie::failure_of;
+use crate::trie::wide;
+
+// How many words of the rows of q and f differ.
+fn differences(rows: &[u16], s: usize, q: usize, f: usize) -> u16
+    requires few { ⌜ s ≤ 32 ⌝ }
+    requires own { ⌜ q * s + s ≤ length (now rows) ⌝ }
+    requires other { ⌜ f * s + s ≤ length (now rows) ⌝ }
+    ensures { λ r. ⌜ r ≡ differing (now (rows .entry)) s q f ⌝ }
+{
+    let mut n: u16 = 0;
+    for a in 0..s {
+        if rows[q * s + a] != rows[f * s + a] {
+            n += 1;
+        }
+    }
+    n
+}
+
+// How many words of the root's row lead away from it.
+fn transitions(rows: &[u16], s: usize) -> u16
+    requires few { ⌜ s ≤ 32 ⌝ }
+    requires row { ⌜ s ≤ length (now rows) ⌝ }
+    ensures { λ r. ⌜ r ≡ leaving (now (rows .entry)) s ⌝ }
+{
+    let mut n: u16 = 0;
+    for a in 0..s {
+        if rows[a] != 0 {
+            n += 1;
+        }
+    }
+    n
+}
+
+// A match word of a state's own, or else its failure state's.
+fn own_or(own: u16, other: u16) -> u16
+    ensures { λ r. ⌜ r ≡ ownOr own other ⌝ }
+{
+    if own == 0 { other } else { own }
+}
+
+// The tests of the root.
+fn root_holds(trie: &[u16], matches: &[u16], rows: &[u16], s: usize) -> bool
+    requires few { ⌜ s ≤ 32 ⌝ }
+    requires node { ⌜ 5 < length (now trie) ⌝ }
+    requires word { ⌜ 0 < length (now matches) ⌝ }
+    requires row { ⌜ s ≤ length (now rows) ⌝ }
+    ensures { λ r. ⌜ Decides r (RootPassed (now (trie .entry)) (now (matches .entry)) (now (rows .entry)) s) ⌝ }
+{
+    if matches[0] != 0 {
+        return false;
+    }
+    let n = transitions(rows, s);
+    if n != trie[5] {
+        return false;
+    }
+    true
+}
+
+// The tests of state q, whose failure state its node holds.
+fn state_holds(trie: &[u16], matches: &[u16], rows: &[u16], s: usize, q: usize) -> bool
+    requires few { ⌜ s ≤ 32 ⌝ }
+    requires node { ⌜ 8 * q + 7 < length (now trie) ⌝ }
+    requires up { ⌜ parent (now trie) q * s + symbol (now trie) q < length (now rows) ⌝ }
+    requires words { ⌜ (q < length (now matches)) × (failure (now trie) q < length (now matches)) ⌝ }
+    requires own { ⌜ q * s + s ≤ length (now rows) ⌝ }
+    requires other { ⌜ failure (now trie) q * s + s ≤ length (now rows) ⌝ }
+    ensures { λ r. ⌜ Decides r (Passes (now (trie .entry)) (now (matches .entry)) (now (rows .entry)) s q) ⌝ }
+{
+    let p = wide(trie[8 * q]);
+    let a = wide(trie[8 * q + 1]);
+    let child = wide(rows[p * s + a]);
+    if child != q {
+        return false;
+    }
+    let f = wide(trie[8 * q + 7]);
+    let m = own_or(trie[8 * q + 6], matches[f]);
+    if m != matches[q] {
+        return false;
+    }
+    let n = differences(rows, s, q, f);
+    if n != trie[8 * q + 5] {
+        return false;
+    }
+    true
+}
