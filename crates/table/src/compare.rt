@@ -8,9 +8,8 @@ ghost use Rattle.image.specs.Image.{read, valid};
 ghost use Rattle.rewriting.specs.Lists.{prefix};
 ghost use Rattle.table.specs.States.{states};
 ghost use Rattle.table.specs.Table.{tableOf};
-ghost use Rattle.table.specs.Nodes.{parent, symbol, failure, Trie, Owned};
-ghost use Rattle.table.specs.Consistent.{differing, leaving, ownOr, Passes, RootPassed, RightTable, Decides};
-
+ghost use Rattle.table.specs.Nodes.{parent, symbol, matched, failure, Trie, Owned};
+ghost use Rattle.table.specs.Consistent.{transition, differing, leaving, ownOr, Passes, RootPassed, RightTable, Decides};
 use crate::trie::failure_of;
 use crate::trie::wide;
 
@@ -45,11 +44,29 @@ fn transitions(rows: &[u16], s: usize) -> u16
     n
 }
 
-// A match word of a state's own, or else its failure state's.
-fn own_or(own: u16, other: u16) -> u16
-    ensures { λ r. ⌜ r ≡ ownOr own other ⌝ }
+// The state that the parent of node q leads to by q's symbol.
+fn led_to(trie: &[u16], rows: &[u16], s: usize, q: usize) -> usize
+    requires node { ⌜ 8 * q + 1 < length (now trie) ⌝ }
+    requires row { ⌜ parent (now trie) q * s + symbol (now trie) q < length (now rows) ⌝ }
+    ensures { λ r. ⌜ r ≡ transition (now (rows .entry)) s (parent (now (trie .entry)) q) (symbol (now (trie .entry)) q) ⌝ }
 {
-    if own == 0 { other } else { own }
+    let p = wide(trie[8 * q]);
+    let a = wide(trie[8 * q + 1]);
+    wide(rows[p * s + a])
+}
+
+// The match word that node q should have: its own, or else its failure state's.
+fn inherited(trie: &[u16], matches: &[u16], q: usize) -> u16
+    requires node { ⌜ 8 * q + 7 < length (now trie) ⌝ }
+    requires word { ⌜ failure (now trie) q < length (now matches) ⌝ }
+    ensures { λ r. ⌜ r ≡ ownOr (matched (now (trie .entry)) q) (getD (now (matches .entry)) (failure (now (trie .entry)) q) 0) ⌝ }
+{
+    let own = trie[8 * q + 6];
+    if own != 0 {
+        return own;
+    }
+    let f = wide(trie[8 * q + 7]);
+    matches[f]
 }
 
 // The tests of the root.
@@ -80,17 +97,15 @@ fn state_holds(trie: &[u16], matches: &[u16], rows: &[u16], s: usize, q: usize) 
     requires other { ⌜ failure (now trie) q * s + s ≤ length (now rows) ⌝ }
     ensures { λ r. ⌜ Decides r (Passes (now (trie .entry)) (now (matches .entry)) (now (rows .entry)) s q) ⌝ }
 {
-    let p = wide(trie[8 * q]);
-    let a = wide(trie[8 * q + 1]);
-    let child = wide(rows[p * s + a]);
+    let child = led_to(trie, rows, s, q);
     if child != q {
         return false;
     }
-    let f = wide(trie[8 * q + 7]);
-    let m = own_or(trie[8 * q + 6], matches[f]);
+    let m = inherited(trie, matches, q);
     if m != matches[q] {
         return false;
     }
+    let f = wide(trie[8 * q + 7]);
     let n = differences(rows, s, q, f);
     if n != trie[8 * q + 5] {
         return false;
