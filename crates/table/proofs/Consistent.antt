@@ -10,8 +10,8 @@ use native.Mathlib.Omega.{arith}
 use native.Mathlib.Nat.{not-suc-le-zero}
 use native.Mathlib.Numerals.{add-one}
 use lib.Dec.{eqb, ltb}
-use lib.ListN.{length, getD, take, drop, length-append, length-drop}
-use lib.Seq.{drop-append-le, take-at, getD-at}
+use lib.ListN.{length, getD, take, drop, set, length-append, length-drop, length-set}
+use lib.Seq.{drop-append-le, take-at, getD-at, getD-set-same, getD-set-other}
 use borrow.Author.Tests.{ltb-true, ltb-false, eqb-true, eqb-false, eq-eqb, ne-eqb}
 use Rattle.rewriting.specs.Rules.{Rule}
 use Rattle.rewriting.specs.Occurrences.{lowest, tie, ending}
@@ -19,7 +19,7 @@ use Rattle.rewriting.proofs.Lists.{and-left, and-right, and-both}
 use Rattle.rewriting.proofs.Choice.{tie-earlier, tie-later, tie-none}
 use Rattle.table.specs.States.{isPrefix, state, next, matching, known, states, number}
 use Rattle.table.specs.Table.{matchWord}
-use Rattle.table.specs.Nodes.{parent, symbol, children, matched, failure, tally, Trie, Owned, failureBy}
+use Rattle.table.specs.Nodes.{parent, symbol, depth, youngest, older, children, matched, failure, tally, Linked, Trie, Owned, failureBy}
 use Rattle.table.specs.Consistent.{transition, differing, leaving, ownOr, Passes, Passed, RootPassed, RightTable}
 use Rattle.table.proofs.Matching.{state-drop, state-snoc, state-suffix, next-child, next-fail, matching-fail}
 use Rattle.table.proofs.States.{known-nil, prefix-known, known-prefix, state-known, next-known, number-at, known-at, listed-prefix, number-zero}
@@ -437,3 +437,87 @@ module _ (rules : List Rule) (symbols : ℕ) (t matches rows : List ℕ) (trie :
         all : (d c : ℕ) → c < length (states rules) → length (getD (states rules) c []) < d → RightState c
         all zero c lt h = absurd (not-suc-le-zero h)
         all (suc d) c lt h = turn c lt (λ b below less. all d b below (omega arith)) (ltb 0 c) refl
+
+-- A node's failure state is kept in its last word, and no other word changes.
+module _ (t : List ℕ) (q f : ℕ) where
+  kept : (k : ℕ) → (k ≡ 8 * q + 7 → ⊥) → getD (set t (8 * q + 7) f) k 0 ≡ getD t k 0
+  kept k other = getD-set-other t (8 * q + 7) k f 0 other
+
+  parent-kept : (c : ℕ) → parent (set t (8 * q + 7) f) c ≡ parent t c
+  parent-kept c = kept (8 * c) (λ e. omega arith)
+
+  symbol-kept : (c : ℕ) → symbol (set t (8 * q + 7) f) c ≡ symbol t c
+  symbol-kept c = kept (8 * c + 1) (λ e. omega arith)
+
+  depth-kept : (c : ℕ) → depth (set t (8 * q + 7) f) c ≡ depth t c
+  depth-kept c = kept (8 * c + 2) (λ e. omega arith)
+
+  youngest-kept : (c : ℕ) → youngest (set t (8 * q + 7) f) c ≡ youngest t c
+  youngest-kept c = kept (8 * c + 3) (λ e. omega arith)
+
+  older-kept : (c : ℕ) → older (set t (8 * q + 7) f) c ≡ older t c
+  older-kept c = kept (8 * c + 4) (λ e. omega arith)
+
+  children-kept : (c : ℕ) → children (set t (8 * q + 7) f) c ≡ children t c
+  children-kept c = kept (8 * c + 5) (λ e. omega arith)
+
+  matched-kept : (c : ℕ) → matched (set t (8 * q + 7) f) c ≡ matched t c
+  matched-kept c = kept (8 * c + 6) (λ e. omega arith)
+
+  failure-kept : (c : ℕ) → (c ≡ q → ⊥) → failure (set t (8 * q + 7) f) c ≡ failure t c
+  failure-kept c other = kept (8 * c + 7) (λ e. other (omega arith))
+
+  pub failure-set : 8 * q + 7 < length t → failure (set t (8 * q + 7) f) q ≡ f
+  failure-set h = getD-set-same t (8 * q + 7) f 0 h
+
+  linked-kept : (n : ℕ) → Linked t n → Linked (set t (8 * q + 7) f) n
+  linked-kept n l =
+      record {
+        size = rw length-set (l .size);
+        up = λ c pos lt. rw (parent-kept c) (l .up c pos lt);
+        young = λ p lt. rw (youngest-kept p) (l .young p lt);
+        young-of = λ p lt h. rw (youngest-kept p, parent-kept (youngest t p)) (l .young-of p lt (rw (youngest-kept p) at h));
+        young-last = λ p c lt pos less e. rw (youngest-kept p) (l .young-last p c lt pos less (rw (parent-kept c) at e));
+        old = λ c pos lt. rw (older-kept c) (l .old c pos lt);
+        old-of = λ c pos lt h. rw (older-kept c, parent-kept (older t c), parent-kept c) (l .old-of c pos lt (rw (older-kept c) at h));
+        old-next = λ c b pos lt more less e. rw (older-kept c) (l .old-next c b pos lt more less (rw (parent-kept b, parent-kept c) at e));
+      }
+
+  module _ (s : List (List ℕ)) (symbols : ℕ) (trie : Trie s symbols t) (lt : q < length s) where
+    pub trie-kept : Trie s symbols (set t (8 * q + 7) f)
+    trie-kept =
+        record {
+          linked = linked-kept (length s) (trie .linked);
+          some-node = trie .some-node;
+          root = trie .root;
+          once = trie .once;
+          made = λ c pos lt. rw (parent-kept c, symbol-kept c) (trie .made c pos lt);
+          small = λ c pos lt. rw (symbol-kept c) (trie .small c pos lt);
+          deep = λ c lt. rw (depth-kept c) (trie .deep c lt);
+          counted = λ c lt. rw (children-kept c) (trie .counted c lt);
+          clear = λ k h. kept k (λ e. omega arith) ∙ trie .clear k h;
+        }
+
+    pub owned-kept : (rules : List Rule) → Owned rules s t → Owned rules s (set t (8 * q + 7) f)
+    owned-kept rules owned c below = matched-kept c ∙ owned c below
+
+    -- the way to a failure state leads by nodes before
+    pub failureBy-kept : (rows : List ℕ) (c : ℕ) → 0 < c → c ≤ q → failureBy (set t (8 * q + 7) f) rows symbols c ≡ failureBy t rows symbols c
+    unfolding failureBy
+    failureBy-kept rows c pos less =
+        let up = trie .linked .up c pos (omega arith) in
+        rw (parent-kept c, symbol-kept c, failure-kept (parent t c) (λ e. omega arith))
+
+    passed-kept : (matches rows : List ℕ) (n c : ℕ) → 0 < c → c < q → Passed t matches rows symbols n c
+        → Passed (set t (8 * q + 7) f) matches rows symbols n c
+    passed-kept matches rows n c pos less p =
+        let other : failure (set t (8 * q + 7) f) c ≡ failure t c = failure-kept c (λ e. omega arith) in
+        record {
+          failing = other ∙ p .failing ∙ sym (failureBy-kept rows c pos (omega arith));
+          inside = rw other (p .inside);
+          passing = record {
+            led = rw (parent-kept c, symbol-kept c) (p .passing .led);
+            inherits = rw (matched-kept c, other) (p .passing .inherits);
+            differs = rw (other, children-kept c) (p .passing .differs);
+          };
+        }
