@@ -7,7 +7,7 @@ use mathlib.Core.Logic.{_⊎_, inl, inr, ⊎-elim}
 use mathlib.Core.Option.{Option, none, some}
 use mathlib.Core.List.{List, [], _∷_, _++_}
 use native.Mathlib.Omega.{arith}
-use native.Mathlib.Nat.{not-suc-le-zero}
+use native.Mathlib.Nat.{not-suc-le-zero, suc-mul, mul-le-mul-right}
 use native.Mathlib.Numerals.{add-one}
 use lib.Dec.{eqb, ltb}
 use lib.ListN.{length, getD, take, drop, set, length-append, length-drop, length-set}
@@ -521,3 +521,83 @@ module _ (t : List ℕ) (q f : ℕ) where
             differs = rw (other, children-kept c) (p .passing .differs);
           };
         }
+
+-- What is known when the check reaches node q: the nodes before it have passed.
+pub record Checked (rules : List Rule) (symbols : ℕ) (t matches rows : List ℕ) (q : ℕ) : Type 0 where
+  pub trie : Trie (states rules) symbols t
+  pub owned : Owned rules (states rules) t
+  pub root : RootPassed t matches rows symbols
+  pub started : 0 < q
+  pub passed : (c : ℕ) → 0 < c → c < q → Passed t matches rows symbols (length (states rules)) c
+
+module _ (rules : List Rule) (symbols : ℕ) (t matches rows : List ℕ) where
+  pub checked-root : Trie (states rules) symbols t → Owned rules (states rules) t → RootPassed t matches rows symbols
+      → Checked rules symbols t matches rows 1
+  checked-root trie owned root =
+      record { trie = trie; owned = owned; root = root; started = omega arith; passed = λ c pos lt. absurd (omega arith) }
+
+  -- where all have, the table is right
+  pub checked-all : (q : ℕ) → length (states rules) ≤ q → Checked rules symbols t matches rows q → RightTable rules symbols matches rows
+  checked-all q done k =
+      consistent-right rules symbols t matches rows (k .trie) (k .owned) (k .root) (λ c pos lt. k .passed c pos (omega arith))
+
+  module _ (q : ℕ) (lt : q < length (states rules)) (k : Checked rules symbols t matches rows q) where
+    room : 8 * q + 7 < length t
+    room = omega (arith, k .trie .linked .size)
+
+    -- a failure state that is no state is found in no right table
+    pub wrong-failure : (failureBy t rows symbols q < length (states rules) → ⊥) → RightTable rules symbols matches rows → ⊥
+    wrong-failure outside right =
+        outside (right-inside rules symbols t matches rows (k .trie) right q (k .started) lt (λ c pos less. k .passed c pos less .failing))
+
+    module _ (f : ℕ) (found : f ≡ failureBy t rows symbols q) where
+      found-kept : failure (set t (8 * q + 7) f) q ≡ failureBy (set t (8 * q + 7) f) rows symbols q
+      found-kept =
+          failure-set t q f room ∙ found ∙ sym (failureBy-kept t q f (states rules) symbols (k .trie) lt rows q (k .started) (omega arith))
+
+      -- nor does a right table fail the tests of q
+      pub wrong-state : (Passes (set t (8 * q + 7) f) matches rows symbols q → ⊥) → RightTable rules symbols matches rows → ⊥
+      wrong-state fails right =
+          fails
+          (right-passes rules symbols (set t (8 * q + 7) f) matches rows (trie-kept t q f (states rules) symbols (k .trie) lt) right
+          (owned-kept t q f (states rules) symbols (k .trie) lt rules (k .owned)) q (k .started) lt (λ c pos less. failing c pos less (ltb c q) refl))
+        where
+          failing : (c : ℕ) → 0 < c → c ≤ q → (b : Bool) → ltb c q ≡ b
+              → failure (set t (8 * q + 7) f) c ≡ failureBy (set t (8 * q + 7) f) rows symbols c
+          failing c pos less true l =
+              passed-kept t q f (states rules) symbols (k .trie) lt matches rows (length (states rules)) c pos (ltb-true c q l)
+              (k .passed c pos (ltb-true c q l)) .failing
+          failing c pos less false l = let here : c ≡ q = omega (arith, ltb-false c q l) in rw here found-kept
+
+      -- where q passes too, the check goes on behind it
+      pub checked-more : f < length (states rules) → Passes (set t (8 * q + 7) f) matches rows symbols q
+          → Checked rules symbols (set t (8 * q + 7) f) matches rows (q + 1)
+      checked-more inside passing =
+          record {
+            trie = trie-kept t q f (states rules) symbols (k .trie) lt;
+            owned = owned-kept t q f (states rules) symbols (k .trie) lt rules (k .owned);
+            root = record { no-match = k .root .no-match; leads = k .root .leads ∙ sym (children-kept t q f 0) };
+            started = omega arith;
+            passed = λ c pos less. turn c pos less (ltb c q) refl;
+          }
+        where
+          turn : (c : ℕ) → 0 < c → c < q + 1 → (b : Bool) → ltb c q ≡ b
+              → Passed (set t (8 * q + 7) f) matches rows symbols (length (states rules)) c
+          turn c pos less true l =
+              passed-kept t q f (states rules) symbols (k .trie) lt matches rows (length (states rules)) c pos (ltb-true c q l)
+              (k .passed c pos (ltb-true c q l))
+          turn c pos less false l =
+              let here : c ≡ q = omega (arith, ltb-false c q l) in
+              rw here
+              (record { failing = found-kept; inside = rw (failure-set t q f room) inside; passing = passing })
+
+-- a word of row i, and row i, stand in n rows of s words
+pub word-within : (i n s a : ℕ) → i < n → a < s → i * s + a < n * s
+word-within i n s a lt small =
+    let rows : suc i * s ≤ n * s = mul-le-mul-right s lt in
+    omega (arith, rw suc-mul at rows)
+
+pub row-within : (i n s : ℕ) → i < n → i * s + s ≤ n * s
+row-within i n s lt =
+    let rows : suc i * s ≤ n * s = mul-le-mul-right s lt in
+    omega (arith, rw suc-mul at rows)
