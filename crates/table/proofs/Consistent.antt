@@ -1,7 +1,7 @@
 -- Why a table can be checked in place: it passes every state's tests exactly where it is the rules' table.
 -- Assumes nothing.
 use Prim.Native.Nat.{ℕ, zero, suc, _+_, _*_, _≤_, _<_}
-use mathlib.Core.Path.{_≡_, refl, sym, ap, _∙_}
+use mathlib.Core.Path.{_≡_, refl, sym, ap, subst, _∙_}
 use mathlib.Core.Bool.{Bool, true, false, cond, not}
 use mathlib.Core.Logic.{_⊎_, inl, inr, ⊎-elim}
 use mathlib.Core.Option.{Option, none, some}
@@ -13,16 +13,17 @@ use lib.Dec.{eqb, ltb}
 use lib.ListN.{length, getD, take, drop, set, length-append, length-drop, length-set}
 use lib.Seq.{drop-append-le, take-at, getD-at, getD-set-same, getD-set-other}
 use borrow.Author.Tests.{ltb-true, ltb-false, eqb-true, eqb-false, eq-eqb, ne-eqb}
-use Rattle.rewriting.specs.Rules.{Rule}
+use Rattle.rewriting.specs.Rules.{Rule, RuleSet, inRange}
 use Rattle.rewriting.specs.Occurrences.{lowest, tie, ending}
 use Rattle.rewriting.proofs.Lists.{and-left, and-right, and-both}
+use Rattle.rewriting.proofs.Ranges.{ranges}
 use Rattle.rewriting.proofs.Choice.{tie-earlier, tie-later, tie-none}
 use Rattle.table.specs.States.{isPrefix, state, next, matching, known, states, number}
 use Rattle.table.specs.Table.{matchWord}
 use Rattle.table.specs.Nodes.{parent, symbol, depth, youngest, older, children, matched, failure, tally, Linked, Trie, Owned, failureBy}
-use Rattle.table.specs.Consistent.{transition, differing, leaving, ownOr, Passes, Passed, RootPassed, RightTable}
+use Rattle.table.specs.Consistent.{transition, differing, leaving, ownOr, Passes, Passed, RootPassed, RightTable, Decides}
 use Rattle.table.proofs.Matching.{state-drop, state-snoc, state-suffix, next-child, next-fail, matching-fail}
-use Rattle.table.proofs.States.{known-nil, prefix-known, known-prefix, state-known, next-known, number-at, known-at, listed-prefix, number-zero}
+use Rattle.table.proofs.States.{known-nil, prefix-known, known-prefix, state-known, next-known, number-at, known-at, listed-prefix, number-zero, few-states}
 
 module _ (P Q : ℕ → Bool) where
   -- two tests that agree have the same tally
@@ -601,3 +602,127 @@ pub row-within : (i n s : ℕ) → i < n → i * s + s ≤ n * s
 row-within i n s lt =
     let rows : suc i * s ≤ n * s = mul-le-mul-right s lt in
     omega (arith, rw suc-mul at rows)
+
+-- what a test's answer says, where the code goes on or stops by it
+pub decides-no : {P : Type 0} (b : Bool) → not b ≡ true → Decides b P → P → ⊥
+decides-no true e d = let z : _≡_ {A = ℕ} 0 1 = cc in absurd (omega arith)
+decides-no false e d = d
+
+pub decides-yes : {P : Type 0} (b : Bool) → not b ≡ false → Decides b P → P
+decides-yes true e d = d
+decides-yes false e d = let z : _≡_ {A = ℕ} 0 1 = cc in absurd (omega arith)
+
+-- What the check of a table of n states and s symbols holds to when it reaches node q.
+pub record Checking (set : RuleSet) (t matches rows : List ℕ) (n s q : ℕ) : Type 0 where
+  pub all : n ≡ length (states (set .rules))
+  pub few : n ≤ 513
+  pub width : s ≡ set .symbols
+  pub narrow : s ≤ 32
+  pub words : n ≡ length matches
+  pub lines : n * s ≡ length rows
+  pub within : q ≤ n
+  pub checked : Checked (set .rules) s t matches rows q
+
+module _ (rules : RuleSet) (t matches rows : List ℕ) (n s : ℕ) (range : inRange rules ≡ true) (all : n ≡ length (states (rules .rules)))
+    (width : s ≡ rules .symbols) (trie : Trie (states (rules .rules)) (rules .symbols) t) where
+  root-trie : Trie (states (rules .rules)) s t
+  root-trie = subst (λ (x : ℕ). Trie (states (rules .rules)) x t) (sym width) trie
+
+  pub root-asks : n ≡ length matches → n * rules .symbols ≡ length rows
+      → (s ≤ 32) × ((5 < length t) × ((0 < length matches) × (s ≤ length rows)))
+  root-asks words lines =
+      let some = trie .some-node in
+      let first : 0 * s + s ≤ n * s = row-within 0 n s (omega arith) in
+      let here : n * s ≡ length rows = rw width lines in
+      (omega (arith, ranges rules range .few-symbols), (omega (arith, trie .linked .size), (omega arith, omega arith)))
+
+  pub checking-root : Owned (rules .rules) (states (rules .rules)) t → n ≡ length matches → n * rules .symbols ≡ length rows
+      → RootPassed t matches rows s → Checking rules t matches rows n s 1
+  checking-root owned words lines root =
+      let some = trie .some-node in
+      record {
+        all = all;
+        few = omega (arith, few-states rules range);
+        width = width;
+        narrow = omega (arith, ranges rules range .few-symbols);
+        words = words;
+        lines = rw width lines;
+        within = omega arith;
+        checked = checked-root (rules .rules) s t matches rows root-trie owned root;
+      }
+
+  pub wrong-root : (RootPassed t matches rows s → ⊥) → RightTable (rules .rules) (rules .symbols) matches rows → ⊥
+  wrong-root fails right =
+      fails (right-root (rules .rules) s t matches rows root-trie (subst (λ (x : ℕ). RightTable (rules .rules) x matches rows) (sym width) right))
+
+module _ (rules : RuleSet) (t matches rows : List ℕ) (n s q : ℕ) (k : Checking rules t matches rows n s q) where
+  narrowed : RightTable (rules .rules) (rules .symbols) matches rows → RightTable (rules .rules) s matches rows
+  narrowed right = subst (λ (x : ℕ). RightTable (rules .rules) x matches rows) (sym (k .width)) right
+
+  pub checking-end : n ≤ q → RightTable (rules .rules) (rules .symbols) matches rows
+  checking-end done =
+      subst (λ (x : ℕ). RightTable (rules .rules) x matches rows) (k .width)
+      (checked-all (rules .rules) s t matches rows q (omega (arith, k .all)) (k .checked))
+
+  module _ (lt : q < n) where
+    listed-below : q < length (states (rules .rules))
+    listed-below = omega (arith, k .all)
+
+    pub node-room : 8 * q + 7 < length t
+    node-room = omega (arith, k .checked .trie .linked .size, listed-below)
+
+    parent-below : parent t q < q
+    parent-below = k .checked .trie .linked .up q (k .checked .started) listed-below
+
+    symbol-below : symbol t q < s
+    symbol-below = k .checked .trie .small q (k .checked .started) listed-below
+
+    pub failure-asks : (8 * q + 1 < length t) × ((8 * parent t q + 7 < length t)
+        × (0 < parent t q → failure t (parent t q) * s + symbol t q < length rows))
+    failure-asks = (omega (arith, node-room), (omega (arith, node-room, parent-below), row))
+      where
+        row : 0 < parent t q → failure t (parent t q) * s + symbol t q < length rows
+        row high =
+            let inside : failure t (parent t q) < n = omega (arith, k .all, k .checked .passed (parent t q) high parent-below .inside) in
+            rw (← k .lines) (word-within (failure t (parent t q)) n s (symbol t q) inside symbol-below)
+
+    pub no-failure : n ≤ failureBy t rows s q → RightTable (rules .rules) (rules .symbols) matches rows → ⊥
+    no-failure out right =
+        wrong-failure (rules .rules) s t matches rows q listed-below (k .checked) (λ h. omega (arith, k .all)) (narrowed right)
+
+    module _ (f : ℕ) (found : f ≡ failureBy t rows s q) where
+      pub no-state : (Passes (set t (8 * q + 7) f) matches rows s q → ⊥) → RightTable (rules .rules) (rules .symbols) matches rows → ⊥
+      no-state fails right = wrong-state (rules .rules) s t matches rows q listed-below (k .checked) f found fails (narrowed right)
+
+      module _ (inside : f < n) where
+        pub state-asks : (s ≤ 32) × ((8 * q + 7 < length (set t (8 * q + 7) f))
+            × ((parent (set t (8 * q + 7) f) q * s + symbol (set t (8 * q + 7) f) q < length rows)
+            × (((q < length matches) × (failure (set t (8 * q + 7) f) q < length matches))
+            × ((q * s + s ≤ length rows) × (failure (set t (8 * q + 7) f) q * s + s ≤ length rows)))))
+        state-asks =
+            let up = word-within (parent t q) n s (symbol t q) (omega (arith, parent-below)) symbol-below in (
+              k .narrow,
+              (
+                rw length-set node-room,
+                (
+                  rw (parent-kept t q f q, symbol-kept t q f q, ← k .lines) up,
+                  (
+                    (omega (arith, k .words), rw (failure-set t q f node-room) (omega (arith, k .words))),
+                    (rw (← k .lines) (row-within q n s lt), rw (failure-set t q f node-room, ← k .lines) (row-within f n s inside)),
+                  ),
+                ),
+              ),
+            )
+
+        pub checking-more : Passes (set t (8 * q + 7) f) matches rows s q → Checking rules (set t (8 * q + 7) f) matches rows n s (q + 1)
+        checking-more passing =
+            record {
+              all = k .all;
+              few = k .few;
+              width = k .width;
+              narrow = k .narrow;
+              words = k .words;
+              lines = k .lines;
+              within = omega arith;
+              checked = checked-more (rules .rules) s t matches rows q listed-below (k .checked) f found (omega (arith, k .all)) passing;
+            }

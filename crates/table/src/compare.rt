@@ -112,3 +112,30 @@ fn state_holds(trie: &[u16], matches: &[u16], rows: &[u16], s: usize, q: usize) 
     }
     true
 }
+
+// Every state's tests, in the order of their numbers, so that its parent and its parent's failure state are known when a
+// state is reached. Keeps each state's failure state in its node.
+fn states_hold(image: &[u8], trie: &mut [u16], n: usize, matches: &[u16], rows: &[u16]) -> bool
+    requires { ⌜ valid (now image) ≡ true ⌝ }
+    requires { ⌜ Trie (states (read (now image) .rules)) (read (now image) .symbols) (now trie) ⌝ }
+    requires { ⌜ Owned (read (now image) .rules) (states (read (now image) .rules)) (now trie) ⌝ }
+    requires { ⌜ n ≡ length (states (read (now image) .rules)) ⌝ }
+    requires { ⌜ (n ≡ length (now matches)) × (n * read (now image) .symbols ≡ length (now rows)) ⌝ }
+    ensures { λ r. ⌜ Decides r (RightTable (read (now (image .entry)) .rules) (read (now (image .entry)) .symbols) (now (matches .entry)) (now (rows .entry))) ⌝ }
+{
+    let s = image::symbols(image);
+    if !root_holds(trie, matches, rows, s) {
+        return false;
+    }
+    for q in 1..n {
+        let f = failure_of(trie, rows, s, q);
+        if f >= n {
+            return false;
+        }
+        trie[8 * q + 7] = f as u16;
+        if !state_holds(trie, matches, rows, s, q) {
+            return false;
+        }
+    }
+    true
+}
