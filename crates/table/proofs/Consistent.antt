@@ -1,29 +1,31 @@
 -- Why a table can be checked in place: it passes every state's tests exactly where it is the rules' table.
 -- Assumes nothing.
-use Prim.Native.Nat.{ℕ, zero, suc, _+_, _*_, _≤_, _<_}
+use Prim.Native.Nat.{ℕ, zero, suc, _+_, _-_, _*_, _/_, _%_, _≤_, _<_}
 use mathlib.Core.Path.{_≡_, refl, sym, ap, subst, _∙_}
 use mathlib.Core.Bool.{Bool, true, false, cond, not}
 use mathlib.Core.Logic.{_⊎_, inl, inr, ⊎-elim}
 use mathlib.Core.Option.{Option, none, some}
 use mathlib.Core.List.{List, [], _∷_, _++_}
 use native.Mathlib.Omega.{arith}
-use native.Mathlib.Nat.{not-suc-le-zero, suc-mul, mul-le-mul-right}
+use native.Mathlib.Nat.{not-suc-le-zero, suc-mul, mul-le-mul-right, mod-lt, div-add-mod', div-lt-iff-lt-mul}
 use native.Mathlib.Numerals.{add-one}
 use lib.Dec.{eqb, ltb}
 use lib.ListN.{length, getD, take, drop, set, length-append, length-drop, length-set}
-use lib.Seq.{drop-append-le, take-at, getD-at, getD-set-same, getD-set-other}
+use lib.Seq.{drop-append-le, take-at, getD-at, getD-take, getD-drop, getD-set-same, getD-set-other, length-take-le}
 use borrow.Author.Tests.{ltb-true, ltb-false, eqb-true, eqb-false, eq-eqb, ne-eqb}
+use Rattle.rewriting.specs.Lists.{prefix}
 use Rattle.rewriting.specs.Rules.{Rule, RuleSet, inRange}
 use Rattle.rewriting.specs.Occurrences.{lowest, tie, ending}
-use Rattle.rewriting.proofs.Lists.{and-left, and-right, and-both}
+use Rattle.rewriting.proofs.Lists.{and-both, prefix-rest, begins-at}
 use Rattle.rewriting.proofs.Ranges.{ranges}
 use Rattle.rewriting.proofs.Choice.{tie-earlier, tie-later, tie-none}
 use Rattle.table.specs.States.{isPrefix, state, next, matching, known, states, number}
-use Rattle.table.specs.Table.{matchWord}
+use Rattle.table.specs.Table.{matchWord, tableOf}
 use Rattle.table.specs.Nodes.{parent, symbol, depth, youngest, older, children, matched, failure, tally, Linked, Trie, Owned, failureBy}
 use Rattle.table.specs.Consistent.{transition, differing, leaving, ownOr, Passes, Passed, RootPassed, RightTable, Decides}
 use Rattle.table.proofs.Matching.{state-drop, state-snoc, state-suffix, next-child, next-fail, matching-fail}
 use Rattle.table.proofs.States.{known-nil, prefix-known, known-prefix, state-known, next-known, number-at, known-at, listed-prefix, number-zero, few-states}
+use Rattle.table.proofs.Table.{length-table, table-length, table-states, table-symbols, table-match, table-next, begins-match, begins-next}
 
 module _ (P Q : ℕ → Bool) where
   -- two tests that agree have the same tally
@@ -726,3 +728,121 @@ module _ (rules : RuleSet) (t matches rows : List ℕ) (n s q : ℕ) (k : Checki
               within = omega arith;
               checked = checked-more (rules .rules) s t matches rows q listed-below (k .checked) f found (omega (arith, k .all)) passing;
             }
+
+prefix-length : (s t : List ℕ) → prefix s t ≡ true → length s ≤ length t
+prefix-length s t e = omega (arith, simp length-append at (ap length (prefix-rest s t e)))
+
+-- a list that is as long as another, or longer, and has its elements begins with it
+prefix-at : (s t : List ℕ) → length s ≤ length t → ((i : ℕ) → i < length s → getD t i 0 ≡ getD s i 0) → prefix s t ≡ true
+prefix-at [] t long same = refl
+prefix-at (x ∷ s) [] long same = absurd (omega arith)
+prefix-at (x ∷ s) (y ∷ t) long same =
+    and-both (eq-eqb x y (sym (same 0 (omega arith)))) (prefix-at s t (omega arith) (λ i h. same (suc i) (omega arith)))
+
+-- the parts of a table of n states and s symbols
+abbrev pub matchPart : List ℕ → ℕ → List ℕ
+matchPart table n = take (2 + n - 2) (drop 2 table)
+
+abbrev pub rowPart : List ℕ → ℕ → ℕ → List ℕ
+rowPart table n s = take (2 + n + n * s - (2 + n)) (drop (2 + n) table)
+
+module _ (table : List ℕ) (n s : ℕ) where
+  matchPart-at : (i : ℕ) → i < n → getD (matchPart table n) i 0 ≡ getD table (2 + i) 0
+  matchPart-at i h = getD-take (2 + n - 2) (drop 2 table) i 0 (omega arith) ∙ getD-drop 2 table i 0
+
+  rowPart-at : (j : ℕ) → j < n * s → getD (rowPart table n s) j 0 ≡ getD table (2 + n + j) 0
+  rowPart-at j h = getD-take (2 + n + n * s - (2 + n)) (drop (2 + n) table) j 0 (omega arith) ∙ getD-drop (2 + n) table j 0
+
+never-true : (b : Bool) → (b ≡ true → ⊥) → false ≡ b
+never-true true h = absurd (h refl)
+never-true false h = refl
+
+module _ (rules : RuleSet) (table : List ℕ) (n s : ℕ) (all : n ≡ length (states (rules .rules))) (width : s ≡ rules .symbols) where
+  size : length (tableOf rules) ≡ 2 + n + n * s
+  size = rw (all, width) (length-table rules)
+
+  pub table-small : inRange rules ≡ true → 2 + n + n * s ≤ 16931
+  table-small range = omega (arith, size, table-length rules range)
+
+  pub part-lengths : 2 + n + n * s ≤ length table → (n ≡ length (matchPart table n)) × (n * rules .symbols ≡ length (rowPart table n s))
+  part-lengths long =
+      let words = length-drop 2 table in
+      let lines = length-drop (2 + n) table in
+      let here : n * rules .symbols ≡ n * s = rw width in (
+        sym (length-take-le (2 + n - 2) (drop 2 table) (omega arith) ∙ omega arith),
+        here ∙ sym (length-take-le (2 + n + n * s - (2 + n)) (drop (2 + n) table) (omega arith) ∙ omega arith),
+      )
+
+  pub short-table : length table < 2 + n + n * s → false ≡ prefix (tableOf rules) table
+  short-table short = never-true (prefix (tableOf rules) table) (λ e. omega (arith, prefix-length (tableOf rules) table e, size))
+
+  pub other-states : (getD table 0 0 ≡ n → ⊥) → false ≡ prefix (tableOf rules) table
+  other-states other =
+      never-true (prefix (tableOf rules) table)
+      (λ e. other (begins-at (tableOf rules) table e 0 0 (omega (arith, size)) ∙ table-states rules ∙ sym all))
+
+  pub other-symbols : (getD table 1 0 ≡ s → ⊥) → false ≡ prefix (tableOf rules) table
+  other-symbols other =
+      never-true (prefix (tableOf rules) table)
+      (λ e. other (begins-at (tableOf rules) table e 1 0 (omega (arith, size)) ∙ table-symbols rules ∙ sym width))
+
+  begins-right : prefix (tableOf rules) table ≡ true → RightTable (rules .rules) s (matchPart table n) (rowPart table n s)
+  begins-right e =
+      record {
+        right-next = λ c a lt small.
+            let at : 2 + n + (c * s + a) ≡ 2 + length (states (rules .rules)) + c * rules .symbols + a =
+            rw (all, width) (omega arith)
+            in
+            rowPart-at table n s (c * s + a) (word-within c n s a (omega arith) small)
+            ∙ ap (λ (i : ℕ). getD table i 0) at
+            ∙ begins-next rules table e c a lt (omega arith);
+        right-match = λ c lt. matchPart-at table n s c (omega arith) ∙ begins-match rules table e c lt;
+      }
+
+  right-begins : inRange rules ≡ true → 2 + n + n * s ≤ length table → getD table 0 0 ≡ n → getD table 1 0 ≡ s
+      → RightTable (rules .rules) s (matchPart table n) (rowPart table n s) → prefix (tableOf rules) table ≡ true
+  right-begins range long first second right =
+      prefix-at (tableOf rules) table (omega (arith, size)) (λ i h. word i (omega (arith, size)) (ltb i 2) refl (ltb i (2 + n)) refl)
+    where
+      some : 0 < s
+      some = omega (arith, ranges rules range .some-symbol)
+
+      -- word i of the rows
+      line : (i j : ℕ) → i ≡ 2 + n + j → j < n * s → getD table i 0 ≡ getD (tableOf rules) i 0
+      line i j e h =
+          let q : ℕ = j / s in
+          let a : ℕ = j % s in
+          let whole : q * s + a ≡ j = div-add-mod' j s in
+          let small : a < s = mod-lt j some in
+          let below : q < n = div-lt-iff-lt-mul some .1 h in
+          let here : i ≡ 2 + length (states (rules .rules)) + q * rules .symbols + a = rw (← all, ← width) (omega arith) in
+          ap (λ (k : ℕ). getD table k 0) e
+          ∙ sym (rowPart-at table n s j h)
+          ∙ ap (λ (k : ℕ). getD (rowPart table n s) k 0) (sym whole)
+          ∙ right .right-next q a (omega arith) small
+          ∙ sym (ap (λ (k : ℕ). getD (tableOf rules) k 0) here ∙ table-next rules q a (omega arith) (omega arith))
+
+      word : (i : ℕ) → i < 2 + n + n * s → (b : Bool) → ltb i 2 ≡ b → (d : Bool) → ltb i (2 + n) ≡ d
+          → getD table i 0 ≡ getD (tableOf rules) i 0
+      word zero h true l d m = first ∙ all ∙ sym (table-states rules)
+      word (suc zero) h true l d m = second ∙ width ∙ sym (table-symbols rules)
+      word (suc (suc i)) h true l d m = absurd (omega (arith, ltb-true (suc (suc i)) 2 l))
+      word i h false l true m =
+          let low = ltb-false i 2 l in
+          let high = ltb-true i (2 + n) m in
+          let here : i ≡ 2 + (i - 2) = omega arith in
+          ap (λ (k : ℕ). getD table k 0) here
+          ∙ sym (matchPart-at table n s (i - 2) (omega arith))
+          ∙ right .right-match (i - 2) (omega arith)
+          ∙ sym (ap (λ (k : ℕ). getD (tableOf rules) k 0) here ∙ table-match rules (i - 2) (omega arith))
+      word i h false l false m = let low = ltb-false i (2 + n) m in line i (i - (2 + n)) (omega arith) (omega arith)
+
+  -- the answer of the states' tests is that the table begins with the right words
+  pub compared : inRange rules ≡ true → 2 + n + n * s ≤ length table → getD table 0 0 ≡ n → getD table 1 0 ≡ s
+      → (b : Bool) → Decides b (RightTable (rules .rules) (rules .symbols) (matchPart table n) (rowPart table n s))
+      → b ≡ prefix (tableOf rules) table
+  compared range long first second true right =
+      sym (right-begins range long first second (subst (λ (x : ℕ). RightTable (rules .rules) x (matchPart table n) (rowPart table n s)) (sym width) right))
+  compared range long first second false wrong =
+      never-true (prefix (tableOf rules) table)
+      (λ e. wrong (subst (λ (x : ℕ). RightTable (rules .rules) x (matchPart table n) (rowPart table n s)) width (begins-right e)))

@@ -139,3 +139,27 @@ fn states_hold(image: &[u8], trie: &mut [u16], n: usize, matches: &[u16], rows: 
     }
     true
 }
+
+// Whether the table begins with the words that compile gives for the image, by the trie of its n states: N, S, and every
+// state's tests. Keeps each state's failure state in its node of the trie.
+pub fn holds(image: &[u8], trie: &mut [u16], n: usize, table: &[u16]) -> bool
+    requires { ⌜ valid (now image) ≡ true ⌝ }
+    requires { ⌜ Trie (states (read (now image) .rules)) (read (now image) .symbols) (now trie) ⌝ }
+    requires { ⌜ Owned (read (now image) .rules) (states (read (now image) .rules)) (now trie) ⌝ }
+    requires { ⌜ n ≡ length (states (read (now image) .rules)) ⌝ }
+    ensures { λ r. ⌜ r ≡ prefix (tableOf (read (now (image .entry)))) (now (table .entry)) ⌝ }
+{
+    let s = image::symbols(image);
+    let first = 2 + n;
+    let end = first + n * s;
+    if table.len() < end {
+        return false;
+    }
+    if wide(table[0]) != n {
+        return false;
+    }
+    if wide(table[1]) != s {
+        return false;
+    }
+    states_hold(image, trie, n, &table[2..first], &table[first..end])
+}
