@@ -3,7 +3,7 @@
 use Prim.Native.Nat.{ℕ, zero, suc, _+_, _-_, _*_, _/_, _%_, _≤_, _<_}
 use mathlib.Core.Path.{_≡_, refl, sym, ap, subst, _∙_}
 use mathlib.Core.Bool.{Bool, true, false, cond, not}
-use mathlib.Core.Logic.{_⊎_, inl, inr, ⊎-elim}
+use mathlib.Core.Logic.{_⊎_, inl, inr}
 use mathlib.Core.Option.{Option, none, some}
 use mathlib.Core.List.{List, [], _∷_, _++_}
 use native.Mathlib.Omega.{arith}
@@ -24,7 +24,7 @@ use Rattle.table.specs.Table.{matchWord, tableOf}
 use Rattle.table.specs.Nodes.{parent, symbol, depth, youngest, older, children, matched, failure, tally, Linked, Trie, Owned, failureBy}
 use Rattle.table.specs.Consistent.{transition, differing, leaving, ownOr, Passes, Passed, RootPassed, RightTable, Decides}
 use Rattle.table.proofs.Matching.{state-drop, state-snoc, state-suffix, next-child, next-fail, matching-fail}
-use Rattle.table.proofs.States.{known-nil, prefix-known, known-prefix, state-known, next-known, number-at, known-at, listed-prefix, number-zero, few-states}
+use Rattle.table.proofs.States.{known-nil, prefix-known, known-prefix, state-known, next-known, number-at, listed-prefix, number-zero, few-states}
 use Rattle.table.proofs.Table.{length-table, table-length, table-states, table-symbols, table-match, table-next, begins-match, begins-next}
 
 module _ (P Q : ℕ → Bool) where

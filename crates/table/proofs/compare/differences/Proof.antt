@@ -1,20 +1,18 @@
-use Prim.Native.Nat.{ℕ, _+_, _*_, _-_, _≤_, _<_}
+-- `table::compare::differences` meets its contract. The loop's invariant: n words of the first a differ.
+-- Assumes nothing.
+use Prim.Native.Nat.{ℕ, _+_, _-_, _≤_}
 use mathlib.Core.Path.{_≡_, refl, sym, ap, _∙_}
-use mathlib.Core.Bool.{Bool, true, false, not}
+use mathlib.Core.Bool.{not}
 use mathlib.Core.Logic.{⊎-elim}
 use mathlib.Core.List.{List}
 use native.Mathlib.Omega.{arith}
 use lib.Dec.{eqb}
-use lib.ListN.{length, getD}
 use borrow.Author.Needs.{needs}
-use borrow.Author.Tests.{eq-eqb, ne-eqb}
 use Rattle.table.specs.Nodes.{tally}
-use Rattle.table.specs.Consistent.{transition, differing, leaving}
+use Rattle.table.specs.Consistent.{transition, differing}
 use Rattle.table.proofs.Consistent.{tally-differ, tally-equal}
 use Rattle.table.proofs.compare.differences.Statement.{statement}
 use Rattle.table.proofs.compare.differences.Tie as tie
-use Rattle.table.proofs.compare.differences.Reads as reads
-use Rattle.table.proofs.compare.differences.Lts as lts
 
 abbrev Inv-loop : tie.InvT-loop
 Inv-loop rows s q f n₀ a₀ n a = (a ≤ s) × (n ≤ a) × (n ≡ tally (λ k. not (eqb (transition rows s q k) (transition rows s f k))) a)
@@ -22,56 +20,43 @@ Inv-loop rows s q f n₀ a₀ n a = (a ≤ s) × (n ≤ a) × (n ≡ tally (λ k
 abbrev μ-loop : tie.MeasureT-loop
 μ-loop rows s q f n₀ a₀ n a = s - a
 
--- src/compare.rt:25:5
 loop-holds : tie.Need-loop-holds Inv-loop μ-loop
 unfolding tally
 loop-holds c = (omega arith, omega arith, refl)
 
--- src/compare.rt:26:17
 mul-if1 : tie.Need-mul-if1 Inv-loop μ-loop
 mul-if1 c = search needs
 
--- src/compare.rt:26:17
 add-if1 : tie.Need-add-if1 Inv-loop μ-loop
 add-if1 c = search needs
 
--- src/compare.rt:26:12
 mul-if1-2 : tie.Need-mul-if1-2 Inv-loop μ-loop
 mul-if1-2 c = search needs
 
--- src/compare.rt:26:12
 shared-slice-read-if1 : tie.Need-shared-slice-read-if1 Inv-loop μ-loop
 shared-slice-read-if1 c = search needs
 
--- src/compare.rt:26:36
 mul-if1-3 : tie.Need-mul-if1-3 Inv-loop μ-loop
 mul-if1-3 c = search needs
 
--- src/compare.rt:26:36
 add-if1-2 : tie.Need-add-if1-2 Inv-loop μ-loop
 add-if1-2 c = search needs
 
--- src/compare.rt:26:31
 mul-if1-4 : tie.Need-mul-if1-4 Inv-loop μ-loop
 mul-if1-4 c = search needs
 
--- src/compare.rt:26:31
 shared-slice-read-if1-2 : tie.Need-shared-slice-read-if1-2 Inv-loop μ-loop
 shared-slice-read-if1-2 c = search needs
 
--- src/compare.rt:27:13
 add-n : tie.Need-add-n Inv-loop μ-loop
 add-n c = search needs
 
--- src/compare.rt:25:9
 add-a : tie.Need-add-a Inv-loop μ-loop
 add-a c = search needs
 
--- src/compare.rt:25:5
 loop-less : tie.Need-loop-less Inv-loop μ-loop
 loop-less c = search needs
 
--- src/compare.rt:25:5
 loop-again : tie.Need-loop-again Inv-loop μ-loop
 loop-again c =
     let rows : List ℕ = c .before .before .before .before .before .args .rows .now in
@@ -85,7 +70,6 @@ loop-again c =
     (λ w. (omega arith, omega arith, w .1 ∙ known ∙ sym (tally-equal (λ k. transition rows s q k) (λ k. transition rows s f k) a (w .0 .left))))
     (c .if1 .came)
 
--- src/compare.rt:18:1
 returns : tie.Need-returns Inv-loop μ-loop
 unfolding differing
 returns c =

@@ -1,63 +1,48 @@
+-- `table::compare::inherited` meets its contract: the own word where it is not 0, else the failure state's.
+-- Assumes nothing.
 use borrow.Author.Needs.{needs}
-use mathlib.Core.Path.{_≡_, sym, _∙_}
 use borrow.Author.Tests.{eq-eqb, ne-eqb}
 use Rattle.table.specs.Consistent.{ownOr}
 use Rattle.table.proofs.compare.inherited.Statement.{statement}
 use Rattle.table.proofs.compare.inherited.Tie as tie
-use Rattle.table.proofs.compare.inherited.Reads as reads
-use Rattle.table.proofs.compare.inherited.Lts as lts
-use Rattle.table.proofs.trie.wide.Reads as wide-reads
 
--- src/compare.rt:65:20
 mul-own : tie.Need-mul-own
 mul-own c = search needs
 
--- src/compare.rt:65:20
 add-own : tie.Need-add-own
 add-own c = search needs
 
--- src/compare.rt:65:15
 mul-own-2 : tie.Need-mul-own-2
 mul-own-2 c = search needs
 
--- src/compare.rt:65:15
 shared-slice-read-own : tie.Need-shared-slice-read-own
 shared-slice-read-own c = search needs
 
--- src/compare.rt:67:9
 returns : tie.Need-returns
 unfolding ownOr
 returns c = rw (ne-eqb _ 0 (c .if1 .taken))
 
--- src/compare.rt:69:23
 mul-wide : tie.Need-mul-wide
 mul-wide c = search needs
 
--- src/compare.rt:69:23
 add-wide : tie.Need-add-wide
 add-wide c = search needs
 
--- src/compare.rt:69:18
 mul-wide-2 : tie.Need-mul-wide-2
 mul-wide-2 c = search needs
 
--- src/compare.rt:69:18
 shared-slice-read-wide : tie.Need-shared-slice-read-wide
 shared-slice-read-wide c = search needs
 
--- src/compare.rt:69:9
 wide-requires : tie.Need-wide-requires
 wide-requires c κs = search needs
 
--- src/compare.rt:70:5
 mul-result : tie.Need-mul-result
 mul-result c = search needs
 
--- src/compare.rt:70:5
 shared-slice-read-result : tie.Need-shared-slice-read-result
 shared-slice-read-result c = search needs
 
--- src/compare.rt:60:1
 returns-2 : tie.Need-returns-2
 unfolding ownOr
 returns-2 c = rw (eq-eqb _ 0 (c .before .before .before .if1 .left), c .before .wide .ensures)

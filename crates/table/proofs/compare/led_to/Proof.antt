@@ -1,12 +1,11 @@
+-- `table::compare::led_to` meets its contract: it reads the parent's row at the node's symbol.
+-- Assumes nothing.
 use borrow.Author.Needs.{needs}
 use Prim.Native.Nat.{_+_, _*_, _<_}
 use native.Mathlib.Omega.{arith}
 use lib.ListN.{length}
 use Rattle.table.proofs.compare.led_to.Statement.{statement}
 use Rattle.table.proofs.compare.led_to.Tie as tie
-use Rattle.table.proofs.compare.led_to.Reads as reads
-use Rattle.table.proofs.compare.led_to.Lts as lts
-use Rattle.table.proofs.trie.wide.Reads as wide-reads
 
 -- the word that is read stands in the rows
 inside : (c : tie.After-wide2)
@@ -14,63 +13,48 @@ inside : (c : tie.After-wide2)
     < length (c .before .before .before .before .before .before .args .rows .now)
 inside c = rw (c .wide2 .ensures, c .before .before .wide .ensures) (c .before .before .before .before .before .before .pre .1)
 
--- src/compare.rt:54:23
 mul-wide : tie.Need-mul-wide
 mul-wide c = search needs
 
--- src/compare.rt:54:18
 mul-wide-2 : tie.Need-mul-wide-2
 mul-wide-2 c = search needs
 
--- src/compare.rt:54:18
 shared-slice-read-wide : tie.Need-shared-slice-read-wide
 shared-slice-read-wide c = search needs
 
--- src/compare.rt:54:9
 wide-requires : tie.Need-wide-requires
 wide-requires c κs = search needs
 
--- src/compare.rt:55:23
 mul-wide-3 : tie.Need-mul-wide-3
 mul-wide-3 c = search needs
 
--- src/compare.rt:55:23
 add-wide : tie.Need-add-wide
 add-wide c = search needs
 
--- src/compare.rt:55:18
 mul-wide-4 : tie.Need-mul-wide-4
 mul-wide-4 c = search needs
 
--- src/compare.rt:55:18
 shared-slice-read-wide-2 : tie.Need-shared-slice-read-wide-2
 shared-slice-read-wide-2 c = search needs
 
--- src/compare.rt:55:9
 wide-requires-2 : tie.Need-wide-requires-2
 wide-requires-2 c κs = search needs
 
--- src/compare.rt:56:15
 mul-wide-5 : tie.Need-mul-wide-5
 mul-wide-5 c = omega (arith, inside c)
 
--- src/compare.rt:56:15
 add-wide-2 : tie.Need-add-wide-2
 add-wide-2 c = omega (arith, inside c)
 
--- src/compare.rt:56:10
 mul-wide-6 : tie.Need-mul-wide-6
 mul-wide-6 c = omega (arith, inside c)
 
--- src/compare.rt:56:10
 shared-slice-read-wide-3 : tie.Need-shared-slice-read-wide-3
 shared-slice-read-wide-3 c = inside (c .before)
 
--- src/compare.rt:56:5
 wide-requires-3 : tie.Need-wide-requires-3
 wide-requires-3 c κs = search needs
 
--- src/compare.rt:49:1
 returns : tie.Need-returns
 returns c = rw (c .wide3 .ensures, c .before .before .wide2 .ensures, c .before .before .before .before .wide .ensures)
 

@@ -1,22 +1,16 @@
-use Prim.Native.Nat.{ℕ, _+_, _*_, _-_, _≤_, _<_}
-use mathlib.Core.Path.{_≡_, refl, sym, ap, _∙_}
-use mathlib.Core.List.{List}
+-- `table::compare::states_hold` meets its contract. The loop's invariant: the root and every state below q have passed, and
+-- the trie is as it was but for their failure states.
+-- Assumes nothing.
+use Prim.Native.Nat.{_+_, _*_, _-_, _<_}
+use mathlib.Core.Path.{_≡_, refl}
 use native.Mathlib.Omega.{arith}
-use lib.ListN.{length, set, length-set}
+use lib.ListN.{length, length-set}
 use borrow.Author.Needs.{needs}
-use Rattle.rewriting.specs.Rules.{RuleSet}
 use Rattle.image.specs.Image.{read}
 use Rattle.image.proofs.Image.{valid-in-range}
-use Rattle.table.specs.Nodes.{failureBy}
 use Rattle.table.proofs.Consistent.{decides-no, decides-yes, Checking, root-asks, checking-root, wrong-root, checking-end, node-room, failure-asks, no-failure, no-state, state-asks, checking-more}
 use Rattle.table.proofs.compare.states_hold.Statement.{statement}
 use Rattle.table.proofs.compare.states_hold.Tie as tie
-use Rattle.table.proofs.compare.states_hold.Reads as reads
-use Rattle.table.proofs.compare.states_hold.Lts as lts
-use Rattle.image.proofs.symbols.Reads as symbols-reads
-use Rattle.table.proofs.compare.root_holds.Reads as root-holds-reads
-use Rattle.table.proofs.compare.state_holds.Reads as state-holds-reads
-use Rattle.table.proofs.trie.failure_of.Reads as failure-of-reads
 
 abbrev Inv-loop : tie.InvT-loop
 Inv-loop image trie₀ n matches rows s q₀ trie q = (length trie ≡ length trie₀) × Checking (read image) trie matches rows n s q
@@ -32,11 +26,9 @@ node-of c =
     node-room (read (start .args .image .now)) (turn .trie) (start .args .matches .now) (start .args .rows .now) (start .args .n) (c .before .before .before .before .before .before .before .before .symbols .result) (turn .q)
     (turn .inv .1) (c .before .before .before .loop-test .taken)
 
--- src/compare.rt:126:9
 symbols-requires : tie.Need-symbols-requires Inv-loop μ-loop
 symbols-requires c κs = c .before .before .before .before .pre .0
 
--- src/compare.rt:127:9
 root-holds-requires : tie.Need-root-holds-requires Inv-loop μ-loop
 root-holds-requires c κs =
     let start = c .before .before .before .before .before .before in
@@ -44,11 +36,9 @@ root-holds-requires c κs =
     root-asks (read (start .args .image .now)) (start .args .trie .now) (start .args .matches .now) (start .args .rows .now) (start .args .n) (c .before .symbols .result)
     (valid-in-range (start .args .image .now) (pre .0)) (pre .1 .1 .1 .0) (c .before .symbols .ensures) (pre .1 .0) (pre .1 .1 .1 .1 .0) (pre .1 .1 .1 .1 .1)
 
--- src/compare.rt:128:9
 same-length : tie.Need-same-length Inv-loop μ-loop
 same-length c = refl
 
--- src/compare.rt:128:9
 returns : tie.Need-returns Inv-loop μ-loop
 returns c =
     let start = c .before .before .before .before .before .before .before .before in
@@ -57,7 +47,6 @@ returns c =
     (valid-in-range (start .args .image .now) (pre .0)) (pre .1 .1 .1 .0) (c .before .before .before .symbols .ensures) (pre .1 .0)
     (decides-no (c .before .root-holds .result) (c .if1 .taken) (c .before .root-holds .ensures))
 
--- src/compare.rt:130:5
 loop-holds : tie.Need-loop-holds Inv-loop μ-loop
 loop-holds c =
     let start = c .before .before .before .before .before .before .before .before in
@@ -68,7 +57,6 @@ loop-holds c =
           (decides-yes (c .before .root-holds .result) (c .if1 .left) (c .before .root-holds .ensures)),
     )
 
--- src/compare.rt:131:13
 failure-of-requires : tie.Need-failure-of-requires Inv-loop μ-loop
 failure-of-requires c κs =
     let start = c .before .before .before .before .before .before .before .before .before .before .before in
@@ -76,11 +64,9 @@ failure-of-requires c κs =
     failure-asks (read (start .args .image .now)) (turn .trie) (start .args .matches .now) (start .args .rows .now) (start .args .n) (c .before .before .before .before .before .before .symbols .result) (turn .q)
     (turn .inv .1) (c .before .loop-test .taken)
 
--- src/compare.rt:133:13
 same-length-2 : tie.Need-same-length-2 Inv-loop μ-loop
 same-length-2 c = c .before .before .before .before .loop .inv .0
 
--- src/compare.rt:133:13
 returns-2 : tie.Need-returns-2 Inv-loop μ-loop
 returns-2 c =
     let start = c .before .before .before .before .before .before .before .before .before .before .before .before .before in
@@ -88,27 +74,21 @@ returns-2 c =
     no-failure (read (start .args .image .now)) (turn .trie) (start .args .matches .now) (start .args .rows .now) (start .args .n) (c .before .before .before .before .before .before .before .before .symbols .result) (turn .q)
     (turn .inv .1) (c .before .before .before .loop-test .taken) (rw (← c .before .failure-of .ensures) (c .if2 .taken))
 
--- src/compare.rt:135:27
 cast-trie : tie.Need-cast-trie Inv-loop μ-loop
 cast-trie c = omega (arith, c .if2 .left, c .before .before .before .before .loop .inv .1 .few)
 
--- src/compare.rt:135:14
 mul-trie : tie.Need-mul-trie Inv-loop μ-loop
 mul-trie c = omega (arith, node-of c)
 
--- src/compare.rt:135:14
 add-trie : tie.Need-add-trie Inv-loop μ-loop
 add-trie c = omega (arith, node-of c)
 
--- src/compare.rt:135:9
 mul-trie-2 : tie.Need-mul-trie-2 Inv-loop μ-loop
 mul-trie-2 c = omega (arith, node-of c)
 
--- src/compare.rt:135:9
 slice-write-trie : tie.Need-slice-write-trie Inv-loop μ-loop
 slice-write-trie c = omega (arith, node-of c)
 
--- src/compare.rt:136:13
 state-holds-requires : tie.Need-state-holds-requires Inv-loop μ-loop
 state-holds-requires c κs =
     let start = c .before .before .before .before .before .before .before .before .before .before .before .before .before .before in
@@ -116,11 +96,9 @@ state-holds-requires c κs =
     state-asks (read (start .args .image .now)) (turn .trie) (start .args .matches .now) (start .args .rows .now) (start .args .n) (c .before .before .before .before .before .before .before .before .before .symbols .result) (turn .q)
     (turn .inv .1) (c .before .before .before .before .loop-test .taken) (c .before .before .failure-of .result) (c .before .before .failure-of .ensures) (c .before .if2 .left)
 
--- src/compare.rt:137:13
 same-length-3 : tie.Need-same-length-3 Inv-loop μ-loop
 same-length-3 c = rw length-set (c .before .before .before .before .before .before .before .loop .inv .0)
 
--- src/compare.rt:137:13
 returns-3 : tie.Need-returns-3 Inv-loop μ-loop
 returns-3 c =
     let start = c .before .before .before .before .before .before .before .before .before .before .before .before .before .before .before .before in
@@ -129,15 +107,12 @@ returns-3 c =
     (turn .inv .1) (c .before .before .before .before .before .before .loop-test .taken) (c .before .before .before .before .failure-of .result) (c .before .before .before .before .failure-of .ensures)
     (decides-no (c .before .state-holds .result) (c .if3 .taken) (c .before .state-holds .ensures))
 
--- src/compare.rt:130:9
 add-q : tie.Need-add-q Inv-loop μ-loop
 add-q c = search needs
 
--- src/compare.rt:130:5
 loop-less : tie.Need-loop-less Inv-loop μ-loop
 loop-less c = search needs
 
--- src/compare.rt:130:5
 loop-again : tie.Need-loop-again Inv-loop μ-loop
 loop-again c =
     let start = c .before .before .before .before .before .before .before .before .before .before .before .before .before .before .before .before in
@@ -148,11 +123,9 @@ loop-again c =
           (decides-yes (c .before .state-holds .result) (c .if3 .left) (c .before .state-holds .ensures)),
     )
 
--- src/compare.rt:118:1
 same-length-4 : tie.Need-same-length-4 Inv-loop μ-loop
 same-length-4 c = c .before .loop .inv .0
 
--- src/compare.rt:118:1
 returns-4 : tie.Need-returns-4 Inv-loop μ-loop
 returns-4 c =
     let start = c .before .before .before .before .before .before .before .before .before .before in
