@@ -486,7 +486,7 @@ module _ (t : List ℕ) (q f : ℕ) where
         old-next = λ c b pos lt more less e. rw (older-kept c) (l .old-next c b pos lt more less (rw (parent-kept b, parent-kept c) at e));
       }
 
-  module _ (s : List (List ℕ)) (symbols : ℕ) (trie : Trie s symbols t) (lt : q < length s) where
+  module _ {s : List (List ℕ)} {symbols : ℕ} (trie : Trie s symbols t) (lt : q < length s) where
     pub trie-kept : Trie s symbols (set t (8 * q + 7) f)
     trie-kept =
         record {
@@ -511,9 +511,9 @@ module _ (t : List ℕ) (q f : ℕ) where
         let up = trie .linked .up c pos (omega arith) in
         rw (parent-kept c, symbol-kept c, failure-kept (parent t c) (λ e. omega arith))
 
-    passed-kept : (matches rows : List ℕ) (n c : ℕ) → 0 < c → c < q → Passed t matches rows symbols n c
+    passed-kept : {matches rows : List ℕ} {n c : ℕ} → 0 < c → c < q → Passed t matches rows symbols n c
         → Passed (set t (8 * q + 7) f) matches rows symbols n c
-    passed-kept matches rows n c pos less p =
+    passed-kept {rows = rows} {c = c} pos less p =
         let other : failure (set t (8 * q + 7) f) c ≡ failure t c = failure-kept c (λ e. omega arith) in
         record {
           failing = other ∙ p .failing ∙ sym (failureBy-kept rows c pos (omega arith));
@@ -533,18 +533,18 @@ pub record Checked (rules : List Rule) (symbols : ℕ) (t matches rows : List �
   pub started : 0 < q
   pub passed : (c : ℕ) → 0 < c → c < q → Passed t matches rows symbols (length (states rules)) c
 
-module _ (rules : List Rule) (symbols : ℕ) (t matches rows : List ℕ) where
+module _ {rules : List Rule} {symbols : ℕ} {t matches rows : List ℕ} where
   pub checked-root : Trie (states rules) symbols t → Owned rules (states rules) t → RootPassed t matches rows symbols
       → Checked rules symbols t matches rows 1
   checked-root trie owned root =
       record { trie = trie; owned = owned; root = root; started = omega arith; passed = λ c pos lt. absurd (omega arith) }
 
   -- where all have, the table is right
-  pub checked-all : (q : ℕ) → length (states rules) ≤ q → Checked rules symbols t matches rows q → RightTable rules symbols matches rows
-  checked-all q done k =
+  pub checked-all : {q : ℕ} → length (states rules) ≤ q → Checked rules symbols t matches rows q → RightTable rules symbols matches rows
+  checked-all done k =
       consistent-right rules symbols t matches rows (k .trie) (k .owned) (k .root) (λ c pos lt. k .passed c pos (omega arith))
 
-  module _ (q : ℕ) (lt : q < length (states rules)) (k : Checked rules symbols t matches rows q) where
+  module _ {q : ℕ} (k : Checked rules symbols t matches rows q) (lt : q < length (states rules)) where
     room : 8 * q + 7 < length t
     room = omega (arith, k .trie .linked .size)
 
@@ -553,23 +553,22 @@ module _ (rules : List Rule) (symbols : ℕ) (t matches rows : List ℕ) where
     wrong-failure outside right =
         outside (right-inside rules symbols t matches rows (k .trie) right q (k .started) lt (λ c pos less. k .passed c pos less .failing))
 
-    module _ (f : ℕ) (found : f ≡ failureBy t rows symbols q) where
+    module _ {f : ℕ} (found : f ≡ failureBy t rows symbols q) where
       found-kept : failure (set t (8 * q + 7) f) q ≡ failureBy (set t (8 * q + 7) f) rows symbols q
       found-kept =
-          failure-set t q f room ∙ found ∙ sym (failureBy-kept t q f (states rules) symbols (k .trie) lt rows q (k .started) (omega arith))
+          failure-set t q f room ∙ found ∙ sym (failureBy-kept t q f (k .trie) lt rows q (k .started) (omega arith))
 
       -- nor does a right table fail the tests of q
       pub wrong-state : (Passes (set t (8 * q + 7) f) matches rows symbols q → ⊥) → RightTable rules symbols matches rows → ⊥
       wrong-state fails right =
           fails
-          (right-passes rules symbols (set t (8 * q + 7) f) matches rows (trie-kept t q f (states rules) symbols (k .trie) lt) right
-          (owned-kept t q f (states rules) symbols (k .trie) lt rules (k .owned)) q (k .started) lt (λ c pos less. failing c pos less (ltb c q) refl))
+          (right-passes rules symbols (set t (8 * q + 7) f) matches rows (trie-kept t q f (k .trie) lt) right
+          (owned-kept t q f (k .trie) lt rules (k .owned)) q (k .started) lt (λ c pos less. failing c pos less (ltb c q) refl))
         where
           failing : (c : ℕ) → 0 < c → c ≤ q → (b : Bool) → ltb c q ≡ b
               → failure (set t (8 * q + 7) f) c ≡ failureBy (set t (8 * q + 7) f) rows symbols c
           failing c pos less true l =
-              passed-kept t q f (states rules) symbols (k .trie) lt matches rows (length (states rules)) c pos (ltb-true c q l)
-              (k .passed c pos (ltb-true c q l)) .failing
+              passed-kept t q f (k .trie) lt pos (ltb-true c q l) (k .passed c pos (ltb-true c q l)) .failing
           failing c pos less false l = let here : c ≡ q = omega (arith, ltb-false c q l) in rw here found-kept
 
       -- where q passes too, the check goes on behind it
@@ -577,8 +576,8 @@ module _ (rules : List Rule) (symbols : ℕ) (t matches rows : List ℕ) where
           → Checked rules symbols (set t (8 * q + 7) f) matches rows (q + 1)
       checked-more inside passing =
           record {
-            trie = trie-kept t q f (states rules) symbols (k .trie) lt;
-            owned = owned-kept t q f (states rules) symbols (k .trie) lt rules (k .owned);
+            trie = trie-kept t q f (k .trie) lt;
+            owned = owned-kept t q f (k .trie) lt rules (k .owned);
             root = record { no-match = k .root .no-match; leads = k .root .leads ∙ sym (children-kept t q f 0) };
             started = omega arith;
             passed = λ c pos less. turn c pos less (ltb c q) refl;
@@ -587,8 +586,7 @@ module _ (rules : List Rule) (symbols : ℕ) (t matches rows : List ℕ) where
           turn : (c : ℕ) → 0 < c → c < q + 1 → (b : Bool) → ltb c q ≡ b
               → Passed (set t (8 * q + 7) f) matches rows symbols (length (states rules)) c
           turn c pos less true l =
-              passed-kept t q f (states rules) symbols (k .trie) lt matches rows (length (states rules)) c pos (ltb-true c q l)
-              (k .passed c pos (ltb-true c q l))
+              passed-kept t q f (k .trie) lt pos (ltb-true c q l) (k .passed c pos (ltb-true c q l))
           turn c pos less false l =
               let here : c ≡ q = omega (arith, ltb-false c q l) in
               rw here
@@ -625,8 +623,8 @@ pub record Checking (set : RuleSet) (t matches rows : List ℕ) (n s q : ℕ) : 
   pub within : q ≤ n
   pub checked : Checked (set .rules) s t matches rows q
 
-module _ (rules : RuleSet) (t matches rows : List ℕ) (n s : ℕ) (range : inRange rules ≡ true) (all : n ≡ length (states (rules .rules)))
-    (width : s ≡ rules .symbols) (trie : Trie (states (rules .rules)) (rules .symbols) t) where
+module _ (rules : RuleSet) (matches rows : List ℕ) {t : List ℕ} {n s : ℕ} (range : inRange rules ≡ true)
+    (all : n ≡ length (states (rules .rules))) (width : s ≡ rules .symbols) (trie : Trie (states (rules .rules)) (rules .symbols) t) where
   root-trie : Trie (states (rules .rules)) s t
   root-trie = subst (λ (x : ℕ). Trie (states (rules .rules)) x t) (sym width) trie
 
@@ -650,21 +648,21 @@ module _ (rules : RuleSet) (t matches rows : List ℕ) (n s : ℕ) (range : inRa
         words = words;
         lines = rw width lines;
         within = omega arith;
-        checked = checked-root (rules .rules) s t matches rows root-trie owned root;
+        checked = checked-root root-trie owned root;
       }
 
   pub wrong-root : (RootPassed t matches rows s → ⊥) → RightTable (rules .rules) (rules .symbols) matches rows → ⊥
   wrong-root fails right =
       fails (right-root (rules .rules) s t matches rows root-trie (subst (λ (x : ℕ). RightTable (rules .rules) x matches rows) (sym width) right))
 
-module _ (rules : RuleSet) (t matches rows : List ℕ) (n s q : ℕ) (k : Checking rules t matches rows n s q) where
+module _ {rules : RuleSet} {t matches rows : List ℕ} {n s q : ℕ} (k : Checking rules t matches rows n s q) where
   narrowed : RightTable (rules .rules) (rules .symbols) matches rows → RightTable (rules .rules) s matches rows
   narrowed right = subst (λ (x : ℕ). RightTable (rules .rules) x matches rows) (sym (k .width)) right
 
   pub checking-end : n ≤ q → RightTable (rules .rules) (rules .symbols) matches rows
   checking-end done =
       subst (λ (x : ℕ). RightTable (rules .rules) x matches rows) (k .width)
-      (checked-all (rules .rules) s t matches rows q (omega (arith, k .all)) (k .checked))
+      (checked-all (omega (arith, k .all)) (k .checked))
 
   module _ (lt : q < n) where
     listed-below : q < length (states (rules .rules))
@@ -690,11 +688,11 @@ module _ (rules : RuleSet) (t matches rows : List ℕ) (n s q : ℕ) (k : Checki
 
     pub no-failure : n ≤ failureBy t rows s q → RightTable (rules .rules) (rules .symbols) matches rows → ⊥
     no-failure out right =
-        wrong-failure (rules .rules) s t matches rows q listed-below (k .checked) (λ h. omega (arith, k .all)) (narrowed right)
+        wrong-failure (k .checked) listed-below (λ h. omega (arith, k .all)) (narrowed right)
 
-    module _ (f : ℕ) (found : f ≡ failureBy t rows s q) where
+    module _ {f : ℕ} (found : f ≡ failureBy t rows s q) where
       pub no-state : (Passes (set t (8 * q + 7) f) matches rows s q → ⊥) → RightTable (rules .rules) (rules .symbols) matches rows → ⊥
-      no-state fails right = wrong-state (rules .rules) s t matches rows q listed-below (k .checked) f found fails (narrowed right)
+      no-state fails right = wrong-state (k .checked) listed-below found fails (narrowed right)
 
       module _ (inside : f < n) where
         pub state-asks : (s ≤ 32) × ((8 * q + 7 < length (set t (8 * q + 7) f))
@@ -726,7 +724,7 @@ module _ (rules : RuleSet) (t matches rows : List ℕ) (n s q : ℕ) (k : Checki
               words = k .words;
               lines = k .lines;
               within = omega arith;
-              checked = checked-more (rules .rules) s t matches rows q listed-below (k .checked) f found (omega (arith, k .all)) passing;
+              checked = checked-more (k .checked) listed-below found (omega (arith, k .all)) passing;
             }
 
 prefix-length : (s t : List ℕ) → prefix s t ≡ true → length s ≤ length t
@@ -757,7 +755,7 @@ never-true : (b : Bool) → (b ≡ true → ⊥) → false ≡ b
 never-true true h = absurd (h refl)
 never-true false h = refl
 
-module _ (rules : RuleSet) (table : List ℕ) (n s : ℕ) (all : n ≡ length (states (rules .rules))) (width : s ≡ rules .symbols) where
+module _ (rules : RuleSet) (table : List ℕ) {n s : ℕ} (all : n ≡ length (states (rules .rules))) (width : s ≡ rules .symbols) where
   size : length (tableOf rules) ≡ 2 + n + n * s
   size = rw (all, width) (length-table rules)
 

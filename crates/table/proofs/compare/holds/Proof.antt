@@ -14,7 +14,7 @@ use Rattle.table.proofs.compare.holds.Tie as tie
 small : (c : tie.After-symbols) → 2 + c .before .before .before .before .args .n + (c .before .before .before .before .args .n) * (c .symbols .result) ≤ 16931
 small c =
     let start = c .before .before .before .before in
-    table-small (read (start .args .image .now)) (start .args .table .now) (start .args .n) (c .symbols .result) (start .pre .1 .1 .1) (c .symbols .ensures) (valid-in-range (start .args .image .now) (start .pre .0))
+    table-small (read (start .args .image .now)) (start .args .table .now) (start .pre .1 .1 .1) (c .symbols .ensures) (valid-in-range (start .args .image .now) (start .pre .0))
 
 symbols-requires : tie.Need-symbols-requires
 symbols-requires c κs = search needs
@@ -31,7 +31,7 @@ add-end c = omega (arith, small c)
 returns : tie.Need-returns
 returns c =
     let start = c .before .before .before .before .before in
-    short-table (read (start .args .image .now)) (start .args .table .now) (start .args .n) (c .before .symbols .result) (start .pre .1 .1 .1) (c .before .symbols .ensures) (c .if1 .taken)
+    short-table (read (start .args .image .now)) (start .args .table .now) (start .pre .1 .1 .1) (c .before .symbols .ensures) (c .if1 .taken)
 
 shared-slice-read-wide : tie.Need-shared-slice-read-wide
 shared-slice-read-wide c = search needs
@@ -42,7 +42,7 @@ wide-requires c κs = search needs
 returns-2 : tie.Need-returns-2
 returns-2 c =
     let start = c .before .before .before .before .before .before .before .before in
-    other-states (read (start .args .image .now)) (start .args .table .now) (start .args .n) (c .before .before .before .before .symbols .result) (start .pre .1 .1 .1) (c .before .before .before .before .symbols .ensures) (λ e. c .if2 .taken (c .before .wide .ensures ∙ e))
+    other-states (read (start .args .image .now)) (start .args .table .now) (start .pre .1 .1 .1) (c .before .before .before .before .symbols .ensures) (λ e. c .if2 .taken (c .before .wide .ensures ∙ e))
 
 shared-slice-read-wide-2 : tie.Need-shared-slice-read-wide-2
 shared-slice-read-wide-2 c = search needs
@@ -53,7 +53,7 @@ wide-requires-2 c κs = search needs
 returns-3 : tie.Need-returns-3
 returns-3 c =
     let start = c .before .before .before .before .before .before .before .before .before .before .before in
-    other-symbols (read (start .args .image .now)) (start .args .table .now) (start .args .n) (c .before .before .before .before .before .before .before .symbols .result) (start .pre .1 .1 .1) (c .before .before .before .before .before .before .before .symbols .ensures) (λ e. c .if3 .taken (c .before .wide2 .ensures ∙ e))
+    other-symbols (read (start .args .image .now)) (start .args .table .now) (start .pre .1 .1 .1) (c .before .before .before .before .before .before .before .symbols .ensures) (λ e. c .if3 .taken (c .before .wide2 .ensures ∙ e))
 
 sub-states-hold : tie.Need-sub-states-hold
 sub-states-hold c = search needs
@@ -86,7 +86,7 @@ states-hold-requires c κs =
           start .pre .1 .1 .0,
           (
             start .pre .1 .1 .1,
-            part-lengths (read (start .args .image .now)) (start .args .table .now) (start .args .n) (c .before .before .before .before .before .before .before .before .before .before .symbols .result) (start .pre .1 .1 .1) (c .before .before .before .before .before .before .before .before .before .before .symbols .ensures) (c .before .before .before .before .before .before .before .before .before .if1 .left),
+            part-lengths (read (start .args .image .now)) (start .args .table .now) (start .pre .1 .1 .1) (c .before .before .before .before .before .before .before .before .before .before .symbols .ensures) (c .before .before .before .before .before .before .before .before .before .if1 .left),
           ),
         ),
       ),
@@ -98,7 +98,7 @@ same-length c = search needs
 returns-4 : tie.Need-returns-4
 returns-4 c =
     let start = c .before .before .before .before .before .before .before .before .before .before .before .before .before .before .before .before .before in
-    compared (read (start .args .image .now)) (start .args .table .now) (start .args .n) (c .before .before .before .before .before .before .before .before .before .before .before .before .before .symbols .result) (start .pre .1 .1 .1) (c .before .before .before .before .before .before .before .before .before .before .before .before .before .symbols .ensures) (valid-in-range (start .args .image .now) (start .pre .0))
+    compared (read (start .args .image .now)) (start .args .table .now) (start .pre .1 .1 .1) (c .before .before .before .before .before .before .before .before .before .before .before .before .before .symbols .ensures) (valid-in-range (start .args .image .now) (start .pre .0))
     (c .before .before .before .before .before .before .before .before .before .before .before .before .if1 .left) (sym (c .before .before .before .before .before .before .before .before .before .before .wide .ensures) ∙ c .before .before .before .before .before .before .before .before .before .if2 .left) (sym (c .before .before .before .before .before .before .before .wide2 .ensures) ∙ c .before .before .before .before .before .before .if3 .left)
     (c .before .before .states-hold .result) (c .before .before .states-hold .ensures)
 

@@ -19,12 +19,9 @@ abbrev μ-loop : tie.MeasureT-loop
 μ-loop image trie₀ n matches rows s q₀ trie q = n - q
 
 -- the node's last word stands in the trie
-node-of : (c : tie.Else2 Inv-loop μ-loop) → 8 * (c .before .before .before .before .loop .q) + 7 < length (c .before .before .before .before .loop .trie)
-node-of c =
-    let start = c .before .before .before .before .before .before .before .before .before .before .before .before .before in
-    let turn = c .before .before .before .before .loop in
-    node-room (read (start .args .image .now)) (turn .trie) (start .args .matches .now) (start .args .rows .now) (start .args .n) (c .before .before .before .before .before .before .before .before .symbols .result) (turn .q)
-    (turn .inv .1) (c .before .before .before .loop-test .taken)
+node-of : (c : tie.Else2 Inv-loop μ-loop)
+    → 8 * (c .before .before .before .before .loop .q) + 7 < length (c .before .before .before .before .loop .trie)
+node-of c = node-room (c .before .before .before .before .loop .inv .1) (c .before .before .before .loop-test .taken)
 
 symbols-requires : tie.Need-symbols-requires Inv-loop μ-loop
 symbols-requires c κs = c .before .before .before .before .pre .0
@@ -33,8 +30,9 @@ root-holds-requires : tie.Need-root-holds-requires Inv-loop μ-loop
 root-holds-requires c κs =
     let start = c .before .before .before .before .before .before in
     let pre = start .pre in
-    root-asks (read (start .args .image .now)) (start .args .trie .now) (start .args .matches .now) (start .args .rows .now) (start .args .n) (c .before .symbols .result)
-    (valid-in-range (start .args .image .now) (pre .0)) (pre .1 .1 .1 .0) (c .before .symbols .ensures) (pre .1 .0) (pre .1 .1 .1 .1 .0) (pre .1 .1 .1 .1 .1)
+    root-asks (read (start .args .image .now)) (start .args .matches .now) (start .args .rows .now)
+    (valid-in-range (start .args .image .now) (pre .0)) (pre .1 .1 .1 .0) (c .before .symbols .ensures) (pre .1 .0)
+    (pre .1 .1 .1 .1 .0) (pre .1 .1 .1 .1 .1)
 
 same-length : tie.Need-same-length Inv-loop μ-loop
 same-length c = refl
@@ -43,7 +41,7 @@ returns : tie.Need-returns Inv-loop μ-loop
 returns c =
     let start = c .before .before .before .before .before .before .before .before in
     let pre = start .pre in
-    wrong-root (read (start .args .image .now)) (start .args .trie .now) (start .args .matches .now) (start .args .rows .now) (start .args .n) (c .before .before .before .symbols .result)
+    wrong-root (read (start .args .image .now)) (start .args .matches .now) (start .args .rows .now)
     (valid-in-range (start .args .image .now) (pre .0)) (pre .1 .1 .1 .0) (c .before .before .before .symbols .ensures) (pre .1 .0)
     (decides-no (c .before .root-holds .result) (c .if1 .taken) (c .before .root-holds .ensures))
 
@@ -52,27 +50,22 @@ loop-holds c =
     let start = c .before .before .before .before .before .before .before .before in
     let pre = start .pre in (
       refl,
-      checking-root (read (start .args .image .now)) (start .args .trie .now) (start .args .matches .now) (start .args .rows .now) (start .args .n) (c .before .before .before .symbols .result)
-          (valid-in-range (start .args .image .now) (pre .0)) (pre .1 .1 .1 .0) (c .before .before .before .symbols .ensures) (pre .1 .0) (pre .1 .1 .0) (pre .1 .1 .1 .1 .0) (pre .1 .1 .1 .1 .1)
+      checking-root (read (start .args .image .now)) (start .args .matches .now) (start .args .rows .now)
+          (valid-in-range (start .args .image .now) (pre .0)) (pre .1 .1 .1 .0) (c .before .before .before .symbols .ensures)
+          (pre .1 .0) (pre .1 .1 .0) (pre .1 .1 .1 .1 .0) (pre .1 .1 .1 .1 .1)
           (decides-yes (c .before .root-holds .result) (c .if1 .left) (c .before .root-holds .ensures)),
     )
 
 failure-of-requires : tie.Need-failure-of-requires Inv-loop μ-loop
-failure-of-requires c κs =
-    let start = c .before .before .before .before .before .before .before .before .before .before .before in
-    let turn = c .before .before .loop in
-    failure-asks (read (start .args .image .now)) (turn .trie) (start .args .matches .now) (start .args .rows .now) (start .args .n) (c .before .before .before .before .before .before .symbols .result) (turn .q)
-    (turn .inv .1) (c .before .loop-test .taken)
+failure-of-requires c κs = failure-asks (c .before .before .loop .inv .1) (c .before .loop-test .taken)
 
 same-length-2 : tie.Need-same-length-2 Inv-loop μ-loop
 same-length-2 c = c .before .before .before .before .loop .inv .0
 
 returns-2 : tie.Need-returns-2 Inv-loop μ-loop
 returns-2 c =
-    let start = c .before .before .before .before .before .before .before .before .before .before .before .before .before in
-    let turn = c .before .before .before .before .loop in
-    no-failure (read (start .args .image .now)) (turn .trie) (start .args .matches .now) (start .args .rows .now) (start .args .n) (c .before .before .before .before .before .before .before .before .symbols .result) (turn .q)
-    (turn .inv .1) (c .before .before .before .loop-test .taken) (rw (← c .before .failure-of .ensures) (c .if2 .taken))
+    let turn = c .before .before .before in
+    no-failure (turn .before .loop .inv .1) (turn .loop-test .taken) (rw (← c .before .failure-of .ensures) (c .if2 .taken))
 
 cast-trie : tie.Need-cast-trie Inv-loop μ-loop
 cast-trie c = omega (arith, c .if2 .left, c .before .before .before .before .loop .inv .1 .few)
@@ -91,20 +84,18 @@ slice-write-trie c = omega (arith, node-of c)
 
 state-holds-requires : tie.Need-state-holds-requires Inv-loop μ-loop
 state-holds-requires c κs =
-    let start = c .before .before .before .before .before .before .before .before .before .before .before .before .before .before in
-    let turn = c .before .before .before .before .before .loop in
-    state-asks (read (start .args .image .now)) (turn .trie) (start .args .matches .now) (start .args .rows .now) (start .args .n) (c .before .before .before .before .before .before .before .before .before .symbols .result) (turn .q)
-    (turn .inv .1) (c .before .before .before .before .loop-test .taken) (c .before .before .failure-of .result) (c .before .before .failure-of .ensures) (c .before .if2 .left)
+    let found = c .before .before in
+    let turn = found .before .before .before .loop in
+    state-asks (turn .inv .1) (found .before .before .loop-test .taken) (found .failure-of .ensures) (c .before .if2 .left)
 
 same-length-3 : tie.Need-same-length-3 Inv-loop μ-loop
 same-length-3 c = rw length-set (c .before .before .before .before .before .before .before .loop .inv .0)
 
 returns-3 : tie.Need-returns-3 Inv-loop μ-loop
 returns-3 c =
-    let start = c .before .before .before .before .before .before .before .before .before .before .before .before .before .before .before .before in
-    let turn = c .before .before .before .before .before .before .before .loop in
-    no-state (read (start .args .image .now)) (turn .trie) (start .args .matches .now) (start .args .rows .now) (start .args .n) (c .before .before .before .before .before .before .before .before .before .before .before .symbols .result) (turn .q)
-    (turn .inv .1) (c .before .before .before .before .before .before .loop-test .taken) (c .before .before .before .before .failure-of .result) (c .before .before .before .before .failure-of .ensures)
+    let found = c .before .before .before .before in
+    let turn = found .before .before .before .loop in
+    no-state (turn .inv .1) (found .before .before .loop-test .taken) (found .failure-of .ensures)
     (decides-no (c .before .state-holds .result) (c .if3 .taken) (c .before .state-holds .ensures))
 
 add-q : tie.Need-add-q Inv-loop μ-loop
@@ -115,11 +106,10 @@ loop-less c = search needs
 
 loop-again : tie.Need-loop-again Inv-loop μ-loop
 loop-again c =
-    let start = c .before .before .before .before .before .before .before .before .before .before .before .before .before .before .before .before in
-    let turn = c .before .before .before .before .before .before .before .loop in (
+    let found = c .before .before .before .before in
+    let turn = found .before .before .before .loop in (
       rw length-set (turn .inv .0),
-      checking-more (read (start .args .image .now)) (turn .trie) (start .args .matches .now) (start .args .rows .now) (start .args .n) (c .before .before .before .before .before .before .before .before .before .before .before .symbols .result) (turn .q)
-          (turn .inv .1) (c .before .before .before .before .before .before .loop-test .taken) (c .before .before .before .before .failure-of .result) (c .before .before .before .before .failure-of .ensures) (c .before .before .before .if2 .left)
+      checking-more (turn .inv .1) (found .before .before .loop-test .taken) (found .failure-of .ensures) (c .before .before .before .if2 .left)
           (decides-yes (c .before .state-holds .result) (c .if3 .left) (c .before .state-holds .ensures)),
     )
 
@@ -127,11 +117,7 @@ same-length-4 : tie.Need-same-length-4 Inv-loop μ-loop
 same-length-4 c = c .before .loop .inv .0
 
 returns-4 : tie.Need-returns-4 Inv-loop μ-loop
-returns-4 c =
-    let start = c .before .before .before .before .before .before .before .before .before .before in
-    let turn = c .before .loop in
-    checking-end (read (start .args .image .now)) (turn .trie) (start .args .matches .now) (start .args .rows .now) (start .args .n) (c .before .before .before .before .before .symbols .result) (turn .q)
-    (turn .inv .1) (c .loop-test .left)
+returns-4 c = checking-end (c .before .loop .inv .1) (c .loop-test .left)
 
 pub states-hold-spec : {M : Type 1} → statement M
 states-hold-spec =
