@@ -13,7 +13,7 @@ ghost use Rattle.table.specs.Consistent.{transition, differing, leaving,
 use crate::trie::failure_of;
 use crate::trie::wide;
 
-// How many words of the rows of q and f differ.
+// How many words of the rows of q and f differ. It counts to the end, so that the loop compares many words at once.
 fn differences(rows: &[u16], s: usize, q: usize, f: usize) -> u16
     requires few { ⌜ s ≤ 32 ⌝ }
     requires own { ⌜ q * s + s ≤ length (now rows) ⌝ }
@@ -121,7 +121,8 @@ fn states_hold(image: &[u8], trie: &mut [u16], n: usize, matches: &[u16], rows: 
     requires { ⌜ Owned (read (now image) .rules) (states (read (now image) .rules)) (now trie) ⌝ }
     requires { ⌜ n ≡ length (states (read (now image) .rules)) ⌝ }
     requires { ⌜ (n ≡ length (now matches)) × (n * read (now image) .symbols ≡ length (now rows)) ⌝ }
-    ensures { λ r. ⌜ Decides r (RightTable (read (now (image .entry)) .rules) (read (now (image .entry)) .symbols) (now (matches .entry)) (now (rows .entry))) ⌝ }
+    ensures { λ r. ⌜ Decides r
+        (RightTable (read (now (image .entry)) .rules) (read (now (image .entry)) .symbols) (now (matches .entry)) (now (rows .entry))) ⌝ }
 {
     let s = image::symbols(image);
     if !root_holds(trie, matches, rows, s) {

@@ -59,26 +59,23 @@ loop-less c = search needs
 
 loop-again : tie.Need-loop-again Inv-loop μ-loop
 loop-again c =
-    let rows : List ℕ = c .before .before .before .before .before .args .rows .now in
-    let s : ℕ = c .before .before .before .before .before .args .s in
-    let q : ℕ = c .before .before .before .before .before .args .q in
-    let f : ℕ = c .before .before .before .before .before .args .f in
-    let a : ℕ = c .before .before .before .before .loop .a in
-    let known = c .before .before .before .before .loop .inv .2 in
+    let turn = c .before .before .before .before in
+    let args = turn .before .args in
+    let own : ℕ → ℕ = λ k. transition (args .rows .now) (args .s) (args .q) k in
+    let other : ℕ → ℕ = λ k. transition (args .rows .now) (args .s) (args .f) k in
+    let known = turn .loop .inv .2 in
     ⊎-elim
-    (λ w. (omega arith, omega arith, w .1 ∙ ap (λ (n : ℕ). n + 1) known ∙ sym (tally-differ (λ k. transition rows s q k) (λ k. transition rows s f k) a (w .0 .taken))))
-    (λ w. (omega arith, omega arith, w .1 ∙ known ∙ sym (tally-equal (λ k. transition rows s q k) (λ k. transition rows s f k) a (w .0 .left))))
+    (λ w. (omega arith, omega arith, w .1 ∙ ap (λ (n : ℕ). n + 1) known ∙ sym (tally-differ own other (turn .loop .a) (w .0 .taken))))
+    (λ w. (omega arith, omega arith, w .1 ∙ known ∙ sym (tally-equal own other (turn .loop .a) (w .0 .left))))
     (c .if1 .came)
 
 returns : tie.Need-returns Inv-loop μ-loop
 unfolding differing
 returns c =
-    let rows : List ℕ = c .before .before .args .rows .now in
-    let s : ℕ = c .before .before .args .s in
-    let q : ℕ = c .before .before .args .q in
-    let f : ℕ = c .before .before .args .f in
-    let done : c .before .loop .a ≡ s = omega arith in
-    c .before .loop .inv .2 ∙ ap (λ (n : ℕ). tally (λ k. not (eqb (transition rows s q k) (transition rows s f k))) n) done
+    let args = c .before .before .args in
+    let done : c .before .loop .a ≡ args .s = omega arith in
+    c .before .loop .inv .2
+    ∙ ap (tally (λ k. not (eqb (transition (args .rows .now) (args .s) (args .q) k) (transition (args .rows .now) (args .s) (args .f) k)))) done
 
 pub differences-spec : {M : Type 1} → statement M
 differences-spec =

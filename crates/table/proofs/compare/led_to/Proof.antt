@@ -1,9 +1,9 @@
 -- `table::compare::led_to` meets its contract: it reads the parent's row at the node's symbol.
 -- Assumes nothing.
-use borrow.Author.Needs.{needs}
 use Prim.Native.Nat.{_+_, _*_, _<_}
 use native.Mathlib.Omega.{arith}
 use lib.ListN.{length}
+use borrow.Author.Needs.{needs}
 use Rattle.table.proofs.compare.led_to.Statement.{statement}
 use Rattle.table.proofs.compare.led_to.Tie as tie
 

@@ -1,7 +1,7 @@
 -- `table::compare::state_holds` meets its contract: false at the first test that fails, true behind the last.
 -- Assumes nothing.
-use borrow.Author.Needs.{needs}
 use mathlib.Core.Path.{sym, _∙_}
+use borrow.Author.Needs.{needs}
 use Rattle.table.proofs.compare.state_holds.Statement.{statement}
 use Rattle.table.proofs.compare.state_holds.Tie as tie
 

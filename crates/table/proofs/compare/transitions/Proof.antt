@@ -42,12 +42,12 @@ loop-less c = search needs
 
 loop-again : tie.Need-loop-again Inv-loop μ-loop
 loop-again c =
-    let rows : List ℕ = c .before .before .before .before .args .rows .now in
-    let a : ℕ = c .before .before .before .loop .a in
-    let known = c .before .before .before .loop .inv .2 in
+    let turn = c .before .before .before in
+    let own : ℕ → ℕ = λ k. getD (turn .before .args .rows .now) k 0 in
+    let known = turn .loop .inv .2 in
     ⊎-elim
-    (λ w. (omega arith, omega arith, w .1 ∙ ap (λ (n : ℕ). n + 1) known ∙ sym (tally-differ (λ k. getD rows k 0) (λ k. 0) a (w .0 .taken))))
-    (λ w. (omega arith, omega arith, w .1 ∙ known ∙ sym (tally-equal (λ k. getD rows k 0) (λ k. 0) a (w .0 .left))))
+    (λ w. (omega arith, omega arith, w .1 ∙ ap (λ (n : ℕ). n + 1) known ∙ sym (tally-differ own (λ k. 0) (turn .loop .a) (w .0 .taken))))
+    (λ w. (omega arith, omega arith, w .1 ∙ known ∙ sym (tally-equal own (λ k. 0) (turn .loop .a) (w .0 .left))))
     (c .if1 .came)
 
 returns : tie.Need-returns Inv-loop μ-loop
