@@ -1,4 +1,11 @@
 -- Why a table can be checked in place: it passes every state's tests exactly where it is the rules' table.
+--
+-- In the rules' table each failure state that the check finds is right, and a state's row differs from its failure state's
+-- just where the state has a child, so the counts agree (`right-passes`). The other way round goes by the states' lengths:
+-- a failure state is shorter, so its row is right; a child stands in its place, since its parent leads to it, and is not
+-- what is inherited; as many words differ as there are children, so every other word is inherited, and right
+-- (`consistent-right`). Then come the check's way from state to state (`Checked`, `Checking`), and that a table begins with
+-- the right words exactly where its match words and rows are right (`compared`).
 -- Assumes nothing.
 use Prim.Native.Nat.{ℕ, zero, suc, _+_, _-_, _*_, _/_, _%_, _≤_, _<_}
 use mathlib.Core.Path.{_≡_, refl, sym, ap, subst, _∙_}
@@ -52,7 +59,8 @@ module _ (P Q : ℕ → Bool) where
   tally-same zero h e a lt q = absurd (not-suc-le-zero lt)
   tally-same (suc n) h e a lt q = go (P n) refl (Q n) refl e (tally-less n (λ a lt. h a (omega arith))) (tally-same n (λ a lt. h a (omega arith)))
     where
-      last : P n ≡ Q n → (tally P n ≡ tally Q n → (a : ℕ) → a < n → Q a ≡ true → P a ≡ true) → tally P n ≡ tally Q n → (b : Bool) → ltb a n ≡ b → P a ≡ true
+      last : P n ≡ Q n → (tally P n ≡ tally Q n → (a : ℕ) → a < n → Q a ≡ true → P a ≡ true) → tally P n ≡ tally Q n
+          → (b : Bool) → ltb a n ≡ b → P a ≡ true
       last agree ih same true l = ih same a (ltb-true a n l) q
       last agree ih same false l =
           let here : a ≡ n = omega (arith, ltb-false a n l) in
@@ -159,6 +167,11 @@ state-short rules p =
     let s = state-suffix rules p in
     omega (arith, simp length-append at (ap length (s .1)))
 
+-- it has a number, and stands there
+fallback-at : (rules : List Rule) (v : List ℕ) → (number (states rules) (fallback rules v) < length (states rules))
+    × (getD (states rules) (number (states rules) (fallback rules v)) [] ≡ fallback rules v)
+fallback-at rules v = number-at (states rules) (fallback rules v) (state-known rules (drop 1 v))
+
 fallback-shorter : (rules : List Rule) (v : List ℕ) → 0 < length v → length (fallback rules v) < length v
 fallback-shorter rules v h = omega (arith, state-short rules (drop 1 v), length-drop 1 v)
 
@@ -213,7 +226,7 @@ module _ (rules : List Rule) (symbols : ℕ) (t matches rows : List ℕ) (trie :
           let below : parent t c < length (states rules) = omega (arith, trie .linked .up c pos lt) in
           let above = getD (states rules) (parent t c) [] in
           let at : getD (states rules) (failure t (parent t c)) [] ≡ fallback rules above =
-          ap (λ (n : ℕ). getD (states rules) n []) (up high) ∙ number-at (states rules) (fallback rules above) (state-known rules (drop 1 above)) .1
+          ap (λ (n : ℕ). getD (states rules) n []) (up high) ∙ fallback-at rules above .1
           in
           let step : next rules (fallback rules above) (symbol t c) ≡ fallback rules (getD (states rules) c []) =
           state-snoc rules (drop 1 above) (symbol t c)
@@ -223,7 +236,7 @@ module _ (rules : List Rule) (symbols : ℕ) (t matches rows : List ℕ) (trie :
           word high ∙ ap (λ (u : List ℕ). number (states rules) (next rules u (symbol t c))) at ∙ ap (number (states rules)) step
 
   -- the failure states kept below node q are right where the rows are
-  pub failures-right : RightTable rules symbols matches rows → (q : ℕ) → q ≤ length (states rules)
+  failures-right : RightTable rules symbols matches rows → (q : ℕ) → q ≤ length (states rules)
       → ((c : ℕ) → 0 < c → c < q → failure t c ≡ failureBy t rows symbols c)
       → (c : ℕ) → 0 < c → c < q → failure t c ≡ number (states rules) (fallback rules (getD (states rules) c []))
   failures-right right q within failing c pos lt = go q c lt pos lt
@@ -235,7 +248,7 @@ module _ (rules : List Rule) (symbols : ℕ) (t matches rows : List ℕ) (trie :
           failing c pos lt
           ∙ failure-step c pos (omega arith) up
           (λ high.
-          let below = number-at (states rules) (fallback rules (getD (states rules) (parent t c) [])) (state-known rules (drop 1 (getD (states rules) (parent t c) []))) .0 in
+          let below = fallback-at rules (getD (states rules) (parent t c) []) .0 in
           right .right-next (failure t (parent t c)) (symbol t c) (omega (arith, up high)) (trie .small c pos (omega arith)))
 
       go : (d c : ℕ) → c < d → 0 < c → c < q → failure t c ≡ number (states rules) (fallback rules (getD (states rules) c []))
@@ -253,7 +266,7 @@ module _ (rules : List Rule) (symbols : ℕ) (t matches rows : List ℕ) (trie :
       let below : p < length (states rules) = omega (arith, trie .linked .up c pos lt) in
       let v : List ℕ = getD (states rules) c [] in
       let long : 0 < length v = state-long c pos lt in
-      let f = number-at (states rules) (fallback rules v) (state-known rules (drop 1 v)) in
+      let f = fallback-at rules v in
       let inside : failure t c < length (states rules) = omega (arith, fails, f .0) in
       let at : getD (states rules) (failure t c) [] ≡ fallback rules v = ap (λ (n : ℕ). getD (states rules) n []) fails ∙ f .1 in
       record {
@@ -299,7 +312,7 @@ module _ (rules : List Rule) (symbols : ℕ) (t matches rows : List ℕ) (trie :
       in
       rw (failure-step q pos lt found
       (λ high. right .right-next (failure t (parent t q)) (symbol t q) (omega (arith, found high)) (trie .small q pos lt)))
-      (number-at (states rules) (fallback rules (getD (states rules) q [])) (state-known rules (drop 1 (getD (states rules) q []))) .0)
+      (fallback-at rules (getD (states rules) q []) .0)
 
   root-row : (a : ℕ) → transition rows symbols 0 a ≡ getD rows a 0
   root-row a = let at : 0 * symbols + a ≡ a = omega arith in rw at
@@ -376,8 +389,9 @@ module _ (rules : List Rule) (symbols : ℕ) (t matches rows : List ℕ) (trie :
     state-right c pos lt shorter =
         record {
           row =
-              row-right rules symbols v (λ a. next rules (fallback rules v) a) (λ a. next-known rules (fallback rules v) a) (fallback-short rules v long)
-              (fallback-next rules v long) (λ a. transition rows symbols c a) (λ a. transition rows symbols (failure t c) a)
+              row-right rules symbols v (λ a. next rules (fallback rules v) a) (λ a. next-known rules (fallback rules v) a)
+              (fallback-short rules v long) (fallback-next rules v long)
+              (λ a. transition rows symbols c a) (λ a. transition rows symbols (failure t c) a)
               (λ a small. rightF .row a small ∙ ap (λ (u : List ℕ). number (states rules) (next rules u a)) at)
               (each c pos lt .passing .differs ∙ trie .counted c lt)
               (λ a small k. children-placed led c a lt k);
@@ -402,7 +416,7 @@ module _ (rules : List Rule) (symbols : ℕ) (t matches rows : List ℕ) (trie :
 
         over : 0 < p → RightState (failure t p)
         over high =
-            let at = number-at (states rules) (fallback rules (getD (states rules) p [])) (state-known rules (drop 1 (getD (states rules) p []))) in
+            let at = fallback-at rules (getD (states rules) p []) in
             let is = ap (λ (n : ℕ). getD (states rules) n []) (above .fails high) ∙ at .1 in
             shorter (failure t p) (each p high below .inside)
             (omega (
@@ -418,7 +432,7 @@ module _ (rules : List Rule) (symbols : ℕ) (t matches rows : List ℕ) (trie :
             ∙ failure-step c pos lt (above .fails) (λ high. over high .row (symbol t c) (trie .small c pos lt))
 
         at : getD (states rules) (failure t c) [] ≡ fallback rules v
-        at = ap (λ (n : ℕ). getD (states rules) n []) found ∙ number-at (states rules) (fallback rules v) (state-known rules (drop 1 v)) .1
+        at = ap (λ (n : ℕ). getD (states rules) n []) found ∙ fallback-at rules v .1
 
         rightF : RightState (failure t c)
         rightF = shorter (failure t c) (each c pos lt .inside) (omega (arith, ap length at, fallback-shorter rules v long))
@@ -840,7 +854,9 @@ module _ (rules : RuleSet) (table : List ℕ) {n s : ℕ} (all : n ≡ length (s
       → (b : Bool) → Decides b (RightTable (rules .rules) (rules .symbols) (matchPart table n) (rowPart table n s))
       → b ≡ prefix (tableOf rules) table
   compared range long first second true right =
-      sym (right-begins range long first second (subst (λ (x : ℕ). RightTable (rules .rules) x (matchPart table n) (rowPart table n s)) (sym width) right))
+      sym
+      (right-begins range long first second
+      (subst (λ (x : ℕ). RightTable (rules .rules) x (matchPart table n) (rowPart table n s)) (sym width) right))
   compared range long first second false wrong =
       never-true (prefix (tableOf rules) table)
       (λ e. wrong (subst (λ (x : ℕ). RightTable (rules .rules) x (matchPart table n) (rowPart table n s)) width (begins-right e)))
