@@ -6,8 +6,10 @@ ghost use lib.ListN.{length};
 ghost use Rattle.image.specs.Image.{read, valid};
 ghost use Rattle.table.specs.Table.{tableOf};
 ghost use Rattle.table.specs.Compile.{compileOf};
+ghost use Rattle.table.specs.Check.{checkOf};
 ghost use Rattle.table.specs.Nodes.{Built};
 
+mod compare;
 mod rows;
 mod trie;
 
@@ -54,4 +56,19 @@ pub fn compile(image: &[u8], table: &mut [u16]) -> Compiled
         return Compiled::Words(words);
     }
     Compiled::Refused(7)
+}
+
+// The check of a lent image and table: refusals 7 and 9.
+pub fn check(image: &[u8], table: &[u16]) -> Checked
+    ensures { λ r. ⌜ r ≡ checkOf (now (image .entry)) (now (table .entry)) ⌝ }
+{
+    if image::is_valid(image) {
+        let mut nodes = [0u16; 4104];
+        let n = trie::build(image, &mut nodes);
+        if compare::holds(image, &mut nodes, n, table) {
+            return Checked::Passed;
+        }
+        return Checked::Refused(9);
+    }
+    Checked::Refused(7)
 }

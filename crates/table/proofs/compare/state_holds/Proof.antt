@@ -1,0 +1,93 @@
+-- `table::compare::state_holds` meets its contract: false at the first test that fails, true behind the last.
+-- Assumes nothing.
+use mathlib.Core.Path.{sym, _∙_}
+use borrow.Author.Needs.{needs}
+use Rattle.table.proofs.compare.state_holds.Statement.{statement}
+use Rattle.table.proofs.compare.state_holds.Tie as tie
+
+led-to-requires : tie.Need-led-to-requires
+led-to-requires c κs = search needs
+
+returns : tie.Need-returns
+returns c = search needs
+
+inherited-requires : tie.Need-inherited-requires
+inherited-requires c κs = search needs
+
+mul-if2 : tie.Need-mul-if2
+mul-if2 c = search needs
+
+shared-slice-read-if2 : tie.Need-shared-slice-read-if2
+shared-slice-read-if2 c = search needs
+
+returns-2 : tie.Need-returns-2
+returns-2 c = search needs
+
+mul-wide : tie.Need-mul-wide
+mul-wide c = search needs
+
+add-wide : tie.Need-add-wide
+add-wide c = search needs
+
+mul-wide-2 : tie.Need-mul-wide-2
+mul-wide-2 c = search needs
+
+shared-slice-read-wide : tie.Need-shared-slice-read-wide
+shared-slice-read-wide c = search needs
+
+wide-requires : tie.Need-wide-requires
+wide-requires c κs = search needs
+
+differences-requires : tie.Need-differences-requires
+differences-requires c κs =
+    let pre = c .before .before .before .before .before .before .before .before .before .before .pre in
+    (pre .0, (pre .1 .1 .1 .1 .0, rw (c .wide .ensures) (pre .1 .1 .1 .1 .1)))
+
+mul-if3 : tie.Need-mul-if3
+mul-if3 c = search needs
+
+add-if3 : tie.Need-add-if3
+add-if3 c = search needs
+
+mul-if3-2 : tie.Need-mul-if3-2
+mul-if3-2 c = search needs
+
+shared-slice-read-if3 : tie.Need-shared-slice-read-if3
+shared-slice-read-if3 c = search needs
+
+returns-3 : tie.Need-returns-3
+returns-3 c = λ p.
+    c .if3 .taken (c .before .before .differences .ensures ∙ rw (c .before .before .before .wide .ensures) (p .differs))
+
+returns-4 : tie.Need-returns-4
+returns-4 c =
+    let led = c .before .before .before .before .before .before .before .before .before .led-to .ensures in
+    let word = c .before .before .before .before .before .before .before .inherited .ensures in
+    record {
+      led = sym led ∙ c .before .before .before .before .before .before .before .before .if1 .left;
+      inherits = sym (c .before .before .before .before .before .if2 .left) ∙ word;
+      differs = rw (← c .before .before .before .wide .ensures) (sym (c .before .before .differences .ensures) ∙ c .if3 .left);
+    }
+
+pub state-holds-spec : {M : Type 1} → statement M
+state-holds-spec =
+    tie.close
+    (tie.spec
+    led-to-requires
+    returns
+    inherited-requires
+    mul-if2
+    shared-slice-read-if2
+    returns-2
+    mul-wide
+    add-wide
+    mul-wide-2
+    shared-slice-read-wide
+    wide-requires
+    differences-requires
+    mul-if3
+    add-if3
+    mul-if3-2
+    shared-slice-read-if3
+    returns-3
+    returns-4)

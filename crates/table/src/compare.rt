@@ -1,0 +1,166 @@
+// The check of a lent table, in place: each state against its parent, its failure state and its node of the trie. It
+// holds exactly where the table is the one that compile writes (specs/Consistent.antt has the tests).
+ghost use Prim.Native.Nat.{_+_, _*_, _≤_, _<_};
+ghost use mathlib.Core.Path.{_≡_};
+ghost use mathlib.Core.Bool.{true};
+ghost use lib.ListN.{length, getD};
+ghost use Rattle.image.specs.Image.{read, valid};
+ghost use Rattle.rewriting.specs.Lists.{prefix};
+ghost use Rattle.table.specs.States.{states};
+ghost use Rattle.table.specs.Table.{tableOf};
+ghost use Rattle.table.specs.Nodes.{parent, symbol, matched, failure, Trie, Owned};
+ghost use Rattle.table.specs.Consistent.{transition, differing, leaving, ownOr, Passes, RootPassed, RightTable, Decides};
+use crate::trie::failure_of;
+use crate::trie::wide;
+
+// How many words of the rows of q and f differ. It counts to the end, so that the loop compares many words at once.
+fn differences(rows: &[u16], s: usize, q: usize, f: usize) -> u16
+    requires few { ⌜ s ≤ 32 ⌝ }
+    requires own { ⌜ q * s + s ≤ length (now rows) ⌝ }
+    requires other { ⌜ f * s + s ≤ length (now rows) ⌝ }
+    ensures { λ r. ⌜ r ≡ differing (now (rows .entry)) s q f ⌝ }
+{
+    let mut n: u16 = 0;
+    for a in 0..s {
+        if rows[q * s + a] != rows[f * s + a] {
+            n += 1;
+        }
+    }
+    n
+}
+
+// How many words of the root's row lead away from it.
+fn transitions(rows: &[u16], s: usize) -> u16
+    requires few { ⌜ s ≤ 32 ⌝ }
+    requires row { ⌜ s ≤ length (now rows) ⌝ }
+    ensures { λ r. ⌜ r ≡ leaving (now (rows .entry)) s ⌝ }
+{
+    let mut n: u16 = 0;
+    for a in 0..s {
+        if rows[a] != 0 {
+            n += 1;
+        }
+    }
+    n
+}
+
+// The state that the parent of node q leads to by q's symbol.
+fn led_to(trie: &[u16], rows: &[u16], s: usize, q: usize) -> usize
+    requires node { ⌜ 8 * q + 1 < length (now trie) ⌝ }
+    requires row { ⌜ parent (now trie) q * s + symbol (now trie) q < length (now rows) ⌝ }
+    ensures { λ r. ⌜ r ≡ transition (now (rows .entry)) s (parent (now (trie .entry)) q) (symbol (now (trie .entry)) q) ⌝ }
+{
+    let p = wide(trie[8 * q]);
+    let a = wide(trie[8 * q + 1]);
+    wide(rows[p * s + a])
+}
+
+// The match word that node q should have: its own, or else its failure state's.
+fn inherited(trie: &[u16], matches: &[u16], q: usize) -> u16
+    requires node { ⌜ 8 * q + 7 < length (now trie) ⌝ }
+    requires word { ⌜ failure (now trie) q < length (now matches) ⌝ }
+    ensures { λ r. ⌜ r ≡ ownOr (matched (now (trie .entry)) q) (getD (now (matches .entry)) (failure (now (trie .entry)) q) 0) ⌝ }
+{
+    let own = trie[8 * q + 6];
+    if own != 0 {
+        return own;
+    }
+    let f = wide(trie[8 * q + 7]);
+    matches[f]
+}
+
+// The tests of the root.
+fn root_holds(trie: &[u16], matches: &[u16], rows: &[u16], s: usize) -> bool
+    requires few { ⌜ s ≤ 32 ⌝ }
+    requires node { ⌜ 5 < length (now trie) ⌝ }
+    requires word { ⌜ 0 < length (now matches) ⌝ }
+    requires row { ⌜ s ≤ length (now rows) ⌝ }
+    ensures { λ r. ⌜ Decides r (RootPassed (now (trie .entry)) (now (matches .entry)) (now (rows .entry)) s) ⌝ }
+{
+    if matches[0] != 0 {
+        return false;
+    }
+    let n = transitions(rows, s);
+    if n != trie[5] {
+        return false;
+    }
+    true
+}
+
+// The tests of state q, whose failure state its node holds.
+fn state_holds(trie: &[u16], matches: &[u16], rows: &[u16], s: usize, q: usize) -> bool
+    requires few { ⌜ s ≤ 32 ⌝ }
+    requires node { ⌜ 8 * q + 7 < length (now trie) ⌝ }
+    requires up { ⌜ parent (now trie) q * s + symbol (now trie) q < length (now rows) ⌝ }
+    requires words { ⌜ (q < length (now matches)) × (failure (now trie) q < length (now matches)) ⌝ }
+    requires own { ⌜ q * s + s ≤ length (now rows) ⌝ }
+    requires other { ⌜ failure (now trie) q * s + s ≤ length (now rows) ⌝ }
+    ensures { λ r. ⌜ Decides r (Passes (now (trie .entry)) (now (matches .entry)) (now (rows .entry)) s q) ⌝ }
+{
+    let child = led_to(trie, rows, s, q);
+    if child != q {
+        return false;
+    }
+    let m = inherited(trie, matches, q);
+    if m != matches[q] {
+        return false;
+    }
+    let f = wide(trie[8 * q + 7]);
+    let n = differences(rows, s, q, f);
+    if n != trie[8 * q + 5] {
+        return false;
+    }
+    true
+}
+
+// Every state's tests, in the order of their numbers, so that its parent and its parent's failure state are known when a
+// state is reached. Keeps each state's failure state in its node.
+fn states_hold(image: &[u8], trie: &mut [u16], n: usize, matches: &[u16], rows: &[u16]) -> bool
+    requires { ⌜ valid (now image) ≡ true ⌝ }
+    requires { ⌜ Trie (states (read (now image) .rules)) (read (now image) .symbols) (now trie) ⌝ }
+    requires { ⌜ Owned (read (now image) .rules) (states (read (now image) .rules)) (now trie) ⌝ }
+    requires { ⌜ n ≡ length (states (read (now image) .rules)) ⌝ }
+    requires { ⌜ (n ≡ length (now matches)) × (n * read (now image) .symbols ≡ length (now rows)) ⌝ }
+    ensures { λ r. ⌜ Decides r
+        (RightTable (read (now (image .entry)) .rules) (read (now (image .entry)) .symbols) (now (matches .entry)) (now (rows .entry))) ⌝ }
+{
+    let s = image::symbols(image);
+    if !root_holds(trie, matches, rows, s) {
+        return false;
+    }
+    for q in 1..n {
+        let f = failure_of(trie, rows, s, q);
+        if f >= n {
+            return false;
+        }
+        trie[8 * q + 7] = f as u16;
+        if !state_holds(trie, matches, rows, s, q) {
+            return false;
+        }
+    }
+    true
+}
+
+// Whether the table begins with the words that compile gives for the image, by the trie of its n states: N, S, and every
+// state's tests. Keeps each state's failure state in its node of the trie.
+pub fn holds(image: &[u8], trie: &mut [u16], n: usize, table: &[u16]) -> bool
+    requires { ⌜ valid (now image) ≡ true ⌝ }
+    requires { ⌜ Trie (states (read (now image) .rules)) (read (now image) .symbols) (now trie) ⌝ }
+    requires { ⌜ Owned (read (now image) .rules) (states (read (now image) .rules)) (now trie) ⌝ }
+    requires { ⌜ n ≡ length (states (read (now image) .rules)) ⌝ }
+    ensures { λ r. ⌜ r ≡ prefix (tableOf (read (now (image .entry)))) (now (table .entry)) ⌝ }
+{
+    let s = image::symbols(image);
+    let first = 2 + n;
+    let end = first + n * s;
+    if table.len() < end {
+        return false;
+    }
+    if wide(table[0]) != n {
+        return false;
+    }
+    if wide(table[1]) != s {
+        return false;
+    }
+    states_hold(image, trie, n, &table[2..first], &table[first..end])
+}
