@@ -16,3 +16,4 @@ pub mod Turns
 pub mod Filled
 pub mod Written
 pub mod Consistent
+pub mod Checking

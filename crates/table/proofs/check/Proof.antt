@@ -1,0 +1,44 @@
+-- `table::check` meets its contract: refused 7 where the image is not valid, 9 where the table is not its table.
+-- Assumes nothing.
+use mathlib.Core.Path.{refl, sym, _∙_}
+use Rattle.table.proofs.Checking.{check-seven, check-nine, check-passed}
+use borrow.Author.Needs.{needs}
+use Rattle.table.proofs.check.Statement.{statement}
+use Rattle.table.proofs.check.Tie as tie
+
+is-valid-requires : tie.Need-is-valid-requires
+is-valid-requires c κs = search needs
+
+slice-aggregate-build : tie.Need-slice-aggregate-build
+slice-aggregate-build c = search needs
+
+build-requires : tie.Need-build-requires
+build-requires c κs = (sym (c .before .before .is-valid .ensures) ∙ c .before .if1 .taken, refl)
+
+slice-aggregate-holds : tie.Need-slice-aggregate-holds
+slice-aggregate-holds c = search needs
+
+holds-requires : tie.Need-holds-requires
+holds-requires c κs = (let built = c .before .before .build .ensures in (sym (c .before .before .before .before .before .is-valid .ensures) ∙ c .before .before .before .before .if1 .taken, (built .trie, (built .owned, built .nodes))))
+
+returns : tie.Need-returns
+returns c = check-passed _ _ (sym (c .before .before .before .before .before .before .before .before .is-valid .ensures) ∙ c .before .before .before .before .before .before .before .if1 .taken) (sym (c .before .before .holds .ensures) ∙ c .if2 .taken)
+
+returns-2 : tie.Need-returns-2
+returns-2 c = check-nine _ _ (sym (c .before .before .before .before .before .before .before .before .is-valid .ensures) ∙ c .before .before .before .before .before .before .before .if1 .taken) (sym (c .before .before .holds .ensures) ∙ c .if2 .left)
+
+returns-3 : tie.Need-returns-3
+returns-3 c = check-seven _ _ (sym (c .before .is-valid .ensures) ∙ c .if1 .left)
+
+pub check-spec : {M : Type 1} → statement M
+check-spec =
+    tie.close
+    (tie.spec
+    is-valid-requires
+    slice-aggregate-build
+    build-requires
+    slice-aggregate-holds
+    holds-requires
+    returns
+    returns-2
+    returns-3)
