@@ -1,6 +1,5 @@
 -- `image::left_length` meets its contract: the first byte of a rule's contents is the length of its left side.
 -- Assumes nothing.
-use mathlib.Core.Path.{_∙_}
 use native.Mathlib.Omega.{arith}
 use borrow.Author.Needs.{needs}
 use Rattle.image.proofs.Places.{contents-fit, contents-left}
@@ -26,7 +25,7 @@ wide-requires c κs = search needs
 returns : tie.Need-returns
 returns c =
     let s = c .before .before .before in
-    c .wide .ensures ∙ contents-left (s .args .image .now) (s .pre .0) (s .args .i) (s .pre .1)
+    omega (arith, contents-left (s .args .image .now) (s .pre .0) (s .args .i) (s .pre .1))
 
 pub left-length-spec : {M : Type 1} → statement M
 left-length-spec = tie.close (tie.spec mul-wide add-wide shared-slice-read-wide wide-requires returns)

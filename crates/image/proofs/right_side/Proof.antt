@@ -51,17 +51,19 @@ returns : tie.Need-returns
 returns c =
     let s = c .before .before .before .before in
     let b = s .args .image .now in
-    let x = rule (read b .rules) (s .args .i) .right in
-    let k : kind x ≡ 1 = sym (contents-kind b (s .pre .0) (s .args .i) (s .pre .1)) ∙ c .if1 .taken in
-    ap RightSide.Close (contents-right b (s .pre .0) (s .args .i) (s .pre .1)) ∙ sym (right-close x k)
+    let i = s .args .i in
+    let x = rule (read b .rules) i .right in
+    let k : kind x ≡ 1 = omega (arith, contents-kind b (s .pre .0) i (s .pre .1)) in
+    ap RightSide.Close (contents-right b (s .pre .0) i (s .pre .1)) ∙ sym (right-close x k)
 
 returns-2 : tie.Need-returns-2
 returns-2 c =
     let s = c .before .before .before .before .before in
     let b = s .args .image .now in
-    let x = rule (read b .rules) (s .args .i) .right in
-    let k : kind x ≡ 1 → ⊥ = λ e. c .before .if1 .left (contents-kind b (s .pre .0) (s .args .i) (s .pre .1) ∙ e) in
-    ap RightSide.Put (c .wide .ensures ∙ contents-right b (s .pre .0) (s .args .i) (s .pre .1)) ∙ sym (right-put x k)
+    let i = s .args .i in
+    let x = rule (read b .rules) i .right in
+    let k : kind x ≡ 1 → ⊥ = λ e. omega (arith, contents-kind b (s .pre .0) i (s .pre .1)) in
+    ap RightSide.Put (c .wide .ensures ∙ contents-right b (s .pre .0) i (s .pre .1)) ∙ sym (right-put x k)
 
 pub right-side-spec : {M : Type 1} → statement M
 right-side-spec =
