@@ -71,8 +71,8 @@ pub contents-within : (b : List ℕ) → valid b ≡ true → 4 + 4 * length (re
 contents-within b e = omega (arith, ap length (valid-encoding b e), length-image (read b))
 
 -- and so do the 4 bytes of rule i
-pub contents-fit : (b : List ℕ) → valid b ≡ true → (i : ℕ) → i < length (read b .rules) → 7 + 4 * i < length b
-contents-fit b e i h = omega (arith, contents-within b e)
+pub contents-inside : (b : List ℕ) → valid b ≡ true → (i : ℕ) → i < length (read b .rules) → 7 + 4 * i < length b
+contents-inside b e i h = omega (arith, contents-within b e)
 
 -- A body lies within a valid image.
 pub left-within :

@@ -1,4 +1,4 @@
--- Document 01, "Rule image", what a refusal is, and where a rule stands in an image. Read in this order.
+-- Document 01, "Rule image"; what a refusal is; where a rule stands in an image; what the code checks. Read in this order.
 pub mod Image
 pub mod Refusals
 pub mod Places

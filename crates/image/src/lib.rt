@@ -234,5 +234,6 @@ pub fn right_start(image: &[u8], i: usize) -> usize
     requires { ⌜ i < length (read (now image) .rules) ⌝ }
     ensures { λ r. ⌜ r ≡ rightAt (read (now (image .entry))) i ⌝ }
 {
-    left_start(image, i) + left_length(image, i)
+    let left = left_length(image, i);
+    left_start(image, i) + left
 }

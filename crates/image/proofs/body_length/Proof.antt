@@ -27,7 +27,8 @@ rule-of c = rule (read (c .before .before .before .args .image .now) .rules) (c 
 -- the left symbols and the right symbols are the body
 whole :
     (c : tie.After-known-told)
-    → c .before .before .before .before .left-length .result + c .before .n .given .0 .0 ≡ length (body (rule-of (c .before .before .before)))
+    → c .before .before .before .before .left-length .result + c .before .n .given .0 .0
+    ≡ length (body (rule-of (c .before .before .before)))
 unfolding rule-of
 whole c =
     let n = c .before .n .given in

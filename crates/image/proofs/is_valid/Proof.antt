@@ -7,12 +7,24 @@ use native.Mathlib.Omega.{arith}
 use borrow.Author.Needs.{needs}
 use lib.ListN.{getD}
 use Rattle.rewriting.specs.Lists.{below}
-use Rattle.image.proofs.Check.{HeaderOf, all-behind, decided, denied, refused, unannounced, checked, valid-header, valid-room}
+use Rattle.image.proofs.Check.{
+  HeaderOf,
+  all-behind,
+  valid-header,
+  valid-room,
+  decided,
+  denied,
+  refused,
+  unannounced,
+  checked,
+}
 use Rattle.image.proofs.is_valid.Statement.{statement}
 use Rattle.image.proofs.is_valid.Tie as tie
 
 -- the header is in range
-header : (c : tie.After-wide) → HeaderOf (c .before .before .before .before .before .before .before .before .before .before .args .image .now)
+header :
+    (c : tie.After-wide)
+    → HeaderOf (c .before .before .before .before .before .before .before .before .before .before .args .image .now)
 header c =
     let h = c .before .before .before .header-in-range in
     decided (h .result) (c .before .before .if2 .taken) (h .ensures)

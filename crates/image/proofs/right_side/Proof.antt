@@ -7,39 +7,39 @@ use borrow.Author.Needs.{needs}
 use Rattle.rewriting.specs.Rules.{rule}
 use Rattle.image.specs.Image.{kind, read}
 use Rattle.image.specs.declared.RightSide.{RightSide}
-use Rattle.image.proofs.Places.{contents-fit, contents-kind, contents-right, right-close, right-put}
+use Rattle.image.proofs.Places.{contents-inside, contents-kind, contents-right, right-close, right-put}
 use Rattle.image.proofs.right_side.Statement.{statement}
 use Rattle.image.proofs.right_side.Tie as tie
 
 mul-n : tie.Need-mul-n
 mul-n c =
     let s = c .before in
-    omega (arith, contents-fit (s .args .image .now) (s .pre .0) (s .args .i) (s .pre .1))
+    omega (arith, contents-inside (s .args .image .now) (s .pre .0) (s .args .i) (s .pre .1))
 
 add-n : tie.Need-add-n
 add-n c =
     let s = c .before in
-    omega (arith, contents-fit (s .args .image .now) (s .pre .0) (s .args .i) (s .pre .1))
+    omega (arith, contents-inside (s .args .image .now) (s .pre .0) (s .args .i) (s .pre .1))
 
 shared-slice-read-n : tie.Need-shared-slice-read-n
 shared-slice-read-n c =
     let s = c .before .before in
-    omega (arith, contents-fit (s .args .image .now) (s .pre .0) (s .args .i) (s .pre .1))
+    omega (arith, contents-inside (s .args .image .now) (s .pre .0) (s .args .i) (s .pre .1))
 
 mul-if1 : tie.Need-mul-if1
 mul-if1 c =
     let s = c .before .before in
-    omega (arith, contents-fit (s .args .image .now) (s .pre .0) (s .args .i) (s .pre .1))
+    omega (arith, contents-inside (s .args .image .now) (s .pre .0) (s .args .i) (s .pre .1))
 
 add-if1 : tie.Need-add-if1
 add-if1 c =
     let s = c .before .before in
-    omega (arith, contents-fit (s .args .image .now) (s .pre .0) (s .args .i) (s .pre .1))
+    omega (arith, contents-inside (s .args .image .now) (s .pre .0) (s .args .i) (s .pre .1))
 
 shared-slice-read-if1 : tie.Need-shared-slice-read-if1
 shared-slice-read-if1 c =
     let s = c .before .before .before in
-    omega (arith, contents-fit (s .args .image .now) (s .pre .0) (s .args .i) (s .pre .1))
+    omega (arith, contents-inside (s .args .image .now) (s .pre .0) (s .args .i) (s .pre .1))
 
 cast-t11 : tie.Need-cast-t11
 cast-t11 c = omega (arith, c .before .before .shared-slice-known2 .given (6 + 4 * c .before .before .before .before .args .i))
@@ -51,17 +51,19 @@ returns : tie.Need-returns
 returns c =
     let s = c .before .before .before .before in
     let b = s .args .image .now in
-    let x = rule (read b .rules) (s .args .i) .right in
-    let k : kind x ≡ 1 = sym (contents-kind b (s .pre .0) (s .args .i) (s .pre .1)) ∙ c .if1 .taken in
-    ap RightSide.Close (contents-right b (s .pre .0) (s .args .i) (s .pre .1)) ∙ sym (right-close x k)
+    let i = s .args .i in
+    let x = rule (read b .rules) i .right in
+    let k : kind x ≡ 1 = omega (arith, contents-kind b (s .pre .0) i (s .pre .1)) in
+    ap RightSide.Close (contents-right b (s .pre .0) i (s .pre .1)) ∙ sym (right-close x k)
 
 returns-2 : tie.Need-returns-2
 returns-2 c =
     let s = c .before .before .before .before .before in
     let b = s .args .image .now in
-    let x = rule (read b .rules) (s .args .i) .right in
-    let k : kind x ≡ 1 → ⊥ = λ e. c .before .if1 .left (contents-kind b (s .pre .0) (s .args .i) (s .pre .1) ∙ e) in
-    ap RightSide.Put (c .wide .ensures ∙ contents-right b (s .pre .0) (s .args .i) (s .pre .1)) ∙ sym (right-put x k)
+    let i = s .args .i in
+    let x = rule (read b .rules) i .right in
+    let k : kind x ≡ 1 → ⊥ = λ e. omega (arith, contents-kind b (s .pre .0) i (s .pre .1)) in
+    ap RightSide.Put (c .wide .ensures ∙ contents-right b (s .pre .0) i (s .pre .1)) ∙ sym (right-put x k)
 
 pub right-side-spec : {M : Type 1} → statement M
 right-side-spec =

@@ -9,11 +9,11 @@ use Rattle.image.proofs.Places.{body-left, left-within}
 use Rattle.image.proofs.right_start.Statement.{statement}
 use Rattle.image.proofs.right_start.Tie as tie
 
-left-start-requires : tie.Need-left-start-requires
-left-start-requires c κs = search needs
-
 left-length-requires : tie.Need-left-length-requires
 left-length-requires c κs = search needs
+
+left-start-requires : tie.Need-left-start-requires
+left-start-requires c κs = search needs
 
 add-result : tie.Need-add-result
 add-result c =
@@ -26,4 +26,4 @@ unfolding rightAt
 returns c = omega arith
 
 pub right-start-spec : {M : Type 1} → statement M
-right-start-spec = tie.close (tie.spec left-start-requires left-length-requires add-result returns)
+right-start-spec = tie.close (tie.spec left-length-requires left-start-requires add-result returns)

@@ -1,6 +1,5 @@
 -- `image::rules` meets its contract: a valid image has 4 bytes at least, and byte 1 is what it says.
 -- Assumes nothing.
-use mathlib.Core.Path.{_∙_}
 use native.Mathlib.Omega.{arith}
 use borrow.Author.Needs.{needs}
 use Rattle.image.proofs.Places.{contents-within, header-rules}
@@ -15,7 +14,7 @@ wide-requires : tie.Need-wide-requires
 wide-requires c κs = search needs
 
 returns : tie.Need-returns
-returns c = c .wide .ensures ∙ header-rules (c .before .before .before .args .image .now) (c .before .before .before .pre)
+returns c = omega (arith, header-rules (c .before .before .before .args .image .now) (c .before .before .before .pre))
 
 pub rules-spec : {M : Type 1} → statement M
 rules-spec = tie.close (tie.spec shared-slice-read-wide wide-requires returns)

@@ -1,6 +1,5 @@
 -- `image::verdicts` meets its contract: a valid image has 4 bytes at least, and byte 2 is what it says.
 -- Assumes nothing.
-use mathlib.Core.Path.{_∙_}
 use native.Mathlib.Omega.{arith}
 use borrow.Author.Needs.{needs}
 use Rattle.image.proofs.Places.{contents-within, header-verdicts}
@@ -15,7 +14,7 @@ wide-requires : tie.Need-wide-requires
 wide-requires c κs = search needs
 
 returns : tie.Need-returns
-returns c = c .wide .ensures ∙ header-verdicts (c .before .before .before .args .image .now)
+returns c = omega (arith, header-verdicts (c .before .before .before .args .image .now))
 
 pub verdicts-spec : {M : Type 1} → statement M
 verdicts-spec = tie.close (tie.spec shared-slice-read-wide wide-requires returns)
