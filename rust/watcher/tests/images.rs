@@ -298,7 +298,7 @@ fn kinds_changed() {
             image[entry + 1] = 0;
             image.resize(image.len() + right, 0);
         }
-        tally.add(compare(&image));
+        tally.add(compare_table(&image));
     }
     tally.at_least(2_000, 500);
 }
