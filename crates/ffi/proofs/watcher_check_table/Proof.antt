@@ -1,0 +1,29 @@
+-- `ffi::watcher_check_table` meets its contract, by the answer of check.
+-- Assumes nothing.
+use mathlib.Core.Path.{sym, _∙_}
+use Rattle.table.specs.Check.{refusedBy}
+use Rattle.ffi.specs.Numbers.{refusalNumber, checkedNumber}
+use borrow.Author.Needs.{needs}
+use Rattle.ffi.proofs.watcher_check_table.Statement.{statement}
+use Rattle.ffi.proofs.watcher_check_table.Tie as tie
+
+check-requires : tie.Need-check-requires
+check-requires c κs = search needs
+
+enum-told : tie.Need-enum-told
+enum-told c = search needs
+
+enum-known-n : tie.Need-enum-known-n
+enum-known-n c = search needs
+
+returns : tie.Need-returns
+unfolding checkedNumber refusalNumber refusedBy
+returns c = rw (sym (c .before .before .check .ensures) ∙ c .enum-told .given .1)
+
+returns-2 : tie.Need-returns-2
+unfolding checkedNumber refusalNumber refusedBy
+returns-2 c = rw (sym (c .before .before .before .check .ensures) ∙ c .before .n .given .1)
+
+pub watcher-check-table-spec : {M : Type 1} → statement M
+watcher-check-table-spec =
+    tie.close (tie.spec check-requires enum-told enum-known-n returns returns-2)
