@@ -143,11 +143,7 @@ pub fn compile(image: &[u8], table: &mut [u16]) -> Result<usize, u32> {
                 trie[q * NODE + MATCH] = trie[f * NODE + MATCH];
             }
             let (row, from) = two_rows(rows, s, q, f);
-            for (word, &other) in row.iter_mut().zip(from) {
-                if *word == 0 {
-                    *word = other;
-                }
-            }
+            merge(row, from);
         }
     }
     for (word, node) in head[2..].iter_mut().zip(trie.chunks_exact(NODE)) {
@@ -164,6 +160,15 @@ fn two_rows(rows: &mut [u16], s: usize, q: usize, f: usize) -> (&mut [u16], &[u1
     } else {
         let (before, after) = rows.split_at_mut(f * s);
         (&mut before[q * s..][..s], &after[..s])
+    }
+}
+
+/// Each 0 of a row becomes the other row's word. A function of its own, which is not inlined, and a store
+/// at each word: only so does the loop become vector code.
+#[inline(never)]
+fn merge(row: &mut [u16], from: &[u16]) {
+    for (word, &other) in row.iter_mut().zip(from) {
+        *word = if *word == 0 { other } else { *word };
     }
 }
 
@@ -189,8 +194,8 @@ fn is_table_of(trie: &mut [u16; TRIE], n: usize, s: usize, table: &[u16]) -> boo
         return false;
     }
     let (matches, rows) = table[2..words].split_at(n);
-    let nonzero = rows[..s].iter().filter(|&&word| word != 0).count();
-    if matches[0] != 0 || nonzero != usize::from(trie[CHILDREN]) {
+    let leaving: u16 = rows[..s].iter().map(|&word| u16::from(word != 0)).sum();
+    if matches[0] != 0 || leaving != trie[CHILDREN] {
         return false;
     }
     for q in 1..n {
@@ -214,8 +219,9 @@ fn is_table_of(trie: &mut [u16; TRIE], n: usize, s: usize, table: &[u16]) -> boo
         }
         let row = &rows[q * s..][..s];
         let from = &rows[f * s..][..s];
-        let differing = row.iter().zip(from).filter(|(a, b)| a != b).count();
-        if differing != usize::from(trie[q * NODE + CHILDREN]) {
+        // Counted in 16 bits, so that the loop compares as many words at once as it can.
+        let differing: u16 = row.iter().zip(from).map(|(a, b)| u16::from(a != b)).sum();
+        if differing != trie[q * NODE + CHILDREN] {
             return false;
         }
     }
