@@ -199,7 +199,7 @@ fn areas_of_every_length() {
         short += needed;
         enough += 20;
     }
-    assert!(short > 4_000 && enough == 500, "{short} short, {enough}");
+    assert!(short > 1_000 && enough == 500, "{short} short, {enough}");
 }
 
 /// An area that holds older tables, of rule sets larger and smaller: nothing of them is kept in the
