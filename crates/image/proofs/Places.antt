@@ -1,6 +1,6 @@
 -- Where a rule's contents and sides stand in a valid image, and what the bytes there are.
 -- Assumes nothing.
-use Prim.Native.Nat.{ℕ, zero, suc, _+_, _*_, _≤_, _<_}
+use Prim.Native.Nat.{ℕ, zero, suc, _+_, _*_, _-_, _≤_, _<_}
 use mathlib.Core.Path.{_≡_, refl, sym, ap, _∙_}
 use mathlib.Core.Bool.{true}
 use mathlib.Core.List.{List, [], _∷_, _++_, flatMap}
@@ -69,6 +69,10 @@ body-left r = length-append (r .left) (symbolsOf (r .right))
 -- the contents lie within a valid image
 pub contents-within : (b : List ℕ) → valid b ≡ true → 4 + 4 * length (read b .rules) ≤ length b
 contents-within b e = omega (arith, ap length (valid-encoding b e), length-image (read b))
+
+-- the bodies are what follows the contents
+pub bodies-behind : (b : List ℕ) → valid b ≡ true → length (flatMap body (read b .rules)) ≡ length b - (4 + 4 * length (read b .rules))
+bodies-behind b e = omega (arith, ap length (valid-encoding b e), length-image (read b))
 
 -- and so do the 4 bytes of rule i
 pub contents-inside : (b : List ℕ) → valid b ≡ true → (i : ℕ) → i < length (read b .rules) → 7 + 4 * i < length b

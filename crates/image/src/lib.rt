@@ -2,6 +2,7 @@
 ghost use Prim.Native.Nat.{_+_, _*_, _<_, _≤_};
 ghost use mathlib.Core.Path.{_≡_};
 ghost use mathlib.Core.Bool.{true};
+ghost use mathlib.Core.List.{flatMap};
 ghost use lib.ListN.{length, drop};
 ghost use Rattle.rewriting.specs.Lists.{below};
 ghost use Rattle.rewriting.specs.Rules.{rule};
@@ -213,6 +214,14 @@ pub fn body_length(image: &[u8], i: usize) -> usize
         RightSide::Put(n) => left + n,
         RightSide::Close(_) => left,
     }
+}
+
+// How many symbols all bodies have.
+pub fn bodies_length(image: &[u8]) -> usize
+    requires { ⌜ valid (now image) ≡ true ⌝ }
+    ensures { λ r. ⌜ r ≡ length (flatMap body (read (now (image .entry)) .rules)) ⌝ }
+{
+    image.len() - (4 + 4 * rules(image))
 }
 
 // Where rule i's left side begins: behind the contents and the bodies of the rules before it.
