@@ -26,10 +26,12 @@ use Rattle.rewriting.specs.Occurrences.{lowest, tie, ending}
 use Rattle.rewriting.proofs.Lists.{and-both, prefix-rest, begins-at}
 use Rattle.rewriting.proofs.Ranges.{ranges}
 use Rattle.rewriting.proofs.Choice.{tie-earlier, tie-later, tie-none}
+use Rattle.image.specs.Check.{Decides}
 use Rattle.table.specs.States.{isPrefix, state, next, matching, known, states, number}
 use Rattle.table.specs.Table.{matchWord, tableOf}
+use Rattle.table.specs.Words.{transition, ownOr}
 use Rattle.table.specs.Nodes.{parent, symbol, depth, youngest, older, children, matched, failure, tally, Linked, Trie, Owned, failureBy}
-use Rattle.table.specs.Consistent.{transition, differing, leaving, ownOr, Passes, Passed, RootPassed, RightTable, Decides}
+use Rattle.table.specs.Consistent.{differing, leaving, Passes, Passed, RootPassed, RightTable}
 use Rattle.table.proofs.Matching.{state-drop, state-snoc, state-suffix, next-child, next-fail, matching-fail}
 use Rattle.table.proofs.States.{known-nil, prefix-known, known-prefix, state-known, next-known, number-at, listed-prefix, number-zero, few-states}
 use Rattle.table.proofs.Table.{length-table, table-length, table-states, table-symbols, table-match, table-next, begins-match, begins-next}
@@ -86,7 +88,7 @@ module _ (x y : ℕ → ℕ) (n : ℕ) where
 
 -- the match word of two rules that end together, the longer one's first
 pub match-own : (earlier later : Option ℕ) → matchWord (tie earlier later) ≡ ownOr (matchWord earlier) (matchWord later)
-unfolding matchWord ownOr
+unfolding matchWord
 match-own none later = rw tie-later
 match-own (some i) later = go (tie (some i) later) refl
   where
@@ -616,15 +618,6 @@ pub row-within : (i n s : ℕ) → i < n → i * s + s ≤ n * s
 row-within i n s lt =
     let rows : suc i * s ≤ n * s = mul-le-mul-right s lt in
     omega (arith, rw suc-mul at rows)
-
--- what a test's answer says, where the code goes on or stops by it
-pub decides-no : {P : Type 0} (b : Bool) → not b ≡ true → Decides b P → P → ⊥
-decides-no true e d = let z : _≡_ {A = ℕ} 0 1 = cc in absurd (omega arith)
-decides-no false e d = d
-
-pub decides-yes : {P : Type 0} (b : Bool) → not b ≡ false → Decides b P → P
-decides-yes true e d = d
-decides-yes false e d = let z : _≡_ {A = ℕ} 0 1 = cc in absurd (omega arith)
 
 -- What the check of a table of n states and s symbols holds to when it reaches node q.
 pub record Checking (set : RuleSet) (t matches rows : List ℕ) (n s q : ℕ) : Type 0 where

@@ -21,8 +21,9 @@ use Rattle.rewriting.proofs.Ranges.{rule-ranges, ranges, rule-at}
 use Rattle.rewriting.proofs.Scan.{lowest-left}
 use Rattle.table.specs.States.{isPrefix, state, next, matching, states, number}
 use Rattle.table.specs.Table.{matchWord, row}
+use Rattle.table.specs.Words.{text, transition}
 use Rattle.table.specs.Nodes.{matched, Trie, Owned}
-use Rattle.table.specs.Rows.{entry, text, childNumber, Laid, reached, FillingAt, Matched, Filled}
+use Rattle.table.specs.Rows.{childNumber, Laid, reached, FillingAt, Matched, Filled}
 use Rattle.table.proofs.States.{known-states, listed-prefix, number-zero, state-zero}
 use Rattle.table.proofs.Table.{length-row, row-at}
 use Rattle.table.proofs.Filling.{first-symbol}
@@ -82,7 +83,7 @@ filling-start set t rows e trie owned laid =
     root = let size = ap length (state-zero rules) in reached-shorter s 1 1 0 (omega arith)
 
     match : (c : ℕ) → c < length s → (b : Bool) → eqb c 0 ≡ b
-        → matched t c ≡ cond (reached s 1 1 c) (matchWord (matching rules (text set c))) (matchWord (lowest rules (text set c)))
+        → matched t c ≡ cond (reached s 1 1 c) (matchWord (matching rules (text (set .rules) c))) (matchWord (lowest rules (text (set .rules) c)))
     match c h true p =
         let same : c ≡ 0 = eqb-true c 0 p in
         let own : matched t 0 ≡ matchWord (lowest rules []) = rw state-zero at (owned 0 (rw same at h)) in
@@ -92,10 +93,10 @@ filling-start set t rows e trie owned laid =
         rw (reached-root rules c (omega (arith, differs)) h) (owned c h)
 
     word : (c a : ℕ) → c < length s → a < set .symbols → (b : Bool) → eqb c 0 ≡ b
-        → entry (set .symbols) rows c a ≡ cond (reached s 1 1 c) (number s (next rules (text set c) a)) (childNumber s (text set c) a)
+        → transition rows (set .symbols) c a ≡ cond (reached s 1 1 c) (number s (next rules (text (set .rules) c) a)) (childNumber s (text (set .rules) c) a)
     word c a h k true p =
         let same : c ≡ 0 = eqb-true c 0 p in
-        let own : entry (set .symbols) rows 0 a ≡ childNumber s [] a = rw state-zero at (laid .table 0 a (rw same at h) k) in
+        let own : transition rows (set .symbols) 0 a ≡ childNumber s [] a = rw state-zero at (laid .table 0 a (rw same at h) k) in
         rw (same, root, state-zero) (own ∙ root-row rules a)
     word c a h k false p =
         let differs = eqb-false c 0 p in
@@ -119,17 +120,17 @@ prefix-short set (r ∷ rules) e v p =
         omega (arith, own .short-left)
     go (inr h) ih = ih h
 
-short-state : (set : RuleSet) → inRange set ≡ true → (c : ℕ) → c < length (states (set .rules)) → length (text set c) ≤ 8
+short-state : (set : RuleSet) → inRange set ≡ true → (c : ℕ) → c < length (states (set .rules)) → length (text (set .rules) c) ≤ 8
 short-state set e c h = go (listed-prefix (set .rules) c h)
   where
-    go : (text set c ≡ []) ⊎ (isPrefix (set .rules) (text set c) ≡ true) → length (text set c) ≤ 8
+    go : (text (set .rules) c ≡ []) ⊎ (isPrefix (set .rules) (text (set .rules) c) ≡ true) → length (text (set .rules) c) ≤ 8
     go (inl p) = let size = ap length p in omega arith
-    go (inr p) = prefix-short set (set .rules) (ranges set e .all-rules) (text set c) p
+    go (inr p) = prefix-short set (set .rules) (ranges set e .all-rules) (text (set .rules) c) p
 
 -- rows of the next states, word by word, are the rows of the table
 rows-whole : (set : RuleSet) (rows : List ℕ) → 0 < set .symbols → length rows ≡ length (states (set .rules)) * set .symbols
     → ((c a : ℕ) → c < length (states (set .rules)) → a < set .symbols
-    → entry (set .symbols) rows c a ≡ number (states (set .rules)) (next (set .rules) (text set c) a))
+    → transition rows (set .symbols) c a ≡ number (states (set .rules)) (next (set .rules) (text (set .rules) c) a))
     → rows ≡ flatMap (row set) (states (set .rules))
 rows-whole set rows pos size each =
     ext-getD 0 rows (flatMap (row set) s) (size ∙ sym (length-flatMap (row set) (set .symbols) (length-row set) s)) word

@@ -15,8 +15,9 @@ use Rattle.rewriting.specs.Occurrences.{lowest, tie}
 use Rattle.rewriting.proofs.Choice.{tie-earlier, tie-later, tie-none}
 use Rattle.table.specs.States.{state, next, matching, known, states, number}
 use Rattle.table.specs.Table.{matchWord}
+use Rattle.table.specs.Words.{text, transition}
 use Rattle.table.specs.Nodes.{parent, symbol, matched, failure, failureBy}
-use Rattle.table.specs.Rows.{entry, text, childNumber, Merged, Noted, Filling}
+use Rattle.table.specs.Rows.{childNumber, Merged, Noted, Filling}
 use Rattle.table.proofs.Matching.{state-snoc, state-suffix, next-child, next-fail, matching-fail}
 use Rattle.table.proofs.States.{known-states, state-known, number-at, number-back, number-zero}
 use Rattle.table.proofs.RowWords.{row-apart, trie-keeps}
@@ -97,10 +98,10 @@ match-filled rules y w = rw (matching-fail rules y w) (go (lowest rules (y ∷ w
 -- State q, whose turn it is: every shorter state is done.
 module _ (set : RuleSet) (done : ℕ → Bool) (t rows : List ℕ) (filling : Filling set done t rows) (q : ℕ) (pos : 0 < q)
     (below : q < length (states (set .rules)))
-    (shorter : (c : ℕ) → c < length (states (set .rules)) → length (text set c) < length (text set q) → done c ≡ true)
+    (shorter : (c : ℕ) → c < length (states (set .rules)) → length (text (set .rules) c) < length (text (set .rules) q) → done c ≡ true)
   where
     -- its failure state is the state of its string without the first symbol
-    pub failure-found : failureBy t rows (set .symbols) q ≡ number (states (set .rules)) (state (set .rules) (drop 1 (text set q)))
+    pub failure-found : failureBy t rows (set .symbols) q ≡ number (states (set .rules)) (state (set .rules) (drop 1 (text (set .rules) q)))
     unfolding failureBy state
     failure-found = go (eqb (parent t q) 0) refl
       where
@@ -168,7 +169,7 @@ module _ (set : RuleSet) (done : ℕ → Bool) (t rows : List ℕ) (filling : Fi
         w : List ℕ
         w = first-symbol rules q pos below .1
 
-        string : text set q ≡ y ∷ w
+        string : text (set .rules) q ≡ y ∷ w
         string = first-symbol rules q pos below .2
 
         f-is : f ≡ number s (state rules w)
@@ -179,12 +180,12 @@ module _ (set : RuleSet) (done : ℕ → Bool) (t rows : List ℕ) (filling : Fi
 
         f-done : done f ≡ true
         f-done =
-            let size : length (text set q) ≡ suc (length w) = ap length string in
-            let short : length (text set f) ≤ length w = l .short in
+            let size : length (text (set .rules) q) ≡ suc (length w) = ap length string in
+            let short : length (text (set .rules) f) ≤ length w = l .short in
             shorter f (l .place) (omega arith)
 
         match : (c : ℕ) → c < length s → (b : Bool) → eqb c q ≡ b
-            → matched t′ c ≡ cond (done′ c) (matchWord (matching rules (text set c))) (matchWord (lowest rules (text set c)))
+            → matched t′ c ≡ cond (done′ c) (matchWord (matching rules (text (set .rules) c))) (matchWord (lowest rules (text (set .rules) c)))
         match c h true e =
             let same : c ≡ q = eqb-true c q e in
             let mine : matched t q ≡ matchWord (lowest rules (y ∷ w)) = rw (not-yet, string) at (filling .matches q below) in
@@ -196,7 +197,7 @@ module _ (set : RuleSet) (done : ℕ → Bool) (t rows : List ℕ) (filling : Fi
             (noted .rest (8 * c + 6) (λ p. differs (omega arith)) (λ p. omega arith) ∙ filling .matches c h)
 
         failing : (c : ℕ) → 0 < c → c < length s → done′ c ≡ true → (b : Bool) → eqb c q ≡ b
-            → failure t′ c ≡ number s (state rules (drop 1 (text set c)))
+            → failure t′ c ≡ number s (state rules (drop 1 (text (set .rules) c)))
         failing c pos₂ h e true p =
             let same : c ≡ q = eqb-true c q p in
             rw same (noted .own-failure ∙ is ∙ failure-found)
@@ -206,11 +207,11 @@ module _ (set : RuleSet) (done : ℕ → Bool) (t rows : List ℕ) (filling : Fi
             ∙ filling .failures c pos₂ h (sym (others c differs) ∙ e)
 
         word : (c a : ℕ) → c < length s → a < set .symbols → (b : Bool) → eqb c q ≡ b
-            → entry (set .symbols) rows′ c a ≡ cond (done′ c) (number s (next rules (text set c) a)) (childNumber s (text set c) a)
+            → transition rows′ (set .symbols) c a ≡ cond (done′ c) (number s (next rules (text (set .rules) c) a)) (childNumber s (text (set .rules) c) a)
         word c a h k true e =
             let same : c ≡ q = eqb-true c q e in
-            let mine : entry (set .symbols) rows q a ≡ childNumber s (y ∷ w) a = rw (not-yet, string) at (filling .table q a below k) in
-            let other : entry (set .symbols) rows f a ≡ number s (next rules (state rules w) a) =
+            let mine : transition rows (set .symbols) q a ≡ childNumber s (y ∷ w) a = rw (not-yet, string) at (filling .table q a below k) in
+            let other : transition rows (set .symbols) f a ≡ number s (next rules (state rules w) a) =
             rw (f-done, l .string) at (filling .table f a (l .place) k)
             in
             rw (same, own, string, merged .own a k, mine, other) (row-filled rules y w a)

@@ -10,8 +10,9 @@ use lib.ListN.{length, getD, drop, length-append}
 use borrow.Author.Tests.{ltb-true, ltb-false, eqb-true, eqb-false, lt-ltb, le-ltb, eq-eqb, ne-eqb}
 use Rattle.rewriting.specs.Rules.{RuleSet, inRange}
 use Rattle.table.specs.States.{states}
+use Rattle.table.specs.Words.{text}
 use Rattle.table.specs.Nodes.{parent, symbol, depth, failure, failureBy}
-use Rattle.table.specs.Rows.{text, Merged, Noted, reached, Filling, FillingAt}
+use Rattle.table.specs.Rows.{Merged, Noted, reached, Filling, FillingAt}
 use Rattle.table.proofs.States.{few-states}
 use Rattle.table.proofs.RowWords.{row-end}
 use Rattle.table.proofs.Filling.{listed, failure-found, state-filled}
@@ -116,10 +117,10 @@ filling-longer set d t rows filling =
 module _ (set : RuleSet) (q : ℕ) (t rows : List ℕ) (filling : FillingAt set (depth t q) q t rows) (pos : 0 < q)
     (below : q < length (states (set .rules)))
   where
-    long : length (text set q) ≡ depth t q
+    long : length (text (set .rules) q) ≡ depth t q
     long = sym (filling .trie .deep q below)
 
-    shorter : (c : ℕ) → c < length (states (set .rules)) → length (text set c) < length (text set q)
+    shorter : (c : ℕ) → c < length (states (set .rules)) → length (text (set .rules) c) < length (text (set .rules) q)
         → reached (states (set .rules)) (depth t q) q c ≡ true
     shorter c h k = reached-shorter (states (set .rules)) (depth t q) q c (rw long at k)
 
@@ -129,11 +130,11 @@ module _ (set : RuleSet) (q : ℕ) (t rows : List ℕ) (filling : FillingAt set 
         let up : parent t q < q = filling .trie .linked .up q pos below in
         let below-up : parent t q < length (states (set .rules)) = omega arith in
         let low : symbol t q < set .symbols = filling .trie .small q pos below in
-        let size : length (text set q) ≡ length (text set (parent t q)) + 1 =
+        let size : length (text (set .rules) q) ≡ length (text (set .rules) (parent t q)) + 1 =
         simp length-append at (ap length (filling .trie .made q pos below))
         in
         let f = filling .failures (parent t q) pos-up below-up (shorter (parent t q) below-up (omega arith)) in
-        let l = listed (set .rules) (drop 1 (text set (parent t q))) (failure t (parent t q)) f in
+        let l = listed (set .rules) (drop 1 (text (set .rules) (parent t q))) (failure t (parent t q)) f in
         omega (arith, filling .size, row-end (set .symbols) (failure t (parent t q)) (length (states (set .rules))) (l .place))
 
     -- the failure state's node and both rows lie within their areas, and its number fits 16 bits
@@ -147,7 +148,7 @@ module _ (set : RuleSet) (q : ℕ) (t rows : List ℕ) (filling : FillingAt set 
         let size : length rows ≡ n * set .symbols = filling .size in
         let room : 8 * n ≤ length t = filling .trie .linked .size in
         let found = failure-found set (reached (states (set .rules)) (depth t q) q) t rows filling q pos below shorter in
-        let l = listed (set .rules) (drop 1 (text set q)) f (is ∙ found) in
+        let l = listed (set .rules) (drop 1 (text (set .rules) q)) f (is ∙ found) in
         let place : f < n = l .place in (
           omega arith,
           omega (arith, few-states set in-range),
