@@ -19,9 +19,9 @@ use Rattle.table.specs.Words.{text, transition}
 use Rattle.table.specs.Nodes.{parent, symbol, matched, failure, failureBy}
 use Rattle.table.specs.Rows.{childNumber, Merged, Noted, Filling}
 use Rattle.table.proofs.Matching.{state-snoc, state-suffix, next-child, next-fail, matching-fail}
-use Rattle.table.proofs.States.{known-states, state-known, number-at, number-back, number-zero}
-use Rattle.table.proofs.RowWords.{row-apart, trie-keeps}
-use Rattle.table.proofs.Laying.{child-some}
+use Rattle.table.proofs.States.{known-states, state-known, number-at, number-back, number-zero, child-some}
+use Rattle.table.proofs.RowPlaces.{row-apart}
+use Rattle.table.proofs.Kept.{trie-kept, noted-kept}
 
 -- each state but the empty one has a first symbol
 pub first-symbol : (rules : List Rule) (c : ℕ) → 0 < c → c < length (states rules)
@@ -150,7 +150,7 @@ module _ (set : RuleSet) (done : ℕ → Bool) (t rows : List ℕ) (filling : Fi
         → Merged rows rows′ (set .symbols) q f (set .symbols) → Filling set done′ t′ rows′
     state-filled done′ t′ rows′ f not-yet own others is noted merged =
         record {
-          trie = trie-keeps s (set .symbols) t t′ q f below (filling .trie) noted;
+          trie = trie-kept (noted-kept below noted) (filling .trie);
           size = merged .size ∙ filling .size;
           matches = λ c h. match c h (eqb c q) refl;
           failures = λ c pos₂ h e. failing c pos₂ h e (eqb c q) refl;

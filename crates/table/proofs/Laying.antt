@@ -6,7 +6,7 @@ use mathlib.Core.Bool.{Bool, true, false, cond, _&&_}
 use mathlib.Core.List.{List, [], _∷_, _++_}
 use native.Mathlib.Omega.{arith}
 use lib.Dec.{eqb, ltb}
-use lib.ListN.{length, getD, replicate, length-append, getD-replicate, set as store}
+use lib.ListN.{length, getD, replicate, getD-replicate, set as store}
 use lib.Seq.{getD-set-same, getD-set-other}
 use borrow.Author.Tests.{ltb-true, ltb-false, eqb-true, eqb-false, lt-ltb, le-ltb}
 use Rattle.rewriting.specs.Rules.{Rule, RuleSet, inRange}
@@ -14,21 +14,9 @@ use Rattle.table.specs.States.{known, states, number}
 use Rattle.table.specs.Words.{text, transition}
 use Rattle.table.specs.Nodes.{parent, symbol, Trie}
 use Rattle.table.specs.Rows.{childNumber, Laid}
-use Rattle.table.proofs.States.{number-at, known-at, number-back, state-zero, few-states}
-use Rattle.table.proofs.RowWords.{row-end, place-row}
-
--- Strings with a symbol added at their end.
-snoc-some : (v : List ℕ) (a : ℕ) → v ++ a ∷ [] ≡ [] → ⊥
-snoc-some v a e = omega (arith, simp length-append at (ap length e))
-
-snoc-eq : (u v : List ℕ) (a b : ℕ) → u ++ a ∷ [] ≡ v ++ b ∷ [] → (u ≡ v) × (a ≡ b)
-snoc-eq [] [] a b e = (refl, (cc))
-snoc-eq [] (y ∷ v) a b e = absurd (omega (arith, simp length-append at (ap length e)))
-snoc-eq (x ∷ u) [] a b e = absurd (omega (arith, simp length-append at (ap length e)))
-snoc-eq (x ∷ u) (y ∷ v) a b e =
-    let t : u ++ a ∷ [] ≡ v ++ b ∷ [] = cc in
-    let ih = snoc-eq u v a b t in
-    ((cc), ih .1)
+use Rattle.table.proofs.States.{number-at, known-at, number-back, child-some, few-states}
+use Rattle.table.proofs.RowPlaces.{row-end, place-row, word-within}
+use Rattle.table.proofs.Growth.{state-child}
 
 -- the number of the string v where it is a state below n, else 0
 unfoldable pub numberBelow : List (List ℕ) → ℕ → List ℕ → ℕ
@@ -63,15 +51,6 @@ module _ (s : List (List ℕ)) where
           → cond (b && ltb (number s (v ++ a ∷ [])) (length s)) (number s (v ++ a ∷ [])) 0 ≡ cond b (number s (v ++ a ∷ [])) 0
       go true e = rw (lt-ltb (number s (v ++ a ∷ [])) (length s) (number-at s (v ++ a ∷ []) e .0))
       go false e = refl
-
--- a child's number is not 0
-pub child-some : (rules : List Rule) (v : List ℕ) (a : ℕ) → known (states rules) (v ++ a ∷ []) ≡ true
-    → number (states rules) (v ++ a ∷ []) ≡ 0 → ⊥
-child-some rules v a k e =
-    snoc-some v a
-    (sym (number-at (states rules) (v ++ a ∷ []) k .1)
-    ∙ ap (λ (i : ℕ). getD (states rules) i []) e
-    ∙ state-zero rules)
 
 below-none : (rules : List Rule) (v : List ℕ) (a : ℕ) → numberBelow (states rules) 1 (v ++ a ∷ []) ≡ 0
 unfolding numberBelow
@@ -125,14 +104,11 @@ laid-more set t rows c trie size pos below laid q a h k = go (eqb (q * set .symb
       where
         meets : known s (text (set .rules) q ++ a ∷ []) ≡ true → number s (text (set .rules) q ++ a ∷ []) ≡ c → q * set .symbols + a ≡ place
         meets k₂ e₂ =
-            let string : text (set .rules) q ++ a ∷ [] ≡ getD s (parent t c) [] ++ symbol t c ∷ [] =
-            sym (number-at s (text (set .rules) q ++ a ∷ []) k₂ .1) ∙ ap (λ (i : ℕ). getD s i []) e₂ ∙ trie .made c pos below
+            let child =
+            state-child s (set .symbols) t trie q a c h below
+            (ap (λ (i : ℕ). getD s i []) (sym e₂) ∙ number-at s (text (set .rules) q ++ a ∷ []) k₂ .1)
             in
-            let parts = snoc-eq (text (set .rules) q) (getD s (parent t c) []) a (symbol t c) string in
-            let row : q ≡ parent t c =
-            sym (number-back (set .rules) q h) ∙ ap (number s) (parts .0) ∙ number-back (set .rules) (parent t c) up
-            in
-            rw (row, parts .1)
+            rw (child .of, child .by)
 
 -- all words 0: no child is laid yet
 pub laid-none : (set : RuleSet) (rows : List ℕ) → rows ≡ replicate (length (states (set .rules)) * set .symbols) 0 → LaidBelow set rows 1

@@ -14,7 +14,7 @@ use Rattle.table.specs.Words.{text}
 use Rattle.table.specs.Nodes.{parent, symbol, depth, failure, failureBy}
 use Rattle.table.specs.Rows.{Merged, Noted, reached, Filling, FillingAt}
 use Rattle.table.proofs.States.{few-states}
-use Rattle.table.proofs.RowWords.{row-end}
+use Rattle.table.proofs.RowPlaces.{row-end}
 use Rattle.table.proofs.Filling.{listed, failure-found, state-filled}
 
 -- Which states are done, where state q of the states of length d is next.
