@@ -1,14 +1,13 @@
 -- Where the filling of the rows begins and ends: with the children laid the empty state is done, and when the states of 8
 -- symbols are done, the rows and match words are the table's, and are written there.
 -- Assumes nothing.
-use Prim.Native.Nat.{ℕ, _+_, _*_, _/_, _%_, _≤_, _<_}
+use Prim.Native.Nat.{ℕ, _+_, _*_, _≤_, _<_}
 use mathlib.Core.Path.{_≡_, refl, sym, ap, _∙_}
 use mathlib.Core.Bool.{Bool, true, false, cond, and-false}
 use mathlib.Core.Logic.{_⊎_, inl, inr}
 use mathlib.Core.Option.{Option, none, some}
 use mathlib.Core.List.{List, [], _∷_, flatMap, map}
 use native.Mathlib.Omega.{arith}
-use native.Mathlib.Nat.{mod-lt, div-add-mod', div-lt-iff-lt-mul}
 use lib.Dec.{eqb}
 use lib.ListN.{length, getD, drop, length-append, length-map, set as store}
 use lib.Seq.{ext-getD, getD-set-same, getD-set-other}
@@ -19,14 +18,15 @@ use Rattle.rewriting.specs.Occurrences.{lowest, ending}
 use Rattle.rewriting.proofs.Lists.{and-left, and-right, or-cases, prefix-rest, length-flatMap, getD-flatMap, getD-map}
 use Rattle.rewriting.proofs.Ranges.{rule-ranges, ranges, rule-at}
 use Rattle.rewriting.proofs.Scan.{lowest-left}
-use Rattle.table.specs.States.{isPrefix, state, next, matching, states, number}
+use Rattle.table.specs.States.{isPrefix, next, known, matching, states, number}
 use Rattle.table.specs.Table.{matchWord, row}
 use Rattle.table.specs.Words.{text, transition}
 use Rattle.table.specs.Nodes.{matched, Trie, Owned}
 use Rattle.table.specs.Rows.{childNumber, Laid, reached, FillingAt, Matched, Filled}
-use Rattle.table.proofs.States.{known-states, listed-prefix, number-zero, state-zero}
+use Rattle.table.proofs.States.{next-listed, listed-prefix, number-zero, state-zero, state-long}
+use Rattle.table.proofs.RowPlaces.{place-parts}
+use Rattle.table.proofs.Failure.{next-root}
 use Rattle.table.proofs.Table.{length-row, row-at}
-use Rattle.table.proofs.Filling.{first-symbol}
 use Rattle.table.proofs.Turns.{reached-shorter}
 
 -- no left side is empty, so the empty state has no match word
@@ -43,20 +43,18 @@ root-match set e = ap matchWord (go (lowest (set .rules) []) refl)
 
 -- the row of the empty state has its children alone
 root-row : (rules : List Rule) (a : ℕ) → childNumber (states rules) [] a ≡ number (states rules) (next rules [] a)
-unfolding childNumber next state
-root-row rules a = rw (known-states rules (a ∷ [])) (go (isPrefix rules (a ∷ [])))
+unfolding childNumber
+root-row rules a = go (known (states rules) (a ∷ [])) refl
   where
-    go : (b : Bool) → cond b (number (states rules) (a ∷ [])) 0 ≡ number (states rules) (cond b (a ∷ []) [])
-    go true = refl
-    go false = sym (number-zero rules)
+    go : (b : Bool) → known (states rules) (a ∷ []) ≡ b → cond b (number (states rules) (a ∷ [])) 0 ≡ number (states rules) (next rules [] a)
+    go true e = ap (number (states rules)) (sym (next-listed rules [] a e))
+    go false e = sym (ap (number (states rules)) (next-root rules a e) ∙ number-zero rules)
 
 -- the states longer than the empty one are not done at the start
 reached-root : (rules : List Rule) (c : ℕ) → 0 < c → c < length (states rules) → reached (states rules) 1 1 c ≡ false
 unfolding reached
 reached-root rules c pos below =
-    let (y, w, string) = first-symbol rules c pos below in
-    let size = ap length string in
-    rw (le-ltb (length (getD (states rules) c [])) 1 (omega arith), le-ltb c 1 pos, and-false)
+    rw (le-ltb (length (getD (states rules) c [])) 1 (state-long rules c pos below), le-ltb c 1 pos, and-false)
 
 -- With the children laid, the empty state is done.
 pub filling-start : (set : RuleSet) (t rows : List ℕ) → inRange set ≡ true → Trie (states (set .rules)) (set .symbols) t
@@ -140,11 +138,7 @@ rows-whole set rows pos size each =
 
     word : (k : ℕ) → k < length rows → getD rows k 0 ≡ getD (flatMap (row set) s) k 0
     word k h =
-        let q : ℕ = k / set .symbols in
-        let a : ℕ = k % set .symbols in
-        let low : a < set .symbols = mod-lt k pos in
-        let listed : q < length s = div-lt-iff-lt-mul pos .1 (rw size at h) in
-        let place : q * set .symbols + a ≡ k = div-add-mod' k (set .symbols) in
+        let (q, a, listed, low, place) = place-parts (set .symbols) (length s) k pos (rw size at h) in
         ap (λ (i : ℕ). getD rows i 0) (sym place)
         ∙ each q a listed low
         ∙ sym (row-at set (getD s q []) a low)

@@ -57,6 +57,10 @@ module _ (s : List (List ℕ)) (symbols : ℕ) (t : List ℕ) (h : Trie s symbol
   pub node-once : (i j : ℕ) → i < length s → j < length s → getD s i [] ≡ getD s j [] → i ≡ j
   node-once i j hi hj e = sym (h .once i hi) ∙ rw e (h .once j hj)
 
+  -- a state has a symbol more than its parent
+  pub parent-shorter : (c : ℕ) → 0 < c → c < length s → length (getD s c []) ≡ length (getD s (parent t c) []) + 1
+  parent-shorter c some lt = simp length-append at (ap length (h .made c some lt))
+
   -- the child of q by a holds q's state with a added
   pub child-state : (q a c : ℕ) → IsChild t (length s) q a c → getD s c [] ≡ getD s q [] ++ a ∷ []
   child-state q a c k = h .made c (k .some) (k .node) ∙ rw (k .of, k .by)

@@ -12,6 +12,7 @@ pub mod Growth
 pub mod Kept
 pub mod Walk
 pub mod Build
+pub mod Failure
 pub mod RowWords
 pub mod Laying
 pub mod Filling

@@ -16,7 +16,7 @@ use Rattle.rewriting.specs.Rules.{Rule, RuleSet, ruleInRange, inRange}
 use Rattle.rewriting.proofs.Lists.{and-left, and-right, or-left, or-right, same-eq, same-refl}
 use Rattle.rewriting.proofs.Ranges.{rule-ranges, ranges}
 use Rattle.table.specs.States.{isPrefix, state, next, prefixes, known, numbered, states, number}
-use Rattle.table.proofs.Matching.{state-is-prefix}
+use Rattle.table.proofs.Matching.{state-is-prefix, next-child}
 
 eqb-sym : (x y : ℕ) → eqb x y ≡ eqb y x
 eqb-sym x y = go (eqb x y) refl
@@ -95,6 +95,15 @@ prefix-known rules v e = known-states rules v ∙ or-right (same [] v) (isPrefix
 pub known-prefix : (rules : List Rule) (v : List ℕ) → known (states rules) v ≡ true → (v ≡ []) ⊎ (isPrefix rules v ≡ true)
 known-prefix rules [] e = inl refl
 known-prefix rules (x ∷ v) e = inr (sym (known-states rules (x ∷ v)) ∙ e)
+
+-- a string with a symbol added is a state just where it is a prefix of a left side
+pub known-snoc : (rules : List Rule) (v : List ℕ) (a : ℕ) → known (states rules) (v ++ a ∷ []) ≡ isPrefix rules (v ++ a ∷ [])
+known-snoc rules [] a = known-states rules (a ∷ [])
+known-snoc rules (y ∷ v) a = known-states rules (y ∷ v ++ a ∷ [])
+
+-- and then it is the next state
+pub next-listed : (rules : List Rule) (v : List ℕ) (a : ℕ) → known (states rules) (v ++ a ∷ []) ≡ true → next rules v a ≡ v ++ a ∷ []
+next-listed rules v a k = next-child rules v a (sym (known-snoc rules v a) ∙ k)
 
 -- what a string leads to is a state
 pub state-known : (rules : List Rule) (p : List ℕ) → known (states rules) (state rules p) ≡ true
