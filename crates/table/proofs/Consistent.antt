@@ -26,67 +26,23 @@ use Rattle.rewriting.specs.Occurrences.{lowest, tie, ending}
 use Rattle.rewriting.proofs.Lists.{and-both, prefix-rest, begins-at}
 use Rattle.rewriting.proofs.Ranges.{ranges}
 use Rattle.rewriting.proofs.Choice.{tie-earlier, tie-later, tie-none}
+use Rattle.image.specs.Check.{Decides}
 use Rattle.table.specs.States.{isPrefix, state, next, matching, known, states, number}
 use Rattle.table.specs.Table.{matchWord, tableOf}
+use Rattle.table.specs.Words.{transition, ownOr}
 use Rattle.table.specs.Nodes.{parent, symbol, depth, youngest, older, children, matched, failure, tally, Linked, Trie, Owned, failureBy}
-use Rattle.table.specs.Consistent.{transition, differing, leaving, ownOr, Passes, Passed, RootPassed, RightTable, Decides}
+use Rattle.table.specs.Consistent.{differing, leaving, Passes, Passed, RootPassed, RightTable}
 use Rattle.table.proofs.Matching.{state-drop, state-snoc, state-suffix, next-child, next-fail, matching-fail}
-use Rattle.table.proofs.States.{known-nil, prefix-known, known-prefix, state-known, next-known, number-at, listed-prefix, number-zero, few-states}
+use Rattle.table.proofs.States.{known-nil, prefix-known, known-prefix, state-known, next-known, number-at, listed-prefix, number-zero, few-states, state-long}
+use Rattle.table.proofs.RowPlaces.{row-end, word-within}
+use Rattle.table.proofs.Tally.{tally-agree, tally-same}
+use Rattle.table.proofs.Growth.{state-child}
+use Rattle.table.proofs.Kept.{parent-kept, symbol-kept, children-kept, failure-set, failure-other, matched-same, failure-kept, trie-kept}
 use Rattle.table.proofs.Table.{length-table, table-length, table-states, table-symbols, table-match, table-next, begins-match, begins-next}
-
-module _ (P Q : ℕ → Bool) where
-  -- two tests that agree have the same tally
-  pub tally-agree : (n : ℕ) → ((a : ℕ) → a < n → P a ≡ Q a) → tally P n ≡ tally Q n
-  unfolding tally
-  tally-agree zero h = refl
-  tally-agree (suc n) h = rw (tally-agree n (λ a lt. h a (omega arith)), h n (omega arith))
-
-  tally-less : (n : ℕ) → ((a : ℕ) → a < n → P a ≡ true → Q a ≡ true) → tally P n ≤ tally Q n
-  unfolding tally
-  tally-less zero h = omega arith
-  tally-less (suc n) h = go (P n) refl (Q n) refl (tally-less n (λ a lt. h a (omega arith)))
-    where
-      go : (b : Bool) → P n ≡ b → (c : Bool) → Q n ≡ c → tally P n ≤ tally Q n → tally P n + cond b 1 0 ≤ tally Q n + cond c 1 0
-      go true p true q ih = omega arith
-      go true p false q ih = let e = h n (omega arith) p in let z : _≡_ {A = ℕ} 0 1 = cc in absurd (omega arith)
-      go false p true q ih = omega arith
-      go false p false q ih = omega arith
-
-  -- of two tests, the first of which implies the second, and whose tallies are equal, the second implies the first
-  pub tally-same : (n : ℕ) → ((a : ℕ) → a < n → P a ≡ true → Q a ≡ true) → tally P n ≡ tally Q n
-      → (a : ℕ) → a < n → Q a ≡ true → P a ≡ true
-  unfolding tally
-  tally-same zero h e a lt q = absurd (not-suc-le-zero lt)
-  tally-same (suc n) h e a lt q = go (P n) refl (Q n) refl e (tally-less n (λ a lt. h a (omega arith))) (tally-same n (λ a lt. h a (omega arith)))
-    where
-      last : P n ≡ Q n → (tally P n ≡ tally Q n → (a : ℕ) → a < n → Q a ≡ true → P a ≡ true) → tally P n ≡ tally Q n
-          → (b : Bool) → ltb a n ≡ b → P a ≡ true
-      last agree ih same true l = ih same a (ltb-true a n l) q
-      last agree ih same false l =
-          let here : a ≡ n = omega (arith, ltb-false a n l) in
-          let p : P n ≡ Q n = agree in
-          rw here (p ∙ rw here at q)
-
-      go : (b : Bool) → P n ≡ b → (c : Bool) → Q n ≡ c → tally P n + cond b 1 0 ≡ tally Q n + cond c 1 0 → tally P n ≤ tally Q n
-          → (tally P n ≡ tally Q n → (a : ℕ) → a < n → Q a ≡ true → P a ≡ true) → P a ≡ true
-      go true p true r e less ih = last (p ∙ sym r) ih (omega arith) (ltb a n) refl
-      go true p false r e less ih = let e = h n (omega arith) p in let z : _≡_ {A = ℕ} 0 1 = cc in absurd (omega arith)
-      go false p true r e less ih = absurd (omega arith)
-      go false p false r e less ih = last (p ∙ sym r) ih (omega arith) (ltb a n) refl
-
--- how many words of two rows differ, one word further on
-module _ (x y : ℕ → ℕ) (n : ℕ) where
-  pub tally-differ : (x n ≡ y n → ⊥) → tally (λ k. not (eqb (x k) (y k))) (n + 1) ≡ tally (λ k. not (eqb (x k) (y k))) n + 1
-  unfolding tally
-  tally-differ h = rw (add-one n, ne-eqb (x n) (y n) h)
-
-  pub tally-equal : x n ≡ y n → tally (λ k. not (eqb (x k) (y k))) (n + 1) ≡ tally (λ k. not (eqb (x k) (y k))) n
-  unfolding tally
-  tally-equal h = rw (add-one n, eq-eqb (x n) (y n) h) (omega arith)
 
 -- the match word of two rules that end together, the longer one's first
 pub match-own : (earlier later : Option ℕ) → matchWord (tie earlier later) ≡ ownOr (matchWord earlier) (matchWord later)
-unfolding matchWord ownOr
+unfolding matchWord
 match-own none later = rw tie-later
 match-own (some i) later = go (tie (some i) later) refl
   where
@@ -194,18 +150,8 @@ fallback-match : (rules : List Rule) (v : List ℕ) → 0 < length v
 fallback-match rules [] h = absurd (not-suc-le-zero h)
 fallback-match rules (y ∷ p) h = ap matchWord (matching-fail rules y p) ∙ match-own (lowest rules (y ∷ p)) (matching rules (state rules p))
 
-snoc-inj : (u v : List ℕ) (a b : ℕ) → u ++ a ∷ [] ≡ v ++ b ∷ [] → (u ≡ v) × (a ≡ b)
-snoc-inj u v a b e =
-    let long : length v ≡ length u = omega (arith, simp length-append at (ap length e)) in (
-      sym (take-at u (a ∷ []) (length u) refl) ∙ ap (take (length u)) e ∙ take-at v (b ∷ []) (length u) long,
-      sym (getD-at u a [] 0 (length u) refl) ∙ ap (λ (l : List ℕ). getD l (length u) 0) e ∙ getD-at v b [] 0 (length u) long,
-    )
-
 -- The laws of one trie and one table.
 module _ (rules : List Rule) (symbols : ℕ) (t matches rows : List ℕ) (trie : Trie (states rules) symbols t) where
-  state-long : (c : ℕ) → 0 < c → c < length (states rules) → 0 < length (getD (states rules) c [])
-  state-long c pos lt = omega (arith, simp length-append at (ap length (trie .made c pos lt)))
-
   -- the failure state of a node is right where that of its parent, and the word of that state's row, are
   failure-step : (c : ℕ) → 0 < c → c < length (states rules)
       → (0 < parent t c → failure t (parent t c) ≡ number (states rules) (fallback rules (getD (states rules) (parent t c) [])))
@@ -230,7 +176,7 @@ module _ (rules : List Rule) (symbols : ℕ) (t matches rows : List ℕ) (trie :
           in
           let step : next rules (fallback rules above) (symbol t c) ≡ fallback rules (getD (states rules) c []) =
           state-snoc rules (drop 1 above) (symbol t c)
-          ∙ ap (state rules) (sym (drop-append-le 1 above (symbol t c ∷ []) (state-long (parent t c) high below)))
+          ∙ ap (state rules) (sym (drop-append-le 1 above (symbol t c ∷ []) (state-long rules (parent t c) high below)))
           ∙ ap (fallback rules) (sym (trie .made c pos lt))
           in
           word high ∙ ap (λ (u : List ℕ). number (states rules) (next rules u (symbol t c))) at ∙ ap (number (states rules)) step
@@ -265,7 +211,7 @@ module _ (rules : List Rule) (symbols : ℕ) (t matches rows : List ℕ) (trie :
       let p : ℕ = parent t c in
       let below : p < length (states rules) = omega (arith, trie .linked .up c pos lt) in
       let v : List ℕ = getD (states rules) c [] in
-      let long : 0 < length v = state-long c pos lt in
+      let long : 0 < length v = state-long rules c pos lt in
       let f = fallback-at rules v in
       let inside : failure t c < length (states rules) = omega (arith, fails, f .0) in
       let at : getD (states rules) (failure t c) [] ≡ fallback rules v = ap (λ (n : ℕ). getD (states rules) n []) fails ∙ f .1 in
@@ -291,7 +237,7 @@ module _ (rules : List Rule) (symbols : ℕ) (t matches rows : List ℕ) (trie :
         where
           go : (getD (states rules) c [] ≡ []) ⊎ (isPrefix rules (getD (states rules) c []) ≡ true)
               → next rules (getD (states rules) (parent t c) []) (symbol t c) ≡ getD (states rules) c []
-          go (inl e) = absurd (omega (arith, state-long c pos lt, ap length e))
+          go (inl e) = absurd (omega (arith, state-long rules c pos lt, ap length e))
           go (inr e) = next-child rules (getD (states rules) (parent t c) []) (symbol t c) (rw (← trie .made c pos lt) e) ∙ sym (trie .made c pos lt)
 
   -- The right table passes at node q, whose failure state and those before it were found as the check finds them.
@@ -335,24 +281,9 @@ module _ (rules : List Rule) (symbols : ℕ) (t matches rows : List ℕ) (trie :
       → (c a : ℕ) → c < length (states rules) → known (states rules) (getD (states rules) c [] ++ a ∷ []) ≡ true
       → transition rows symbols c a ≡ number (states rules) (getD (states rules) c [] ++ a ∷ [])
   children-placed led c a lt k =
-      let v : List ℕ = getD (states rules) c [] in
-      let b : ℕ = number (states rules) (v ++ a ∷ []) in
-      let at = number-at (states rules) (v ++ a ∷ []) k in
-      let pos : 0 < b = high b (at .1) in
-      let same = snoc-inj (getD (states rules) (parent t b) []) v (symbol t b) a (sym (trie .made b pos (at .0)) ∙ at .1) in
-      let below : parent t b < length (states rules) = omega (arith, trie .linked .up b pos (at .0), at .0) in
-      let up : parent t b ≡ c = sym (trie .once (parent t b) below) ∙ ap (number (states rules)) (same .0) ∙ trie .once c lt in
-      rw (up, same .1) at (led b pos (at .0))
-    where
-      high : (b : ℕ) → getD (states rules) b [] ≡ getD (states rules) c [] ++ a ∷ [] → 0 < b
-      high b e = go (ltb 0 b) refl
-        where
-          go : (d : Bool) → ltb 0 b ≡ d → 0 < b
-          go true l = ltb-true 0 b l
-          go false l =
-              let none : b ≡ 0 = omega (arith, ltb-false 0 b l) in
-              let empty : getD (states rules) b [] ≡ [] = rw none (trie .root) in
-              absurd (omega (arith, simp length-append at (ap length (sym e ∙ empty))))
+      let at = number-at (states rules) (getD (states rules) c [] ++ a ∷ []) k in
+      let child = state-child (states rules) symbols t trie c a (number (states rules) (getD (states rules) c [] ++ a ∷ [])) lt (at .0) (at .1) in
+      rw (child .of, child .by) at (led (number (states rules) (getD (states rules) c [] ++ a ∷ [])) (child .some) (child .node))
 
   -- state c stands in the table as it should
   record RightState (c : ℕ) : Type 0 where
@@ -403,7 +334,7 @@ module _ (rules : List Rule) (symbols : ℕ) (t matches rows : List ℕ) (trie :
         v = getD (states rules) c []
 
         long : 0 < length v
-        long = state-long c pos lt
+        long = state-long rules c pos lt
 
         p : ℕ
         p = parent t c
@@ -423,7 +354,7 @@ module _ (rules : List Rule) (symbols : ℕ) (t matches rows : List ℕ) (trie :
               arith,
               simp length-append at (ap length (trie .made c pos lt)),
               ap length is,
-              fallback-shorter rules (getD (states rules) p []) (state-long p high below),
+              fallback-shorter rules (getD (states rules) p []) (state-long rules p high below),
             ))
 
         found : failure t c ≡ number (states rules) (fallback rules v)
@@ -455,87 +386,29 @@ module _ (rules : List Rule) (symbols : ℕ) (t matches rows : List ℕ) (trie :
         all zero c lt h = absurd (not-suc-le-zero h)
         all (suc d) c lt h = turn c lt (λ b below less. all d b below (omega arith)) (ltb 0 c) refl
 
--- A node's failure state is kept in its last word, and no other word changes.
+-- A check keeps node q's failure state, and what was tested before stays.
 module _ (t : List ℕ) (q f : ℕ) where
-  kept : (k : ℕ) → (k ≡ 8 * q + 7 → ⊥) → getD (set t (8 * q + 7) f) k 0 ≡ getD t k 0
-  kept k other = getD-set-other t (8 * q + 7) k f 0 other
-
-  parent-kept : (c : ℕ) → parent (set t (8 * q + 7) f) c ≡ parent t c
-  parent-kept c = kept (8 * c) (λ e. omega arith)
-
-  symbol-kept : (c : ℕ) → symbol (set t (8 * q + 7) f) c ≡ symbol t c
-  symbol-kept c = kept (8 * c + 1) (λ e. omega arith)
-
-  depth-kept : (c : ℕ) → depth (set t (8 * q + 7) f) c ≡ depth t c
-  depth-kept c = kept (8 * c + 2) (λ e. omega arith)
-
-  youngest-kept : (c : ℕ) → youngest (set t (8 * q + 7) f) c ≡ youngest t c
-  youngest-kept c = kept (8 * c + 3) (λ e. omega arith)
-
-  older-kept : (c : ℕ) → older (set t (8 * q + 7) f) c ≡ older t c
-  older-kept c = kept (8 * c + 4) (λ e. omega arith)
-
-  children-kept : (c : ℕ) → children (set t (8 * q + 7) f) c ≡ children t c
-  children-kept c = kept (8 * c + 5) (λ e. omega arith)
-
-  matched-kept : (c : ℕ) → matched (set t (8 * q + 7) f) c ≡ matched t c
-  matched-kept c = kept (8 * c + 6) (λ e. omega arith)
-
-  failure-kept : (c : ℕ) → (c ≡ q → ⊥) → failure (set t (8 * q + 7) f) c ≡ failure t c
-  failure-kept c other = kept (8 * c + 7) (λ e. other (omega arith))
-
-  pub failure-set : 8 * q + 7 < length t → failure (set t (8 * q + 7) f) q ≡ f
-  failure-set h = getD-set-same t (8 * q + 7) f 0 h
-
-  linked-kept : (n : ℕ) → Linked t n → Linked (set t (8 * q + 7) f) n
-  linked-kept n l =
-      record {
-        size = rw length-set (l .size);
-        up = λ c pos lt. rw (parent-kept c) (l .up c pos lt);
-        young = λ p lt. rw (youngest-kept p) (l .young p lt);
-        young-of = λ p lt h. rw (youngest-kept p, parent-kept (youngest t p)) (l .young-of p lt (rw (youngest-kept p) at h));
-        young-last = λ p c lt pos less e. rw (youngest-kept p) (l .young-last p c lt pos less (rw (parent-kept c) at e));
-        old = λ c pos lt. rw (older-kept c) (l .old c pos lt);
-        old-of = λ c pos lt h. rw (older-kept c, parent-kept (older t c), parent-kept c) (l .old-of c pos lt (rw (older-kept c) at h));
-        old-next = λ c b pos lt more less e. rw (older-kept c) (l .old-next c b pos lt more less (rw (parent-kept b, parent-kept c) at e));
-      }
-
   module _ {s : List (List ℕ)} {symbols : ℕ} (trie : Trie s symbols t) (lt : q < length s) where
-    pub trie-kept : Trie s symbols (set t (8 * q + 7) f)
-    trie-kept =
-        record {
-          linked = linked-kept (length s) (trie .linked);
-          some-node = trie .some-node;
-          root = trie .root;
-          once = trie .once;
-          made = λ c pos lt. rw (parent-kept c, symbol-kept c) (trie .made c pos lt);
-          small = λ c pos lt. rw (symbol-kept c) (trie .small c pos lt);
-          deep = λ c lt. rw (depth-kept c) (trie .deep c lt);
-          counted = λ c lt. rw (children-kept c) (trie .counted c lt);
-          clear = λ k h. kept k (λ e. omega arith) ∙ trie .clear k h;
-        }
-
-    pub owned-kept : (rules : List Rule) → Owned rules s t → Owned rules s (set t (8 * q + 7) f)
-    owned-kept rules owned c below = matched-kept c ∙ owned c below
-
     -- the way to a failure state leads by nodes before
     pub failureBy-kept : (rows : List ℕ) (c : ℕ) → 0 < c → c ≤ q → failureBy (set t (8 * q + 7) f) rows symbols c ≡ failureBy t rows symbols c
     unfolding failureBy
     failureBy-kept rows c pos less =
         let up = trie .linked .up c pos (omega arith) in
-        rw (parent-kept c, symbol-kept c, failure-kept (parent t c) (λ e. omega arith))
+        let same = failure-kept t q f lt in
+        rw (parent-kept same c, symbol-kept same c, failure-other t q f (parent t c) (λ e. omega arith))
 
     passed-kept : {matches rows : List ℕ} {n c : ℕ} → 0 < c → c < q → Passed t matches rows symbols n c
         → Passed (set t (8 * q + 7) f) matches rows symbols n c
     passed-kept {rows = rows} {c = c} pos less p =
-        let other : failure (set t (8 * q + 7) f) c ≡ failure t c = failure-kept c (λ e. omega arith) in
+        let same = failure-kept t q f lt in
+        let other : failure (set t (8 * q + 7) f) c ≡ failure t c = failure-other t q f c (λ e. omega arith) in
         record {
           failing = other ∙ p .failing ∙ sym (failureBy-kept rows c pos (omega arith));
           inside = rw other (p .inside);
           passing = record {
-            led = rw (parent-kept c, symbol-kept c) (p .passing .led);
-            inherits = rw (matched-kept c, other) (p .passing .inherits);
-            differs = rw (other, children-kept c) (p .passing .differs);
+            led = rw (parent-kept same c, symbol-kept same c) (p .passing .led);
+            inherits = rw (matched-same t q f c, other) (p .passing .inherits);
+            differs = rw (other, children-kept same c) (p .passing .differs);
           };
         }
 
@@ -576,8 +449,8 @@ module _ {rules : List Rule} {symbols : ℕ} {t matches rows : List ℕ} where
       pub wrong-state : (Passes (set t (8 * q + 7) f) matches rows symbols q → ⊥) → RightTable rules symbols matches rows → ⊥
       wrong-state fails right =
           fails
-          (right-passes rules symbols (set t (8 * q + 7) f) matches rows (trie-kept t q f (k .trie) lt) right
-          (owned-kept t q f (k .trie) lt rules (k .owned)) q (k .started) lt (λ c pos less. failing c pos less (ltb c q) refl))
+          (right-passes rules symbols (set t (8 * q + 7) f) matches rows (trie-kept (failure-kept t q f lt) (k .trie)) right
+          (λ c h. matched-same t q f c ∙ k .owned c h) q (k .started) lt (λ c pos less. failing c pos less (ltb c q) refl))
         where
           failing : (c : ℕ) → 0 < c → c ≤ q → (b : Bool) → ltb c q ≡ b
               → failure (set t (8 * q + 7) f) c ≡ failureBy (set t (8 * q + 7) f) rows symbols c
@@ -590,9 +463,9 @@ module _ {rules : List Rule} {symbols : ℕ} {t matches rows : List ℕ} where
           → Checked rules symbols (set t (8 * q + 7) f) matches rows (q + 1)
       checked-more inside passing =
           record {
-            trie = trie-kept t q f (k .trie) lt;
-            owned = owned-kept t q f (k .trie) lt rules (k .owned);
-            root = record { no-match = k .root .no-match; leads = k .root .leads ∙ sym (children-kept t q f 0) };
+            trie = trie-kept (failure-kept t q f lt) (k .trie);
+            owned = λ c h. matched-same t q f c ∙ k .owned c h;
+            root = record { no-match = k .root .no-match; leads = k .root .leads ∙ sym (children-kept (failure-kept t q f lt) 0) };
             started = omega arith;
             passed = λ c pos less. turn c pos less (ltb c q) refl;
           }
@@ -605,26 +478,6 @@ module _ {rules : List Rule} {symbols : ℕ} {t matches rows : List ℕ} where
               let here : c ≡ q = omega (arith, ltb-false c q l) in
               rw here
               (record { failing = found-kept; inside = rw (failure-set t q f room) inside; passing = passing })
-
--- a word of row i, and row i, stand in n rows of s words
-pub word-within : (i n s a : ℕ) → i < n → a < s → i * s + a < n * s
-word-within i n s a lt small =
-    let rows : suc i * s ≤ n * s = mul-le-mul-right s lt in
-    omega (arith, rw suc-mul at rows)
-
-pub row-within : (i n s : ℕ) → i < n → i * s + s ≤ n * s
-row-within i n s lt =
-    let rows : suc i * s ≤ n * s = mul-le-mul-right s lt in
-    omega (arith, rw suc-mul at rows)
-
--- what a test's answer says, where the code goes on or stops by it
-pub decides-no : {P : Type 0} (b : Bool) → not b ≡ true → Decides b P → P → ⊥
-decides-no true e d = let z : _≡_ {A = ℕ} 0 1 = cc in absurd (omega arith)
-decides-no false e d = d
-
-pub decides-yes : {P : Type 0} (b : Bool) → not b ≡ false → Decides b P → P
-decides-yes true e d = d
-decides-yes false e d = let z : _≡_ {A = ℕ} 0 1 = cc in absurd (omega arith)
 
 -- What the check of a table of n states and s symbols holds to when it reaches node q.
 pub record Checking (set : RuleSet) (t matches rows : List ℕ) (n s q : ℕ) : Type 0 where
@@ -646,7 +499,7 @@ module _ (rules : RuleSet) (matches rows : List ℕ) {t : List ℕ} {n s : ℕ} 
       → (s ≤ 32) × ((5 < length t) × ((0 < length matches) × (s ≤ length rows)))
   root-asks words lines =
       let some = trie .some-node in
-      let first : 0 * s + s ≤ n * s = row-within 0 n s (omega arith) in
+      let first : 0 * s + s ≤ n * s = row-end s 0 n (omega arith) in
       let here : n * s ≡ length rows = rw width lines in
       (omega (arith, ranges rules range .few-symbols), (omega (arith, trie .linked .size), (omega arith, omega arith)))
 
@@ -698,7 +551,7 @@ module _ {rules : RuleSet} {t matches rows : List ℕ} {n s q : ℕ} (k : Checki
         row : 0 < parent t q → failure t (parent t q) * s + symbol t q < length rows
         row high =
             let inside : failure t (parent t q) < n = omega (arith, k .all, k .checked .passed (parent t q) high parent-below .inside) in
-            rw (← k .lines) (word-within (failure t (parent t q)) n s (symbol t q) inside symbol-below)
+            rw (← k .lines) (word-within s (failure t (parent t q)) n (symbol t q) inside symbol-below)
 
     pub no-failure : n ≤ failureBy t rows s q → RightTable (rules .rules) (rules .symbols) matches rows → ⊥
     no-failure out right =
@@ -714,15 +567,16 @@ module _ {rules : RuleSet} {t matches rows : List ℕ} {n s q : ℕ} (k : Checki
             × (((q < length matches) × (failure (set t (8 * q + 7) f) q < length matches))
             × ((q * s + s ≤ length rows) × (failure (set t (8 * q + 7) f) q * s + s ≤ length rows)))))
         state-asks =
-            let up = word-within (parent t q) n s (symbol t q) (omega (arith, parent-below)) symbol-below in (
+            let same = failure-kept t q f listed-below in
+            let up = word-within s (parent t q) n (symbol t q) (omega (arith, parent-below)) symbol-below in (
               k .narrow,
               (
                 rw length-set node-room,
                 (
-                  rw (parent-kept t q f q, symbol-kept t q f q, ← k .lines) up,
+                  rw (parent-kept same q, symbol-kept same q, ← k .lines) up,
                   (
                     (omega (arith, k .words), rw (failure-set t q f node-room) (omega (arith, k .words))),
-                    (rw (← k .lines) (row-within q n s lt), rw (failure-set t q f node-room, ← k .lines) (row-within f n s inside)),
+                    (rw (← k .lines) (row-end s q n lt), rw (failure-set t q f node-room, ← k .lines) (row-end s f n inside)),
                   ),
                 ),
               ),
@@ -805,7 +659,7 @@ module _ (rules : RuleSet) (table : List ℕ) {n s : ℕ} (all : n ≡ length (s
             let at : 2 + n + (c * s + a) ≡ 2 + length (states (rules .rules)) + c * rules .symbols + a =
             rw (all, width) (omega arith)
             in
-            rowPart-at table n s (c * s + a) (word-within c n s a (omega arith) small)
+            rowPart-at table n s (c * s + a) (word-within s c n a (omega arith) small)
             ∙ ap (λ (i : ℕ). getD table i 0) at
             ∙ begins-next rules table e c a lt (omega arith);
         right-match = λ c lt. matchPart-at table n s c (omega arith) ∙ begins-match rules table e c lt;

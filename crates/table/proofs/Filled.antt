@@ -1,14 +1,13 @@
 -- Where the filling of the rows begins and ends: with the children laid the empty state is done, and when the states of 8
 -- symbols are done, the rows and match words are the table's, and are written there.
 -- Assumes nothing.
-use Prim.Native.Nat.{ℕ, _+_, _*_, _/_, _%_, _≤_, _<_}
+use Prim.Native.Nat.{ℕ, _+_, _*_, _≤_, _<_}
 use mathlib.Core.Path.{_≡_, refl, sym, ap, _∙_}
 use mathlib.Core.Bool.{Bool, true, false, cond, and-false}
 use mathlib.Core.Logic.{_⊎_, inl, inr}
 use mathlib.Core.Option.{Option, none, some}
 use mathlib.Core.List.{List, [], _∷_, flatMap, map}
 use native.Mathlib.Omega.{arith}
-use native.Mathlib.Nat.{mod-lt, div-add-mod', div-lt-iff-lt-mul}
 use lib.Dec.{eqb}
 use lib.ListN.{length, getD, drop, length-append, length-map, set as store}
 use lib.Seq.{ext-getD, getD-set-same, getD-set-other}
@@ -19,13 +18,15 @@ use Rattle.rewriting.specs.Occurrences.{lowest, ending}
 use Rattle.rewriting.proofs.Lists.{and-left, and-right, or-cases, prefix-rest, length-flatMap, getD-flatMap, getD-map}
 use Rattle.rewriting.proofs.Ranges.{rule-ranges, ranges, rule-at}
 use Rattle.rewriting.proofs.Scan.{lowest-left}
-use Rattle.table.specs.States.{isPrefix, state, next, matching, states, number}
+use Rattle.table.specs.States.{isPrefix, next, known, matching, states, number}
 use Rattle.table.specs.Table.{matchWord, row}
+use Rattle.table.specs.Words.{text, transition}
 use Rattle.table.specs.Nodes.{matched, Trie, Owned}
-use Rattle.table.specs.Rows.{entry, text, childNumber, Laid, reached, FillingAt, Matched, Filled}
-use Rattle.table.proofs.States.{known-states, listed-prefix, number-zero, state-zero}
+use Rattle.table.specs.Rows.{childNumber, Laid, reached, FillingAt, Matched, Filled}
+use Rattle.table.proofs.States.{next-listed, listed-prefix, number-zero, state-zero, state-long}
+use Rattle.table.proofs.RowPlaces.{place-parts}
+use Rattle.table.proofs.Failure.{next-root}
 use Rattle.table.proofs.Table.{length-row, row-at}
-use Rattle.table.proofs.Filling.{first-symbol}
 use Rattle.table.proofs.Turns.{reached-shorter}
 
 -- no left side is empty, so the empty state has no match word
@@ -42,20 +43,18 @@ root-match set e = ap matchWord (go (lowest (set .rules) []) refl)
 
 -- the row of the empty state has its children alone
 root-row : (rules : List Rule) (a : ℕ) → childNumber (states rules) [] a ≡ number (states rules) (next rules [] a)
-unfolding childNumber next state
-root-row rules a = rw (known-states rules (a ∷ [])) (go (isPrefix rules (a ∷ [])))
+unfolding childNumber
+root-row rules a = go (known (states rules) (a ∷ [])) refl
   where
-    go : (b : Bool) → cond b (number (states rules) (a ∷ [])) 0 ≡ number (states rules) (cond b (a ∷ []) [])
-    go true = refl
-    go false = sym (number-zero rules)
+    go : (b : Bool) → known (states rules) (a ∷ []) ≡ b → cond b (number (states rules) (a ∷ [])) 0 ≡ number (states rules) (next rules [] a)
+    go true e = ap (number (states rules)) (sym (next-listed rules [] a e))
+    go false e = sym (ap (number (states rules)) (next-root rules a e) ∙ number-zero rules)
 
 -- the states longer than the empty one are not done at the start
 reached-root : (rules : List Rule) (c : ℕ) → 0 < c → c < length (states rules) → reached (states rules) 1 1 c ≡ false
 unfolding reached
 reached-root rules c pos below =
-    let (y, w, string) = first-symbol rules c pos below in
-    let size = ap length string in
-    rw (le-ltb (length (getD (states rules) c [])) 1 (omega arith), le-ltb c 1 pos, and-false)
+    rw (le-ltb (length (getD (states rules) c [])) 1 (state-long rules c pos below), le-ltb c 1 pos, and-false)
 
 -- With the children laid, the empty state is done.
 pub filling-start : (set : RuleSet) (t rows : List ℕ) → inRange set ≡ true → Trie (states (set .rules)) (set .symbols) t
@@ -82,7 +81,7 @@ filling-start set t rows e trie owned laid =
     root = let size = ap length (state-zero rules) in reached-shorter s 1 1 0 (omega arith)
 
     match : (c : ℕ) → c < length s → (b : Bool) → eqb c 0 ≡ b
-        → matched t c ≡ cond (reached s 1 1 c) (matchWord (matching rules (text set c))) (matchWord (lowest rules (text set c)))
+        → matched t c ≡ cond (reached s 1 1 c) (matchWord (matching rules (text (set .rules) c))) (matchWord (lowest rules (text (set .rules) c)))
     match c h true p =
         let same : c ≡ 0 = eqb-true c 0 p in
         let own : matched t 0 ≡ matchWord (lowest rules []) = rw state-zero at (owned 0 (rw same at h)) in
@@ -92,10 +91,10 @@ filling-start set t rows e trie owned laid =
         rw (reached-root rules c (omega (arith, differs)) h) (owned c h)
 
     word : (c a : ℕ) → c < length s → a < set .symbols → (b : Bool) → eqb c 0 ≡ b
-        → entry (set .symbols) rows c a ≡ cond (reached s 1 1 c) (number s (next rules (text set c) a)) (childNumber s (text set c) a)
+        → transition rows (set .symbols) c a ≡ cond (reached s 1 1 c) (number s (next rules (text (set .rules) c) a)) (childNumber s (text (set .rules) c) a)
     word c a h k true p =
         let same : c ≡ 0 = eqb-true c 0 p in
-        let own : entry (set .symbols) rows 0 a ≡ childNumber s [] a = rw state-zero at (laid .table 0 a (rw same at h) k) in
+        let own : transition rows (set .symbols) 0 a ≡ childNumber s [] a = rw state-zero at (laid .table 0 a (rw same at h) k) in
         rw (same, root, state-zero) (own ∙ root-row rules a)
     word c a h k false p =
         let differs = eqb-false c 0 p in
@@ -119,17 +118,17 @@ prefix-short set (r ∷ rules) e v p =
         omega (arith, own .short-left)
     go (inr h) ih = ih h
 
-short-state : (set : RuleSet) → inRange set ≡ true → (c : ℕ) → c < length (states (set .rules)) → length (text set c) ≤ 8
+short-state : (set : RuleSet) → inRange set ≡ true → (c : ℕ) → c < length (states (set .rules)) → length (text (set .rules) c) ≤ 8
 short-state set e c h = go (listed-prefix (set .rules) c h)
   where
-    go : (text set c ≡ []) ⊎ (isPrefix (set .rules) (text set c) ≡ true) → length (text set c) ≤ 8
+    go : (text (set .rules) c ≡ []) ⊎ (isPrefix (set .rules) (text (set .rules) c) ≡ true) → length (text (set .rules) c) ≤ 8
     go (inl p) = let size = ap length p in omega arith
-    go (inr p) = prefix-short set (set .rules) (ranges set e .all-rules) (text set c) p
+    go (inr p) = prefix-short set (set .rules) (ranges set e .all-rules) (text (set .rules) c) p
 
 -- rows of the next states, word by word, are the rows of the table
 rows-whole : (set : RuleSet) (rows : List ℕ) → 0 < set .symbols → length rows ≡ length (states (set .rules)) * set .symbols
     → ((c a : ℕ) → c < length (states (set .rules)) → a < set .symbols
-    → entry (set .symbols) rows c a ≡ number (states (set .rules)) (next (set .rules) (text set c) a))
+    → transition rows (set .symbols) c a ≡ number (states (set .rules)) (next (set .rules) (text (set .rules) c) a))
     → rows ≡ flatMap (row set) (states (set .rules))
 rows-whole set rows pos size each =
     ext-getD 0 rows (flatMap (row set) s) (size ∙ sym (length-flatMap (row set) (set .symbols) (length-row set) s)) word
@@ -139,11 +138,7 @@ rows-whole set rows pos size each =
 
     word : (k : ℕ) → k < length rows → getD rows k 0 ≡ getD (flatMap (row set) s) k 0
     word k h =
-        let q : ℕ = k / set .symbols in
-        let a : ℕ = k % set .symbols in
-        let low : a < set .symbols = mod-lt k pos in
-        let listed : q < length s = div-lt-iff-lt-mul pos .1 (rw size at h) in
-        let place : q * set .symbols + a ≡ k = div-add-mod' k (set .symbols) in
+        let (q, a, listed, low, place) = place-parts (set .symbols) (length s) k pos (rw size at h) in
         ap (λ (i : ℕ). getD rows i 0) (sym place)
         ∙ each q a listed low
         ∙ sym (row-at set (getD s q []) a low)

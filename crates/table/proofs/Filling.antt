@@ -1,147 +1,68 @@
 -- How a state is filled from its failure state: its row, its match word, and what then holds of all states.
 -- Assumes nothing.
-use Prim.Native.Nat.{ℕ, suc, _+_, _*_, _≤_, _<_}
+use Prim.Native.Nat.{ℕ, _+_, _*_, _≤_, _<_}
 use mathlib.Core.Path.{_≡_, refl, sym, ap, _∙_}
 use mathlib.Core.Bool.{Bool, true, false, cond}
 use mathlib.Core.Logic.{_⊎_, ⊎-elim}
-use mathlib.Core.Option.{Option, none, some}
 use mathlib.Core.List.{List, [], _∷_, _++_}
 use native.Mathlib.Omega.{arith}
 use lib.Dec.{eqb}
-use lib.ListN.{length, getD, drop, length-append}
+use lib.ListN.{length}
 use borrow.Author.Tests.{eqb-true, eqb-false, ne-eqb}
 use Rattle.rewriting.specs.Rules.{Rule, RuleSet}
-use Rattle.rewriting.specs.Occurrences.{lowest, tie}
-use Rattle.rewriting.proofs.Choice.{tie-earlier, tie-later, tie-none}
-use Rattle.table.specs.States.{state, next, matching, known, states, number}
+use Rattle.rewriting.specs.Occurrences.{lowest}
+use Rattle.table.specs.States.{next, matching, known, states, number}
 use Rattle.table.specs.Table.{matchWord}
+use Rattle.table.specs.Words.{text, failureState, transition, ownOr}
 use Rattle.table.specs.Nodes.{parent, symbol, matched, failure, failureBy}
-use Rattle.table.specs.Rows.{entry, text, childNumber, Merged, Noted, Filling}
-use Rattle.table.proofs.Matching.{state-snoc, state-suffix, next-child, next-fail, matching-fail}
-use Rattle.table.proofs.States.{known-states, state-known, number-at, number-back, number-zero}
-use Rattle.table.proofs.RowWords.{row-apart, trie-keeps}
-use Rattle.table.proofs.Laying.{child-some}
+use Rattle.table.specs.Rows.{childNumber, Merged, Noted, Filling}
+use Rattle.table.proofs.States.{next-listed, child-some, state-long}
+use Rattle.table.proofs.RowPlaces.{row-apart}
+use Rattle.table.proofs.Growth.{parent-shorter}
+use Rattle.table.proofs.Kept.{trie-kept, noted-kept}
+use Rattle.table.proofs.Failure.{FailsTo, fails-to, next-failure, match-failure, failure-found}
 
--- each state but the empty one has a first symbol
-pub first-symbol : (rules : List Rule) (c : ℕ) → 0 < c → c < length (states rules)
-    → (y : ℕ) × (w : List ℕ) × (getD (states rules) c [] ≡ y ∷ w)
-first-symbol rules c pos below = go (getD (states rules) c []) refl
-  where
-    go : (v : List ℕ) → getD (states rules) c [] ≡ v → (y : ℕ) × (w : List ℕ) × (getD (states rules) c [] ≡ y ∷ w)
-    go [] e =
-        let zero-too : c ≡ 0 = sym (number-back rules c below) ∙ ap (number (states rules)) e ∙ number-zero rules in
-        absurd (omega arith)
-    go (y ∷ w) e = (y, w, e)
-
--- the state of a string is no longer than the string
-length-state : (rules : List Rule) (p : List ℕ) → length (state rules p) ≤ length p
-length-state rules p =
-    let (u, e) = state-suffix rules p in
-    omega (arith, simp length-append at (ap length e))
-
--- where the state of a string is listed
-pub record Listed (rules : List Rule) (p : List ℕ) (f : ℕ) : Type 0 where
-  pub place : f < length (states rules)
-  pub string : getD (states rules) f [] ≡ state rules p
-  pub short : length (getD (states rules) f []) ≤ length p
-
-pub listed : (rules : List Rule) (p : List ℕ) (f : ℕ) → f ≡ number (states rules) (state rules p) → Listed rules p f
-listed rules p f e =
-    let at = number-at (states rules) (state rules p) (state-known rules p) in
-    let there : getD (states rules) f [] ≡ state rules p = ap (λ (i : ℕ). getD (states rules) i []) e ∙ at .1 in
-    record {
-      place = rw e (at .0);
-      string = there;
-      short = rw there (length-state rules p);
-    }
-
--- the row of a state with a first symbol: its children, and for the other symbols the words of its failure state's row
-row-filled : (rules : List Rule) (y : ℕ) (w : List ℕ) (a : ℕ)
-    → cond (eqb (childNumber (states rules) (y ∷ w) a) 0) (number (states rules) (next rules (state rules w) a))
-    (childNumber (states rules) (y ∷ w) a)
-    ≡ number (states rules) (next rules (y ∷ w) a)
+-- the row of a state: its children, and for the other symbols the words of its failure state's row
+row-filled : (rules : List Rule) (v : List ℕ) → 0 < length v → (a : ℕ)
+    → ownOr (childNumber (states rules) v a) (number (states rules) (next rules (failureState rules v) a))
+    ≡ number (states rules) (next rules v a)
 unfolding childNumber
-row-filled rules y w a = go (known s (y ∷ w ++ a ∷ [])) refl
+row-filled rules v long a = go (known (states rules) (v ++ a ∷ [])) refl
   where
-    s : List (List ℕ)
-    s = states rules
-
-    go : (b : Bool) → known s (y ∷ w ++ a ∷ []) ≡ b
-        → cond (eqb (cond b (number s (y ∷ w ++ a ∷ [])) 0) 0) (number s (next rules (state rules w) a))
-        (cond b (number s (y ∷ w ++ a ∷ [])) 0)
-        ≡ number s (next rules (y ∷ w) a)
+    go : (b : Bool) → known (states rules) (v ++ a ∷ []) ≡ b
+        → ownOr (cond b (number (states rules) (v ++ a ∷ [])) 0) (number (states rules) (next rules (failureState rules v) a))
+        ≡ number (states rules) (next rules v a)
     go true e =
-        rw (ne-eqb (number s (y ∷ w ++ a ∷ [])) 0 (child-some rules (y ∷ w) a e))
-        (ap (number s) (sym (next-child rules (y ∷ w) a (sym (known-states rules (y ∷ w ++ a ∷ [])) ∙ e))))
-    go false e = ap (number s) (sym (next-fail rules y w a (sym (known-states rules (y ∷ w ++ a ∷ [])) ∙ e)))
-
--- where there is an earlier occurrence, it is taken
-tie-own : (i : ℕ) (later : Option ℕ) → tie (some i) later ≡ some i
-tie-own i later = go (tie (some i) later) refl
-  where
-    go : (o : Option ℕ) → tie (some i) later ≡ o → o ≡ some i
-    go none e = sym (tie-none (some i) later e .0)
-    go (some k) e = ap some (tie-earlier (some i) later k i e refl)
-
--- its match word: that of its own left side, or where there is none of its failure state
-match-filled : (rules : List Rule) (y : ℕ) (w : List ℕ)
-    → cond (eqb (matchWord (lowest rules (y ∷ w))) 0) (matchWord (matching rules (state rules w))) (matchWord (lowest rules (y ∷ w)))
-    ≡ matchWord (matching rules (y ∷ w))
-unfolding matchWord
-match-filled rules y w = rw (matching-fail rules y w) (go (lowest rules (y ∷ w)) (matching rules (state rules w)))
-  where
-    go : (own other : Option ℕ) → cond (eqb (matchWord own) 0) (matchWord other) (matchWord own) ≡ matchWord (tie own other)
-    go none other = rw (tie-later other)
-    go (some i) other = rw (tie-own i other, ne-eqb (suc i) 0 (λ e. omega arith))
+        rw (ne-eqb (number (states rules) (v ++ a ∷ [])) 0 (child-some rules v a e))
+        (ap (number (states rules)) (sym (next-listed rules v a e)))
+    go false e = ap (number (states rules)) (sym (next-failure rules v long a e))
 
 -- State q, whose turn it is: every shorter state is done.
 module _ (set : RuleSet) (done : ℕ → Bool) (t rows : List ℕ) (filling : Filling set done t rows) (q : ℕ) (pos : 0 < q)
     (below : q < length (states (set .rules)))
-    (shorter : (c : ℕ) → c < length (states (set .rules)) → length (text set c) < length (text set q) → done c ≡ true)
+    (shorter : (c : ℕ) → c < length (states (set .rules)) → length (text (set .rules) c) < length (text (set .rules) q) → done c ≡ true)
   where
-    -- its failure state is the state of its string without the first symbol
-    pub failure-found : failureBy t rows (set .symbols) q ≡ number (states (set .rules)) (state (set .rules) (drop 1 (text set q)))
-    unfolding failureBy state
-    failure-found = go (eqb (parent t q) 0) refl
-      where
-        rules : List Rule
-        rules = set .rules
+    up : parent t q < length (states (set .rules))
+    up = omega (arith, filling .trie .linked .up q pos below)
 
-        s : List (List ℕ)
-        s = states rules
+    size : length (text (set .rules) q) ≡ length (text (set .rules) (parent t q)) + 1
+    size = parent-shorter (states (set .rules)) (set .symbols) t (filling .trie) q pos below
 
-        made : getD s q [] ≡ getD s (parent t q) [] ++ symbol t q ∷ []
-        made = filling .trie .made q pos below
+    kept : 0 < parent t q → failure t (parent t q) ≡ number (states (set .rules)) (failureState (set .rules) (text (set .rules) (parent t q)))
+    kept high = filling .failures (parent t q) high up (shorter (parent t q) up (omega (arith, size)))
 
-        -- by the failure state of the parent, whose string is y ∷ w
-        by-parent : 0 < parent t q → parent t q < length s → (y : ℕ) (w : List ℕ) → getD s (parent t q) [] ≡ y ∷ w
-            → getD rows (failure t (parent t q) * set .symbols + symbol t q) 0 ≡ number s (state rules (drop 1 (getD s q [])))
-        by-parent pos-up below-up y w string =
-            let whole : getD s q [] ≡ y ∷ w ++ symbol t q ∷ [] = rw string at made in
-            let size : length (getD s q []) ≡ suc (length w) + 1 = simp length-append at (ap length whole) in
-            let size-up : length (getD s (parent t q) []) ≡ suc (length w) = ap length string in
-            let f : failure t (parent t q) ≡ number s (state rules w) =
-            rw string at (filling .failures (parent t q) pos-up below-up (shorter (parent t q) below-up (omega arith)))
-            in
-            let l = listed rules w (failure t (parent t q)) f in
-            let final = shorter (failure t (parent t q)) (l .place) (omega (arith, l .short)) in
-            rw final at (filling .table (failure t (parent t q)) (symbol t q) (l .place) (filling .trie .small q pos below))
-            ∙ ap (λ (v : List ℕ). number s (next rules v (symbol t q))) (l .string)
-            ∙ ap (number s) (state-snoc rules w (symbol t q))
-            ∙ ap (λ (v : List ℕ). number s (state rules (drop 1 v))) (sym whole)
+    -- so are its parent and its parent's failure state
+    pub parent-fails : 0 < parent t q → FailsTo (set .rules) (text (set .rules) (parent t q)) (failure t (parent t q))
+    parent-fails high = fails-to (set .rules) (text (set .rules) (parent t q)) (state-long (set .rules) (parent t q) high up) (failure t (parent t q)) (kept high)
 
-        go : (b : Bool) → eqb (parent t q) 0 ≡ b
-            → cond b 0 (getD rows (failure t (parent t q) * set .symbols + symbol t q) 0) ≡ number s (state rules (drop 1 (getD s q [])))
-        go true e =
-            let root : getD s (parent t q) [] ≡ [] = ap (λ (i : ℕ). getD s i []) (eqb-true (parent t q) 0 e) ∙ filling .trie .root in
-            rw (made, root) (sym (number-zero rules))
-        go false e =
-            let up : parent t q < q = filling .trie .linked .up q pos below in
-            let differs = eqb-false (parent t q) 0 e in
-            let pos-up : 0 < parent t q = omega (arith, differs) in
-            let below-up : parent t q < length s = omega arith in
-            let (y, w, string) = first-symbol rules (parent t q) pos-up below-up in
-            by-parent pos-up below-up y w string
+    -- by which its own is found
+    pub own-failure : failureBy t rows (set .symbols) q ≡ number (states (set .rules)) (failureState (set .rules) (text (set .rules) q))
+    own-failure =
+        failure-found (set .rules) (set .symbols) t rows (filling .trie) q pos below kept
+        (λ high.
+        let f = parent-fails high in
+        let final = shorter (failure t (parent t q)) (f .place) (omega (arith, f .short, size)) in
+        rw final at (filling .table (failure t (parent t q)) (symbol t q) (f .place) (filling .trie .small q pos below)))
 
     -- with it, its match word and its row q is done too
     pub state-filled : (done′ : ℕ → Bool) (t′ rows′ : List ℕ) (f : ℕ) → done q ≡ false → done′ q ≡ true
@@ -149,7 +70,7 @@ module _ (set : RuleSet) (done : ℕ → Bool) (t rows : List ℕ) (filling : Fi
         → Merged rows rows′ (set .symbols) q f (set .symbols) → Filling set done′ t′ rows′
     state-filled done′ t′ rows′ f not-yet own others is noted merged =
         record {
-          trie = trie-keeps s (set .symbols) t t′ q f below (filling .trie) noted;
+          trie = trie-kept (noted-kept below noted) (filling .trie);
           size = merged .size ∙ filling .size;
           matches = λ c h. match c h (eqb c q) refl;
           failures = λ c pos₂ h e. failing c pos₂ h e (eqb c q) refl;
@@ -162,58 +83,49 @@ module _ (set : RuleSet) (done : ℕ → Bool) (t rows : List ℕ) (filling : Fi
         s : List (List ℕ)
         s = states rules
 
-        y : ℕ
-        y = first-symbol rules q pos below .0
+        v : List ℕ
+        v = text rules q
 
-        w : List ℕ
-        w = first-symbol rules q pos below .1
+        long : 0 < length v
+        long = state-long rules q pos below
 
-        string : text set q ≡ y ∷ w
-        string = first-symbol rules q pos below .2
-
-        f-is : f ≡ number s (state rules w)
-        f-is = is ∙ failure-found ∙ ap (λ (v : List ℕ). number s (state rules (drop 1 v))) string
-
-        l : Listed rules w f
-        l = listed rules w f f-is
+        l : FailsTo rules v f
+        l = fails-to rules v long f (is ∙ own-failure)
 
         f-done : done f ≡ true
-        f-done =
-            let size : length (text set q) ≡ suc (length w) = ap length string in
-            let short : length (text set f) ≤ length w = l .short in
-            shorter f (l .place) (omega arith)
+        f-done = shorter f (l .place) (l .short)
 
         match : (c : ℕ) → c < length s → (b : Bool) → eqb c q ≡ b
-            → matched t′ c ≡ cond (done′ c) (matchWord (matching rules (text set c))) (matchWord (lowest rules (text set c)))
+            → matched t′ c ≡ cond (done′ c) (matchWord (matching rules (text (set .rules) c))) (matchWord (lowest rules (text (set .rules) c)))
         match c h true e =
             let same : c ≡ q = eqb-true c q e in
-            let mine : matched t q ≡ matchWord (lowest rules (y ∷ w)) = rw (not-yet, string) at (filling .matches q below) in
-            let other : matched t f ≡ matchWord (matching rules (state rules w)) = rw (f-done, l .string) at (filling .matches f (l .place)) in
-            rw (same, own, string, noted .own-match, mine, other) (match-filled rules y w)
+            let mine : matched t q ≡ matchWord (lowest rules v) = rw not-yet at (filling .matches q below) in
+            let other : matched t f ≡ matchWord (matching rules (failureState rules v)) = rw (f-done, l .string) at (filling .matches f (l .place)) in
+            rw (same, own, noted .own-match, mine, other) (sym (match-failure rules v long))
         match c h false e =
             let differs = eqb-false c q e in
             rw (others c differs)
             (noted .rest (8 * c + 6) (λ p. differs (omega arith)) (λ p. omega arith) ∙ filling .matches c h)
 
         failing : (c : ℕ) → 0 < c → c < length s → done′ c ≡ true → (b : Bool) → eqb c q ≡ b
-            → failure t′ c ≡ number s (state rules (drop 1 (text set c)))
+            → failure t′ c ≡ number s (failureState rules (text rules c))
         failing c pos₂ h e true p =
             let same : c ≡ q = eqb-true c q p in
-            rw same (noted .own-failure ∙ is ∙ failure-found)
+            rw same (noted .own-failure ∙ is ∙ own-failure)
         failing c pos₂ h e false p =
             let differs = eqb-false c q p in
             noted .rest (8 * c + 7) (λ x. omega arith) (λ x. differs (omega arith))
             ∙ filling .failures c pos₂ h (sym (others c differs) ∙ e)
 
         word : (c a : ℕ) → c < length s → a < set .symbols → (b : Bool) → eqb c q ≡ b
-            → entry (set .symbols) rows′ c a ≡ cond (done′ c) (number s (next rules (text set c) a)) (childNumber s (text set c) a)
+            → transition rows′ (set .symbols) c a ≡ cond (done′ c) (number s (next rules (text (set .rules) c) a)) (childNumber s (text (set .rules) c) a)
         word c a h k true e =
             let same : c ≡ q = eqb-true c q e in
-            let mine : entry (set .symbols) rows q a ≡ childNumber s (y ∷ w) a = rw (not-yet, string) at (filling .table q a below k) in
-            let other : entry (set .symbols) rows f a ≡ number s (next rules (state rules w) a) =
+            let mine : transition rows (set .symbols) q a ≡ childNumber s v a = rw not-yet at (filling .table q a below k) in
+            let other : transition rows (set .symbols) f a ≡ number s (next rules (failureState rules v) a) =
             rw (f-done, l .string) at (filling .table f a (l .place) k)
             in
-            rw (same, own, string, merged .own a k, mine, other) (row-filled rules y w a)
+            rw (same, own, merged .own a k, mine, other) (row-filled rules v long a)
         word c a h k false e =
             let differs = eqb-false c q e in
             rw (others c differs)

@@ -22,12 +22,9 @@ use Rattle.table.specs.Nodes.{
   parent,
   symbol,
   depth,
-  youngest,
-  older,
   children,
   matched,
   tally,
-  Linked,
   Trie,
   Owned,
   IsChild,
@@ -36,7 +33,7 @@ use Rattle.table.specs.Nodes.{
   New,
   Followed,
 }
-use Rattle.table.proofs.States.{known-append, known-at, number-at, once-new}
+use Rattle.table.proofs.States.{snoc-parts, snoc-some, known-append, known-at, number-at, once-new}
 use Rattle.table.proofs.Tally.{tally-agree, tally-none, tally-more}
 use Rattle.table.proofs.Nodes.{
   added-size,
@@ -55,30 +52,14 @@ use Rattle.table.proofs.Nodes.{
   linked-added,
 }
 
--- a string is known by what it was before its last symbol, and that symbol
-pub snoc-parts : (u w : List ℕ) (x y : ℕ) → u ++ x ∷ [] ≡ w ++ y ∷ [] → (u ≡ w) × (x ≡ y)
-snoc-parts [] [] x y e = (refl, cc)
-snoc-parts [] (z ∷ w) x y e =
-    let n : 1 ≡ suc (length (w ++ y ∷ [])) = ap length e in
-    absurd (omega (arith, simp length-append at n))
-snoc-parts (z ∷ u) [] x y e =
-    let n : suc (length (u ++ x ∷ [])) ≡ 1 = ap length e in
-    absurd (omega (arith, simp length-append at n))
-snoc-parts (z ∷ u) (z′ ∷ w) x y e =
-    let rest : u ++ x ∷ [] ≡ w ++ y ∷ [] = cc in
-    let first : z ≡ z′ = cc in
-    let ih = snoc-parts u w x y rest in
-    (rw (first, ih .0), ih .1)
-
-pub snoc-some : (u : List ℕ) (x : ℕ) → u ++ x ∷ [] ≡ [] → ⊥
-snoc-some u x e =
-    let n : length (u ++ x ∷ []) ≡ 0 = ap length e in
-    omega (arith, simp length-append at n)
-
 module _ (s : List (List ℕ)) (symbols : ℕ) (t : List ℕ) (h : Trie s symbols t) where
   -- no two nodes hold one state
   pub node-once : (i j : ℕ) → i < length s → j < length s → getD s i [] ≡ getD s j [] → i ≡ j
   node-once i j hi hj e = sym (h .once i hi) ∙ rw e (h .once j hj)
+
+  -- a state has a symbol more than its parent
+  pub parent-shorter : (c : ℕ) → 0 < c → c < length s → length (getD s c []) ≡ length (getD s (parent t c) []) + 1
+  parent-shorter c some lt = simp length-append at (ap length (h .made c some lt))
 
   -- the child of q by a holds q's state with a added
   pub child-state : (q a c : ℕ) → IsChild t (length s) q a c → getD s c [] ≡ getD s q [] ++ a ∷ []
@@ -310,55 +291,3 @@ module _ (s : List (List ℕ)) (symbols : ℕ) (t : List ℕ) (h : Trie s symbol
   pub stepped : (w : Walked) (t′ : List ℕ) → Followed t (length s) q a w t′ → Stepped w t′
   stepped w t′ (inl f) = stepped-found w t′ f
   stepped w t′ (inr f) = stepped-new w t′ f
-
--- words that stay when only match words and failure states of nodes change
-pub record Kept (n : ℕ) (t t′ : List ℕ) : Type 0 where
-  pub size : length t′ ≡ length t
-  pub word : (c k : ℕ) → c < n → k < 6 → getD t′ (8 * c + k) 0 ≡ getD t (8 * c + k) 0
-  pub behind : (k : ℕ) → 8 * n ≤ k → getD t′ k 0 ≡ getD t k 0
-
-module _ (s : List (List ℕ)) (symbols : ℕ) (t t′ : List ℕ) (kept : Kept (length s) t t′) where
-  kept-parent : (c : ℕ) → c < length s → parent t′ c ≡ parent t c
-  kept-parent c h =
-      let z : 8 * c + 0 ≡ 8 * c = omega arith in
-      rw z at (kept .word c 0 h (omega arith))
-
-  pub linked-kept : Linked t (length s) → Linked t′ (length s)
-  linked-kept l =
-      record {
-        size = rw (kept .size) (l .size);
-        up = λ c some h. rw (kept-parent c h) (l .up c some h);
-        young = λ q h. rw (youngest-kept q h) (l .young q h);
-        young-of = λ q h some.
-            rw (youngest-kept q h)
-            (kept-parent (youngest t q) (l .young q h) ∙ l .young-of q h (rw (youngest-kept q h) at some));
-        young-last = λ q c h some k e. rw (youngest-kept q h) (l .young-last q c h some k (sym (kept-parent c k) ∙ e));
-        old = λ c some h. rw (older-kept c h) (l .old c some h);
-        old-of = λ c some h more.
-            rw (older-kept c h, kept-parent c h)
-            (kept-parent (older t c) (omega (arith, l .old c some h)) ∙ l .old-of c some h (rw (older-kept c h) at more));
-        old-next = λ c b some h pos less e.
-            rw (older-kept c h)
-            (l .old-next c b some h pos less (sym (kept-parent b (omega arith)) ∙ e ∙ kept-parent c h));
-      }
-    where
-      youngest-kept : (c : ℕ) → c < length s → youngest t′ c ≡ youngest t c
-      youngest-kept c h = kept .word c 3 h (omega arith)
-
-      older-kept : (c : ℕ) → c < length s → older t′ c ≡ older t c
-      older-kept c h = kept .word c 4 h (omega arith)
-
-  -- The trie stays the trie.
-  pub trie-kept : Trie s symbols t → Trie s symbols t′
-  trie-kept h =
-      record {
-        linked = linked-kept (h .linked);
-        some-node = h .some-node;
-        root = h .root;
-        once = h .once;
-        made = λ c some k. rw (kept-parent c k, kept .word c 1 k (omega arith)) (h .made c some k);
-        small = λ c some k. rw (kept .word c 1 k (omega arith)) (h .small c some k);
-        deep = λ c k. rw (kept .word c 2 k (omega arith)) (h .deep c k);
-        counted = λ c k. rw (kept .word c 5 k (omega arith)) (h .counted c k);
-        clear = λ k far. kept .behind k far ∙ h .clear k far;
-      }

@@ -6,28 +6,17 @@ use mathlib.Core.Bool.{Bool, true, false, cond, _&&_}
 use mathlib.Core.List.{List, [], _∷_, _++_}
 use native.Mathlib.Omega.{arith}
 use lib.Dec.{eqb, ltb}
-use lib.ListN.{length, getD, replicate, length-append, getD-replicate, set as store}
+use lib.ListN.{length, getD, replicate, getD-replicate, set as store}
 use lib.Seq.{getD-set-same, getD-set-other}
 use borrow.Author.Tests.{ltb-true, ltb-false, eqb-true, eqb-false, lt-ltb, le-ltb}
 use Rattle.rewriting.specs.Rules.{Rule, RuleSet, inRange}
 use Rattle.table.specs.States.{known, states, number}
+use Rattle.table.specs.Words.{text, transition}
 use Rattle.table.specs.Nodes.{parent, symbol, Trie}
-use Rattle.table.specs.Rows.{entry, text, childNumber, Laid}
-use Rattle.table.proofs.States.{number-at, known-at, number-back, state-zero, few-states}
-use Rattle.table.proofs.RowWords.{row-end, place-row}
-
--- Strings with a symbol added at their end.
-snoc-some : (v : List ℕ) (a : ℕ) → v ++ a ∷ [] ≡ [] → ⊥
-snoc-some v a e = omega (arith, simp length-append at (ap length e))
-
-snoc-eq : (u v : List ℕ) (a b : ℕ) → u ++ a ∷ [] ≡ v ++ b ∷ [] → (u ≡ v) × (a ≡ b)
-snoc-eq [] [] a b e = (refl, (cc))
-snoc-eq [] (y ∷ v) a b e = absurd (omega (arith, simp length-append at (ap length e)))
-snoc-eq (x ∷ u) [] a b e = absurd (omega (arith, simp length-append at (ap length e)))
-snoc-eq (x ∷ u) (y ∷ v) a b e =
-    let t : u ++ a ∷ [] ≡ v ++ b ∷ [] = cc in
-    let ih = snoc-eq u v a b t in
-    ((cc), ih .1)
+use Rattle.table.specs.Rows.{childNumber, Laid}
+use Rattle.table.proofs.States.{number-at, known-at, number-back, child-some, few-states}
+use Rattle.table.proofs.RowPlaces.{row-end, place-row, word-within}
+use Rattle.table.proofs.Growth.{state-child}
 
 -- the number of the string v where it is a state below n, else 0
 unfoldable pub numberBelow : List (List ℕ) → ℕ → List ℕ → ℕ
@@ -63,15 +52,6 @@ module _ (s : List (List ℕ)) where
       go true e = rw (lt-ltb (number s (v ++ a ∷ [])) (length s) (number-at s (v ++ a ∷ []) e .0))
       go false e = refl
 
--- a child's number is not 0
-pub child-some : (rules : List Rule) (v : List ℕ) (a : ℕ) → known (states rules) (v ++ a ∷ []) ≡ true
-    → number (states rules) (v ++ a ∷ []) ≡ 0 → ⊥
-child-some rules v a k e =
-    snoc-some v a
-    (sym (number-at (states rules) (v ++ a ∷ []) k .1)
-    ∙ ap (λ (i : ℕ). getD (states rules) i []) e
-    ∙ state-zero rules)
-
 below-none : (rules : List Rule) (v : List ℕ) (a : ℕ) → numberBelow (states rules) 1 (v ++ a ∷ []) ≡ 0
 unfolding numberBelow
 below-none rules v a = go (known (states rules) (v ++ a ∷ [])) refl
@@ -84,7 +64,7 @@ below-none rules v a = go (known (states rules) (v ++ a ∷ [])) refl
 -- the rows have the children below c
 abbrev pub LaidBelow : RuleSet → List ℕ → ℕ → Type 0
 LaidBelow set rows c = (q a : ℕ) → q < length (states (set .rules)) → a < set .symbols
-    → entry (set .symbols) rows q a ≡ numberBelow (states (set .rules)) c (text set q ++ a ∷ [])
+    → transition rows (set .symbols) q a ≡ numberBelow (states (set .rules)) c (text (set .rules) q ++ a ∷ [])
 
 -- one more node's number is laid into the row of its parent
 pub laid-more : (set : RuleSet) (t rows : List ℕ) (c : ℕ) → Trie (states (set .rules)) (set .symbols) t
@@ -102,7 +82,7 @@ laid-more set t rows c trie size pos below laid q a h k = go (eqb (q * set .symb
     up = let l : parent t c < c = trie .linked .up c pos below in omega arith
 
     go : (b : Bool) → eqb (q * set .symbols + a) place ≡ b
-        → getD (store rows place c) (q * set .symbols + a) 0 ≡ numberBelow s (c + 1) (text set q ++ a ∷ [])
+        → getD (store rows place c) (q * set .symbols + a) 0 ≡ numberBelow s (c + 1) (text (set .rules) q ++ a ∷ [])
     go true e =
         let same : q * set .symbols + a ≡ place = eqb-true (q * set .symbols + a) place e in
         let row : q ≡ parent t c = place-row (set .symbols) q (parent t c) a (symbol t c) k (trie .small c pos below) same in
@@ -112,26 +92,23 @@ laid-more set t rows c trie size pos below laid q a h k = go (eqb (q * set .symb
         let word : a ≡ symbol t c =
         (let again : q * set .symbols ≡ parent t c * set .symbols = ap (λ (i : ℕ). i * set .symbols) row in omega arith)
         in
-        let string : text set q ++ a ∷ [] ≡ getD s c [] = rw (row, word) (sym (trie .made c pos below)) in
+        let string : text (set .rules) q ++ a ∷ [] ≡ getD s c [] = rw (row, word) (sym (trie .made c pos below)) in
         ap (λ (i : ℕ). getD (store rows place c) i 0) same
         ∙ getD-set-same rows place c 0 inside
-        ∙ sym (below-own s c (text set q ++ a ∷ []) (rw string (known-at s c below)) (rw string (number-back (set .rules) c below)))
+        ∙ sym (below-own s c (text (set .rules) q ++ a ∷ []) (rw string (known-at s c below)) (rw string (number-back (set .rules) c below)))
     go false e =
         let apart = eqb-false (q * set .symbols + a) place e in
         getD-set-other rows place (q * set .symbols + a) c 0 apart
         ∙ laid q a h k
-        ∙ sym (below-other s c (text set q ++ a ∷ []) (λ known-here e₂. apart (meets known-here e₂)))
+        ∙ sym (below-other s c (text (set .rules) q ++ a ∷ []) (λ known-here e₂. apart (meets known-here e₂)))
       where
-        meets : known s (text set q ++ a ∷ []) ≡ true → number s (text set q ++ a ∷ []) ≡ c → q * set .symbols + a ≡ place
+        meets : known s (text (set .rules) q ++ a ∷ []) ≡ true → number s (text (set .rules) q ++ a ∷ []) ≡ c → q * set .symbols + a ≡ place
         meets k₂ e₂ =
-            let string : text set q ++ a ∷ [] ≡ getD s (parent t c) [] ++ symbol t c ∷ [] =
-            sym (number-at s (text set q ++ a ∷ []) k₂ .1) ∙ ap (λ (i : ℕ). getD s i []) e₂ ∙ trie .made c pos below
+            let child =
+            state-child s (set .symbols) t trie q a c h below
+            (ap (λ (i : ℕ). getD s i []) (sym e₂) ∙ number-at s (text (set .rules) q ++ a ∷ []) k₂ .1)
             in
-            let parts = snoc-eq (text set q) (getD s (parent t c) []) a (symbol t c) string in
-            let row : q ≡ parent t c =
-            sym (number-back (set .rules) q h) ∙ ap (number s) (parts .0) ∙ number-back (set .rules) (parent t c) up
-            in
-            rw (row, parts .1)
+            rw (child .of, child .by)
 
 -- all words 0: no child is laid yet
 pub laid-none : (set : RuleSet) (rows : List ℕ) → rows ≡ replicate (length (states (set .rules)) * set .symbols) 0 → LaidBelow set rows 1
@@ -139,13 +116,13 @@ laid-none set rows e q a h k =
     let fits = row-end (set .symbols) q (length (states (set .rules))) h in
     ap (λ (l : List ℕ). getD l (q * set .symbols + a) 0) e
     ∙ getD-replicate (length (states (set .rules)) * set .symbols) (q * set .symbols + a) 0 0 (omega arith)
-    ∙ sym (below-none (set .rules) (text set q) a)
+    ∙ sym (below-none (set .rules) (text (set .rules) q) a)
 
 -- every child is laid
 pub laid-all : (set : RuleSet) (rows : List ℕ) → length rows ≡ length (states (set .rules)) * set .symbols
     → LaidBelow set rows (length (states (set .rules))) → Laid set rows
 laid-all set rows size laid =
-    record { size = size; table = λ c a h k. laid c a h k ∙ below-all (states (set .rules)) (text set c) a }
+    record { size = size; table = λ c a h k. laid c a h k ∙ below-all (states (set .rules)) (text (set .rules) c) a }
 
 -- a node, its parent and its place in the parent's row lie within their areas, and its number fits 16 bits
 pub record Within (t rows : List ℕ) (symbols c : ℕ) : Type 0 where

@@ -2,13 +2,17 @@
 -- the trie; of the check of a lent table.
 pub mod Matching
 pub mod States
+pub mod RowPlaces
 pub mod Table
 pub mod Compilation
 pub mod Computed
 pub mod Tally
 pub mod Nodes
 pub mod Growth
+pub mod Kept
 pub mod Walk
+pub mod Build
+pub mod Failure
 pub mod RowWords
 pub mod Laying
 pub mod Filling

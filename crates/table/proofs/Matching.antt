@@ -1,7 +1,7 @@
 -- Aho and Corasick's lemmas: the state that a string leads to is all that the next state and the match word depend on.
 -- Assumes nothing.
 use Prim.Native.Nat.{ℕ, _≤_}
-use mathlib.Core.Path.{_≡_, refl, sym, _∙_}
+use mathlib.Core.Path.{_≡_, refl, sym, ap, _∙_}
 use mathlib.Core.Bool.{Bool, true, false, _||_}
 use mathlib.Core.Logic.{_⊎_, inl, inr}
 use mathlib.Core.Option.{none}
@@ -115,6 +115,9 @@ state-suffix rules (x ∷ p) = go (isPrefix rules (x ∷ p)) refl (state-suffix 
     go : (b : Bool) → isPrefix rules (x ∷ p) ≡ b → (u : List ℕ) × (p ≡ u ++ state rules p) → (u : List ℕ) × (x ∷ p ≡ u ++ state rules (x ∷ p))
     go true e ih = ([], rw e)
     go false e ih = (x ∷ ih .0, rw e (cc (ih .1)))
+
+pub length-state : (rules : List Rule) (p : List ℕ) → length (state rules p) ≤ length p
+length-state rules p = let (u, e) = state-suffix rules p in omega (arith, simp length-append at (ap length e))
 
 -- and the longest that is a prefix of a left side
 pub state-longest : (rules : List Rule) (p u v : List ℕ) → p ≡ u ++ v → isPrefix rules v ≡ true → length v ≤ length (state rules p)

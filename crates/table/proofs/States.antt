@@ -16,7 +16,7 @@ use Rattle.rewriting.specs.Rules.{Rule, RuleSet, ruleInRange, inRange}
 use Rattle.rewriting.proofs.Lists.{and-left, and-right, or-left, or-right, same-eq, same-refl}
 use Rattle.rewriting.proofs.Ranges.{rule-ranges, ranges}
 use Rattle.table.specs.States.{isPrefix, state, next, prefixes, known, numbered, states, number}
-use Rattle.table.proofs.Matching.{state-is-prefix}
+use Rattle.table.proofs.Matching.{state-is-prefix, next-child}
 
 eqb-sym : (x y : ℕ) → eqb x y ≡ eqb y x
 eqb-sym x y = go (eqb x y) refl
@@ -24,6 +24,19 @@ eqb-sym x y = go (eqb x y) refl
     go : (b : Bool) → eqb x y ≡ b → b ≡ eqb y x
     go true e = sym (eq-eqb y x (sym (eqb-true x y e)))
     go false e = sym (ne-eqb y x (λ p. eqb-false x y e (sym p)))
+
+-- a string with a symbol added at its end is known by what it was before, and by that symbol
+pub snoc-parts : (u w : List ℕ) (x y : ℕ) → u ++ x ∷ [] ≡ w ++ y ∷ [] → (u ≡ w) × (x ≡ y)
+snoc-parts [] [] x y e = (refl, cc)
+snoc-parts [] (z ∷ w) x y e = absurd (omega (arith, simp length-append at (ap length e)))
+snoc-parts (z ∷ u) [] x y e = absurd (omega (arith, simp length-append at (ap length e)))
+snoc-parts (z ∷ u) (z′ ∷ w) x y e =
+    let rest : u ++ x ∷ [] ≡ w ++ y ∷ [] = cc in
+    let ih = snoc-parts u w x y rest in
+    ((cc), ih .1)
+
+pub snoc-some : (u : List ℕ) (x : ℕ) → u ++ x ∷ [] ≡ [] → ⊥
+snoc-some u x e = omega (arith, simp length-append at (ap length e))
 
 -- a string stands among two lists if it stands in one of them
 pub known-append : (s t : List (List ℕ)) (v : List ℕ) → known (s ++ t) v ≡ (known s v || known t v)
@@ -82,6 +95,15 @@ prefix-known rules v e = known-states rules v ∙ or-right (same [] v) (isPrefix
 pub known-prefix : (rules : List Rule) (v : List ℕ) → known (states rules) v ≡ true → (v ≡ []) ⊎ (isPrefix rules v ≡ true)
 known-prefix rules [] e = inl refl
 known-prefix rules (x ∷ v) e = inr (sym (known-states rules (x ∷ v)) ∙ e)
+
+-- a string with a symbol added is a state just where it is a prefix of a left side
+pub known-snoc : (rules : List Rule) (v : List ℕ) (a : ℕ) → known (states rules) (v ++ a ∷ []) ≡ isPrefix rules (v ++ a ∷ [])
+known-snoc rules [] a = known-states rules (a ∷ [])
+known-snoc rules (y ∷ v) a = known-states rules (y ∷ v ++ a ∷ [])
+
+-- and then it is the next state
+pub next-listed : (rules : List Rule) (v : List ℕ) (a : ℕ) → known (states rules) (v ++ a ∷ []) ≡ true → next rules v a ≡ v ++ a ∷ []
+next-listed rules v a k = next-child rules v a (sym (known-snoc rules v a) ∙ k)
 
 -- what a string leads to is a state
 pub state-known : (rules : List Rule) (p : List ℕ) → known (states rules) (state rules p) ≡ true
@@ -198,6 +220,25 @@ number-back rules =
 
 pub number-zero : (rules : List Rule) → number (states rules) [] ≡ 0
 number-zero rules = rw state-zero at (number-back rules 0 (some-state rules))
+
+-- a child's number is not 0
+pub child-some : (rules : List Rule) (v : List ℕ) (a : ℕ) → known (states rules) (v ++ a ∷ []) ≡ true
+    → number (states rules) (v ++ a ∷ []) ≡ 0 → ⊥
+child-some rules v a k e =
+    snoc-some v a
+    (sym (number-at (states rules) (v ++ a ∷ []) k .1)
+    ∙ ap (λ (i : ℕ). getD (states rules) i []) e
+    ∙ state-zero rules)
+
+-- each state but the first has a symbol
+pub state-long : (rules : List Rule) (c : ℕ) → 0 < c → c < length (states rules) → 0 < length (getD (states rules) c [])
+state-long rules c pos below = go (getD (states rules) c []) refl
+  where
+    go : (v : List ℕ) → getD (states rules) c [] ≡ v → 0 < length v
+    go [] e =
+        let zero-too : c ≡ 0 = sym (number-back rules c below) ∙ ap (number (states rules)) e ∙ number-zero rules in
+        absurd (omega arith)
+    go (y ∷ w) e = omega arith
 
 pub length-numbered : (s vs : List (List ℕ)) → length (numbered s vs) ≤ length s + length vs
 unfolding numbered

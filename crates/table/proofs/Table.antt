@@ -6,7 +6,7 @@ use mathlib.Core.Bool.{true}
 use mathlib.Core.Option.{Option, none, some}
 use mathlib.Core.List.{List, [], map, flatMap}
 use native.Mathlib.Omega.{arith}
-use native.Mathlib.Nat.{suc-mul, mul-le-mul, mul-le-mul-right}
+use native.Mathlib.Nat.{mul-le-mul}
 use lib.Dec.{ltb}
 use lib.ListN.{length, getD, length-append, length-map, List·getD-append}
 use lib.Seq.{getD-append-add}
@@ -20,6 +20,7 @@ use Rattle.rewriting.proofs.Scan.{ending-left}
 use Rattle.table.specs.States.{next, matching, states, number}
 use Rattle.table.specs.Table.{matchWord, row, tableOf}
 use Rattle.table.proofs.States.{next-below, few-states}
+use Rattle.table.proofs.RowPlaces.{word-within}
 
 -- a row has a word for each symbol: the number of the next state
 pub length-row : (set : RuleSet) (q : List ℕ) → length (row set q) ≡ set .symbols
@@ -105,8 +106,7 @@ pub begins-next : (set : RuleSet) (t : List ℕ) → prefix (tableOf set) t ≡ 
     ≡ number (states (set .rules)) (next (set .rules) (getD (states (set .rules)) i []) a)
 begins-next set t e i a h below =
     let m = length-table set in
-    let rows : suc i * set .symbols ≤ length (states (set .rules)) * set .symbols = mul-le-mul-right (set .symbols) h in
-    let fits = rw suc-mul at rows in
+    let fits = word-within (set .symbols) i (length (states (set .rules))) a h below in
     begins-at (tableOf set) t e (2 + length (states (set .rules)) + i * set .symbols + a) 0 (omega arith) ∙ table-next set i a h below
 
 -- a match word is at most the number of rules

@@ -10,11 +10,13 @@ use lib.ListN.{length, getD, drop, length-append}
 use borrow.Author.Tests.{ltb-true, ltb-false, eqb-true, eqb-false, lt-ltb, le-ltb, eq-eqb, ne-eqb}
 use Rattle.rewriting.specs.Rules.{RuleSet, inRange}
 use Rattle.table.specs.States.{states}
+use Rattle.table.specs.Words.{text}
 use Rattle.table.specs.Nodes.{parent, symbol, depth, failure, failureBy}
-use Rattle.table.specs.Rows.{text, Merged, Noted, reached, Filling, FillingAt}
-use Rattle.table.proofs.States.{few-states}
-use Rattle.table.proofs.RowWords.{row-end}
-use Rattle.table.proofs.Filling.{listed, failure-found, state-filled}
+use Rattle.table.specs.Rows.{Merged, Noted, reached, Filling, FillingAt}
+use Rattle.table.proofs.States.{few-states, state-long}
+use Rattle.table.proofs.RowPlaces.{row-end, word-within}
+use Rattle.table.proofs.Failure.{fails-to}
+use Rattle.table.proofs.Filling.{parent-fails, own-failure, state-filled}
 
 -- Which states are done, where state q of the states of length d is next.
 module _ (s : List (List ℕ)) (d q : ℕ) where
@@ -116,25 +118,19 @@ filling-longer set d t rows filling =
 module _ (set : RuleSet) (q : ℕ) (t rows : List ℕ) (filling : FillingAt set (depth t q) q t rows) (pos : 0 < q)
     (below : q < length (states (set .rules)))
   where
-    long : length (text set q) ≡ depth t q
+    long : length (text (set .rules) q) ≡ depth t q
     long = sym (filling .trie .deep q below)
 
-    shorter : (c : ℕ) → c < length (states (set .rules)) → length (text set c) < length (text set q)
+    shorter : (c : ℕ) → c < length (states (set .rules)) → length (text (set .rules) c) < length (text (set .rules) q)
         → reached (states (set .rules)) (depth t q) q c ≡ true
     shorter c h k = reached-shorter (states (set .rules)) (depth t q) q c (rw long at k)
 
     -- the word by which the failure state is found stands in the rows
     pub failure-place : 0 < parent t q → failure t (parent t q) * set .symbols + symbol t q < length rows
-    failure-place pos-up =
-        let up : parent t q < q = filling .trie .linked .up q pos below in
-        let below-up : parent t q < length (states (set .rules)) = omega arith in
-        let low : symbol t q < set .symbols = filling .trie .small q pos below in
-        let size : length (text set q) ≡ length (text set (parent t q)) + 1 =
-        simp length-append at (ap length (filling .trie .made q pos below))
-        in
-        let f = filling .failures (parent t q) pos-up below-up (shorter (parent t q) below-up (omega arith)) in
-        let l = listed (set .rules) (drop 1 (text set (parent t q))) (failure t (parent t q)) f in
-        omega (arith, filling .size, row-end (set .symbols) (failure t (parent t q)) (length (states (set .rules))) (l .place))
+    failure-place high =
+        let f = parent-fails set (reached (states (set .rules)) (depth t q) q) t rows filling q pos below shorter high in
+        rw (filling .size)
+        (word-within (set .symbols) (failure t (parent t q)) (length (states (set .rules))) (symbol t q) (f .place) (filling .trie .small q pos below))
 
     -- the failure state's node and both rows lie within their areas, and its number fits 16 bits
     pub failure-within : inRange set ≡ true → (f : ℕ) → f ≡ failureBy t rows (set .symbols) q
@@ -146,9 +142,8 @@ module _ (set : RuleSet) (q : ℕ) (t rows : List ℕ) (filling : FillingAt set 
         let n : ℕ = length (states (set .rules)) in
         let size : length rows ≡ n * set .symbols = filling .size in
         let room : 8 * n ≤ length t = filling .trie .linked .size in
-        let found = failure-found set (reached (states (set .rules)) (depth t q) q) t rows filling q pos below shorter in
-        let l = listed (set .rules) (drop 1 (text set q)) f (is ∙ found) in
-        let place : f < n = l .place in (
+        let found = own-failure set (reached (states (set .rules)) (depth t q) q) t rows filling q pos below shorter in
+        let place : f < n = fails-to (set .rules) (text (set .rules) q) (state-long (set .rules) q pos below) f (is ∙ found) .place in (
           omega arith,
           omega (arith, few-states set in-range),
           omega (arith, row-end (set .symbols) q n below),

@@ -1,36 +1,31 @@
--- Following a left side from the root of the trie of the rules before it, and the trie of all rules.
+-- The walk along one left side, from the root of the trie of the rules before it.
 -- Assumes nothing.
 use Prim.Native.Nat.{ℕ, zero, suc, _+_, _*_, _≤_, _<_}
 use mathlib.Core.Path.{_≡_, refl, sym, ap, _∙_}
-use mathlib.Core.Bool.{Bool, true, false, cond, _||_}
-use mathlib.Core.Logic.{_≢_, _⊎_, inl, inr}
-use mathlib.Core.Option.{Option, none, some, Option·map, orElse}
+use mathlib.Core.Bool.{Bool, true, false, cond}
+use mathlib.Core.Option.{none}
 use mathlib.Core.List.{List, [], _∷_, _++_, map, flatMap, append-nil, append-assoc}
 use native.Mathlib.Omega.{arith}
-use native.Mathlib.Numerals.{add-one}
 use native.Mathlib.Nat.{le-of-suc-le-suc, not-suc-le-zero, min-le-left}
-use lib.Dec.{eqb, ltb}
-use lib.ListN as ListN
-use lib.ListN.{length, getD, take, drop, replicate, length-take, length-set, length-replicate, take-append-drop}
-use lib.Seq.{take-suc, take-all, length-take-le, getD-set-same, getD-set-other}
-use borrow.Author.Tests.{ltb-true, ne-eqb}
+use lib.Dec.{ltb}
+use lib.ListN.{length, getD, take, drop, length-take, take-append-drop}
+use lib.Seq.{take-suc, take-all}
+use borrow.Author.Tests.{ltb-true}
 use Rattle.rewriting.specs.Lists.{all, same}
 use Rattle.rewriting.specs.Rules.{Rule, RuleSet, rule, ruleInRange, inRange}
 use Rattle.rewriting.specs.Occurrences.{lowest}
-use Rattle.rewriting.proofs.Lists.{all-left, all-at, or-left, or-right, same-eq, same-refl}
-use Rattle.rewriting.proofs.Ranges.{RuleRanges, rule-ranges, ranges, rule-at}
-use Rattle.image.specs.Image.{body, read, valid}
+use Rattle.rewriting.proofs.Lists.{all-left, all-at, or-left, or-right}
+use Rattle.rewriting.proofs.Ranges.{ranges, rule-at}
+use Rattle.image.specs.Image.{read, valid}
 use Rattle.image.specs.Places.{leftAt}
-use Rattle.image.proofs.Places.{left-first, left-next, left-within, left-symbol, body-left}
+use Rattle.image.proofs.Places.{left-within, left-symbol, body-left}
 use Rattle.table.specs.declared.trie.Walked.{Walked}
-use Rattle.table.specs.States.{isPrefix, prefixes, known, number, numbered, states}
-use Rattle.table.specs.Table.{matchWord}
-use Rattle.table.specs.Nodes.{depth, children, matched, Linked, Trie, Owned, Followed, marked, Grown, Followed-rule, Built}
+use Rattle.table.specs.States.{isPrefix, prefixes, known, numbered, states}
+use Rattle.table.specs.Nodes.{depth, children, Linked, Trie, Owned, Followed, Grown, Followed-rule}
 use Rattle.table.proofs.Matching.{lowest-no-prefix}
 use Rattle.table.proofs.States.{known-numbered, known-states, length-numbered, length-prefixes, few-prefixes}
-use Rattle.table.proofs.Tally.{tally-most, tally-none}
-use Rattle.table.proofs.Nodes.{same-or}
-use Rattle.table.proofs.Growth.{Stepped, stepped, node-once, Kept, trie-kept}
+use Rattle.table.proofs.Tally.{tally-most}
+use Rattle.table.proofs.Growth.{Stepped, stepped}
 
 -- strings get their numbers one after another
 numbered-append : (s u v : List (List ℕ)) → numbered s (u ++ v) ≡ numbered (numbered s u) v
@@ -58,7 +53,7 @@ prefixes-next l j h =
     take-suc (prefixes l) j [] k ∙ rw (prefix-at l j h)
 
 -- a rule more
-take-rule : (rules : List Rule) (i : ℕ) → i < length rules → take (suc i) rules ≡ take i rules ++ rule rules i ∷ []
+pub take-rule : (rules : List Rule) (i : ℕ) → i < length rules → take (suc i) rules ≡ take i rules ++ rule rules i ∷ []
 unfolding rule
 take-rule rules i h = take-suc rules i _ h
 
@@ -123,7 +118,7 @@ module _ (set : RuleSet) (i : ℕ) where
       go false e = refl
 
   -- the first i rules have at most 8 i states beside the root
-  few-first : inRange set ≡ true → length (states (take i (set .rules))) ≤ 1 + 8 * i
+  pub few-first : inRange set ≡ true → length (states (take i (set .rules))) ≤ 1 + 8 * i
   unfolding states
   few-first e =
       let part : all (ruleInRange set) (take i (set .rules)) ≡ true =
@@ -235,102 +230,6 @@ module _ (set : RuleSet) (i : ℕ) where
           states-next (set .rules) i lt
           ∙ rw (take-all j (prefixes (rule (set .rules) i .left)) (rw length-prefixes far))
 
--- the lowest rule with a left side, when a rule more comes last
-lowest-append : (rules : List Rule) (r : Rule) (v : List ℕ)
-    → lowest (rules ++ r ∷ []) v ≡ orElse (lowest rules v) (cond (same (r .left) v) (some (length rules)) none)
-unfolding lowest orElse
-lowest-append [] r v = go (same (r .left) v)
-  where
-    go : (b : Bool) → cond b (some 0) (Option·map suc none) ≡ cond b (some 0) none
-    go true = refl
-    go false = refl
-lowest-append (x ∷ rules) r v = go (same (x .left) v) (same (r .left) v) (lowest rules v) (lowest-append rules r v)
-  where
-    go : (b d : Bool) (o : Option ℕ) → lowest (rules ++ r ∷ []) v ≡ orElse o (cond d (some (length rules)) none)
-        → cond b (some 0) (Option·map suc (lowest (rules ++ r ∷ []) v))
-        ≡ orElse (cond b (some 0) (Option·map suc o)) (cond d (some (suc (length rules))) none)
-    go true d o e = refl
-    go false d (some k) e = rw e
-    go false true none e = rw e
-    go false false none e = rw e
-
--- Rule i marked at the node that its left side ends in.
-module _ (set : RuleSet) (i : ℕ) (lt : i < length (set .rules)) (w : Walked) (t : List ℕ) (f : Followed-rule set i w t)
-    (room : 8 * w .nodes ≤ length t) where
-  marked-size : length (marked t (w .node) i) ≡ length t
-  unfolding marked
-  marked-size = go (eqb (matched t (w .node)) 0)
-    where
-      go : (b : Bool) → length (cond b (ListN.set t (8 * w .node + 6) (i + 1)) t) ≡ length t
-      go true = length-set t (8 * w .node + 6) (i + 1)
-      go false = refl
-
-  -- only one word changes
-  marked-other : (k : ℕ) → k ≢ 8 * w .node + 6 → getD (marked t (w .node) i) k 0 ≡ getD t k 0
-  unfolding marked
-  marked-other k other = go (eqb (matched t (w .node)) 0)
-    where
-      go : (b : Bool) → getD (cond b (ListN.set t (8 * w .node + 6) (i + 1)) t) k 0 ≡ getD t k 0
-      go true = getD-set-other t (8 * w .node + 6) k (i + 1) 0 other
-      go false = refl
-
-  marked-kept : Kept (length (states (take (suc i) (set .rules)))) t (marked t (w .node) i)
-  marked-kept =
-      record {
-        size = marked-size;
-        word = λ c k h small. marked-other (8 * c + k) (λ e. omega arith);
-        behind = λ k far. marked-other k (λ e. omega (arith, f .node, f .nodes));
-      }
-
-  lowest-next : (v : List ℕ)
-      → lowest (take (suc i) (set .rules)) v
-      ≡ orElse (lowest (take i (set .rules)) v) (cond (same (rule (set .rules) i .left) v) (some i) none)
-  lowest-next v =
-      let n : length (take i (set .rules)) ≡ i = length-take-le i (set .rules) (omega arith) in
-      rw (take-rule (set .rules) i lt, lowest-append (take i (set .rules)) (rule (set .rules) i) v, n)
-
-  -- the node's own rule is the lowest
-  marked-own : matched (marked t (w .node) i) (w .node)
-      ≡ matchWord (orElse (lowest (take i (set .rules)) (rule (set .rules) i .left)) (some i))
-  unfolding marked matchWord orElse
-  marked-own = go (lowest (take i (set .rules)) (rule (set .rules) i .left)) (f .owned (w .node) (rw (f .nodes) at (f .node)) ∙ rw (f .ends))
-    where
-      go : (o : Option ℕ) → matched t (w .node) ≡ matchWord o → matched (marked t (w .node) i) (w .node) ≡ matchWord (orElse o (some i))
-      go none e = rw e (getD-set-same t (8 * w .node + 6) (i + 1) 0 (omega (arith, f .node)) ∙ add-one i)
-      go (some k) e = rw (e, ne-eqb (suc k) 0 (λ z. omega arith)) e
-
-  marked-owned : Owned (take (suc i) (set .rules)) (states (take (suc i) (set .rules))) (marked t (w .node) i)
-  unfolding orElse
-  marked-owned c h = go (same-or (w .node) c)
-    where
-      go : (c ≡ w .node) ⊎ (c ≢ w .node)
-          → matched (marked t (w .node) i) c ≡ matchWord (lowest (take (suc i) (set .rules)) (getD (states (take (suc i) (set .rules))) c []))
-      go (inl e) = rw (e, f .ends, lowest-next (rule (set .rules) i .left), same-refl (rule (set .rules) i .left)) marked-own
-      go (inr other) =
-          rw (lowest-next (getD (states (take (suc i) (set .rules))) c []), unlike (same (rule (set .rules) i .left) (getD (states (take (suc i) (set .rules))) c [])) refl)
-          (marked-other (8 * c + 6) (λ e. other (omega arith)) ∙ f .owned c h ∙ rw orElse-none)
-        where
-          unlike : (b : Bool) → same (rule (set .rules) i .left) (getD (states (take (suc i) (set .rules))) c []) ≡ b → b ≡ false
-          unlike true e =
-              let eq = same-eq (rule (set .rules) i .left) (getD (states (take (suc i) (set .rules))) c []) e in
-              absurd
-              (other
-              (node-once (states (take (suc i) (set .rules))) (set .symbols) t (f .trie) c (w .node) h (rw (f .nodes) at (f .node))
-              (sym eq ∙ sym (f .ends))))
-          unlike false e = refl
-
-          orElse-none : (o : Option ℕ) → orElse o none ≡ o
-          orElse-none none = refl
-          orElse-none (some k) = refl
-
-  -- The trie of a rule more.
-  pub grown-next : Grown set (suc i) (marked t (w .node) i)
-  grown-next =
-      record {
-        trie = trie-kept (states (take (suc i) (set .rules))) (set .symbols) t (marked t (w .node) i) marked-kept (f .trie);
-        owned = marked-owned;
-      }
-
 -- the symbols of a left side in the image
 module _ (b : List ℕ) (e : valid b ≡ true) (i at j : ℕ) (lt : i < length (read b .rules)) (here : at ≡ leftAt (read b) i)
     (more : j < length (rule (read b .rules) i .left)) where
@@ -339,100 +238,3 @@ module _ (b : List ℕ) (e : valid b ≡ true) (i at j : ℕ) (lt : i < length (
 
   pub symbol-at : getD b (at + j) 0 ≡ getD (rule (read b .rules) i .left) j 0
   symbol-at = rw here (left-symbol b e i j lt more)
-
--- The trie after i rules, the number of its nodes and where the next rule's left side begins.
-pub record Building (set : RuleSet) (i n at : ℕ) (t : List ℕ) : Type 0 where
-  pub within : i ≤ length (set .rules)
-  pub grown : Grown set i t
-  pub nodes : n ≡ length (states (take i (set .rules)))
-  pub place : at ≡ leftAt set i
-  pub size : length t ≡ 4104
-
--- words that are all 0 hold the trie of no rules
-pub build-first : (set : RuleSet) (t : List ℕ) → t ≡ replicate 4104 0 → (at : ℕ) → at ≡ 4 + 4 * length (set .rules) → Building set 0 1 at t
-unfolding states numbered number lowest matchWord flatMap known
-build-first set t zeros at here =
-    record {
-      within = omega arith;
-      grown = record { trie = first; owned = λ c h. zero-at (8 * c + 6) };
-      nodes = refl;
-      place = here ∙ sym (left-first set);
-      size = size;
-    }
-  where
-    size : length t ≡ 4104
-    size = rw zeros (length-replicate {A = ℕ} 4104 0)
-
-    zero-at : (k : ℕ) → getD t k 0 ≡ 0
-    zero-at k = rw zeros (go 4104 k)
-      where
-        go : (n k : ℕ) → getD (replicate {A = ℕ} n 0) k 0 ≡ 0
-        go zero k = refl
-        go (suc n) zero = refl
-        go (suc n) (suc k) = go n k
-
-    only : (c : ℕ) → 0 < c → c < 1 → ⊥
-    only c pos h = omega arith
-
-    single : (q : ℕ) → q < 1 → q ≡ 0
-    single q h = omega arith
-
-    empty : (c : ℕ) → c < 1 → _≡_ {A = List ℕ} (getD ([] ∷ []) c []) []
-    empty zero h = refl
-    empty (suc c) h = refl
-
-    first : Trie ([] ∷ []) (set .symbols) t
-    first =
-        record {
-          linked =
-              record {
-                size = omega (arith, size);
-                up = λ c pos h. absurd (only c pos h);
-                young = λ q h. rw (zero-at (8 * q + 3)) (omega arith);
-                young-of = λ q h pos. absurd (omega (arith, zero-at (8 * q + 3)));
-                young-last = λ q c h pos k e. absurd (only c pos k);
-                old = λ c pos h. absurd (only c pos h);
-                old-of = λ c pos h more. absurd (only c pos h);
-                old-next = λ c b more h pos less e. absurd (only c more h);
-              };
-          some-node = omega arith;
-          root = refl;
-          once = λ i h. let e = single i h in rw e;
-          made = λ c pos h. absurd (only c pos h);
-          small = λ c pos h. absurd (only c pos h);
-          deep = λ c h. rw (zero-at (8 * c + 2), empty c h);
-          counted = λ c h. rw (zero-at (8 * c + 5), empty c h) (sym (tally-none (λ a. known ([] ∷ []) ([] ++ a ∷ [])) (set .symbols) (λ a k. refl)));
-          clear = λ k far. zero-at k;
-        }
-
--- a rule more
-pub build-next : (set : RuleSet) → (i n at : ℕ) (t : List ℕ) → Building set i n at t → i < length (set .rules)
-    → (w : Walked) (t′ : List ℕ) → Followed-rule set i w t′ → 8 * w .nodes ≤ length t′ → length t′ ≡ 4104
-    → (t″ : List ℕ) → t″ ≡ marked t′ (w .node) i → length t″ ≡ 4104
-    → (n′ : ℕ) → n′ ≡ length (body (rule (set .rules) i)) → Building set (suc i) (w .nodes) (at + n′) t″
-build-next set i n at t b lt w t′ f room size t″ e size″ n′ long =
-    record {
-      within = lt;
-      grown = rw e (grown-next set i lt w t′ f room);
-      nodes = f .nodes;
-      place = rw (long, b .place) (sym (left-next set i lt));
-      size = size″;
-    }
-
--- the states of a rule more still fit
-pub followed-room : (set : RuleSet) → inRange set ≡ true → (i : ℕ) → i < length (set .rules) → (w : Walked) (t : List ℕ)
-    → Followed-rule set i w t → (8 * w .nodes ≤ 4104) × (i < 64) × (8 * w .node + 7 < 4104)
-followed-room set e i lt w t f =
-    let few : w .nodes ≤ 513 = omega (arith, f .nodes, few-first set (suc i) e, ranges set e) in
-    (omega arith, omega (arith, ranges set e), omega (arith, f .node))
-
--- all rules
-pub build-last : (set : RuleSet) (i n at : ℕ) (t : List ℕ) → Building set i n at t → length (set .rules) ≤ i → Built set n t
-build-last set i n at t b far =
-    let whole : take i (set .rules) ≡ set .rules = take-all i (set .rules) far in
-    record {
-      trie = rw whole at (b .grown .trie);
-      owned = rw whole at (b .grown .owned);
-      nodes = rw whole at (b .nodes);
-      size = b .size;
-    }

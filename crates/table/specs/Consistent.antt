@@ -1,19 +1,16 @@
 -- The tests that a lent table is checked by, in place: each state against its parent, its failure state and its node of
--- the trie. A table passes them all exactly where it is the rules' (`consistent-right` and `right-passes`, proofs/Consistent.antt).
-use Prim.Native.Nat.{ℕ, _+_, _*_, _<_}
+-- the trie. A table passes them all exactly where it is the rules' (`right-passes` and `consistent-right`, proofs/RightPasses.antt and proofs/PassesRight.antt).
+use Prim.Native.Nat.{ℕ, _<_}
 use mathlib.Core.Path.{_≡_}
-use mathlib.Core.Bool.{Bool, true, false, cond, not}
-use mathlib.Core.List.{List, []}
+use mathlib.Core.Bool.{not}
+use mathlib.Core.List.{List}
 use lib.Dec.{eqb}
 use lib.ListN.{length, getD}
 use Rattle.rewriting.specs.Rules.{Rule}
 use Rattle.table.specs.States.{states, number, next, matching}
 use Rattle.table.specs.Table.{matchWord}
+use Rattle.table.specs.Words.{text, transition, ownOr}
 use Rattle.table.specs.Nodes.{parent, symbol, children, matched, failure, tally, failureBy}
-
--- the next state of q on symbol a, in rows of so many symbols
-abbrev pub transition : List ℕ → ℕ → ℕ → ℕ → ℕ
-transition rows symbols q a = getD rows (q * symbols + a) 0
 
 -- in how many words the rows of q and f differ
 unfoldable pub differing : List ℕ → ℕ → ℕ → ℕ → ℕ
@@ -22,10 +19,6 @@ differing rows symbols q f = tally (λ a. not (eqb (transition rows symbols q a)
 -- how many words of the root's row are not 0
 unfoldable pub leaving : List ℕ → ℕ → ℕ
 leaving rows symbols = tally (λ a. not (eqb (getD rows a 0) 0)) symbols
-
--- a match word of a state's own, or else its failure state's
-unfoldable pub ownOr : ℕ → ℕ → ℕ
-ownOr own other = cond (eqb own 0) other own
 
 -- The tests of state q, other than the root, whose failure state its node holds: its parent leads to it; its match word
 -- is its own or its failure state's; its row differs from its failure state's in as many words as it has children.
@@ -48,11 +41,6 @@ pub record RootPassed (t matches rows : List ℕ) (symbols : ℕ) : Type 0 where
 -- match words and rows are those of the rules' table
 pub record RightTable (rules : List Rule) (symbols : ℕ) (matches rows : List ℕ) : Type 0 where
   pub right-next : (c a : ℕ) → c < length (states rules) → a < symbols
-      → transition rows symbols c a ≡ number (states rules) (next rules (getD (states rules) c []) a)
+      → transition rows symbols c a ≡ number (states rules) (next rules (text rules c) a)
   pub right-match : (c : ℕ) → c < length (states rules)
-      → getD matches c 0 ≡ matchWord (matching rules (getD (states rules) c []))
-
--- the answer b of a test is true exactly where P holds
-abbrev pub Decides : Bool → Type 0 → Type 0
-Decides true P = P
-Decides false P = P → ⊥
+      → getD matches c 0 ≡ matchWord (matching rules (text rules c))

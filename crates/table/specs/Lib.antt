@@ -5,6 +5,7 @@ pub mod States
 pub mod Table
 pub mod Compile
 pub mod Check
+pub mod Words
 pub mod Nodes
 pub mod Rows
 pub mod Consistent

@@ -21,6 +21,7 @@ use Rattle.rewriting.specs.Occurrences.{lowest}
 use Rattle.table.specs.declared.trie.Walked.{Walked}
 use Rattle.table.specs.States.{known, number, states}
 use Rattle.table.specs.Table.{matchWord}
+use Rattle.table.specs.Words.{transition}
 
 module _ (t : List ℕ) (c : ℕ) where
   abbrev pub parent : ℕ
@@ -83,7 +84,7 @@ Owned rules s t = (c : ℕ) → c < length s → matched t c ≡ matchWord (lowe
 -- the failure state of node c, found from that of its parent and the parent's failure state's row; rows of so many symbols
 unfoldable pub failureBy : List ℕ → List ℕ → ℕ → ℕ → ℕ
 failureBy t rows symbols c =
-    cond (eqb (parent t c) 0) 0 (getD rows (failure t (parent t c) * symbols + symbol t c) 0)
+    cond (eqb (parent t c) 0) 0 (transition rows symbols (failure t (parent t c)) (symbol t c))
 
 -- c is the child of q by symbol a, one of n nodes
 pub record IsChild (t : List ℕ) (n q a c : ℕ) : Type 0 where

@@ -5,20 +5,13 @@ use mathlib.Core.Path.{_≡_}
 use mathlib.Core.Bool.{Bool, true, cond, _&&_, _||_}
 use mathlib.Core.List.{List, [], _∷_, _++_, flatMap}
 use lib.Dec.{eqb, ltb}
-use lib.ListN.{length, getD, drop}
+use lib.ListN.{length, getD}
 use Rattle.rewriting.specs.Rules.{RuleSet}
 use Rattle.rewriting.specs.Occurrences.{lowest}
-use Rattle.table.specs.States.{state, next, matching, known, states, number}
+use Rattle.table.specs.States.{next, matching, known, states, number}
 use Rattle.table.specs.Table.{matchWord, row}
+use Rattle.table.specs.Words.{text, failureState, transition, ownOr}
 use Rattle.table.specs.Nodes.{matched, failure, Trie, Owned}
-
--- the word of symbol a in row q, of rows of so many symbols
-abbrev pub entry : ℕ → List ℕ → ℕ → ℕ → ℕ
-entry symbols rows q a = getD rows (q * symbols + a) 0
-
--- the string of state c
-abbrev pub text : RuleSet → ℕ → List ℕ
-text set c = getD (states (set .rules)) c []
 
 -- the child of state v by symbol a, 0 where it has none
 unfoldable pub childNumber : List (List ℕ) → List ℕ → ℕ → ℕ
@@ -28,13 +21,13 @@ childNumber s v a = cond (known s (v ++ a ∷ [])) (number s (v ++ a ∷ [])) 0
 pub record Laid (set : RuleSet) (rows : List ℕ) : Type 0 where
   pub size : length rows ≡ length (states (set .rules)) * set .symbols
   pub table : (c a : ℕ) → c < length (states (set .rules)) → a < set .symbols
-      → entry (set .symbols) rows c a ≡ childNumber (states (set .rules)) (text set c) a
+      → transition rows (set .symbols) c a ≡ childNumber (states (set .rules)) (text (set .rules) c) a
 
 -- each 0 among the first n words of row q has become the word of row f, and all else is as it was
 pub record Merged (rows rows′ : List ℕ) (symbols q f n : ℕ) : Type 0 where
   pub size : length rows′ ≡ length rows
   pub own : (a : ℕ) → a < n
-      → entry symbols rows′ q a ≡ cond (eqb (entry symbols rows q a) 0) (entry symbols rows f a) (entry symbols rows q a)
+      → transition rows′ symbols q a ≡ ownOr (transition rows symbols q a) (transition rows symbols f a)
   pub before : (k : ℕ) → k < q * symbols → getD rows′ k 0 ≡ getD rows k 0
   pub behind : (k : ℕ) → q * symbols + n ≤ k → getD rows′ k 0 ≡ getD rows k 0
 
@@ -42,7 +35,7 @@ pub record Merged (rows rows′ : List ℕ) (symbols q f n : ℕ) : Type 0 where
 pub record Noted (t t′ : List ℕ) (q f : ℕ) : Type 0 where
   pub size : length t′ ≡ length t
   pub own-failure : failure t′ q ≡ f
-  pub own-match : matched t′ q ≡ cond (eqb (matched t q) 0) (matched t f) (matched t q)
+  pub own-match : matched t′ q ≡ ownOr (matched t q) (matched t f)
   pub rest : (k : ℕ) → (k ≡ 8 * q + 6 → ⊥) → (k ≡ 8 * q + 7 → ⊥) → getD t′ k 0 ≡ getD t k 0
 
 -- state c's turn has come, where state q of the states of length d is next
@@ -55,13 +48,13 @@ pub record Filling (set : RuleSet) (done : ℕ → Bool) (t rows : List ℕ) : T
   pub trie : Trie (states (set .rules)) (set .symbols) t
   pub size : length rows ≡ length (states (set .rules)) * set .symbols
   pub matches : (c : ℕ) → c < length (states (set .rules))
-      → matched t c ≡ cond (done c) (matchWord (matching (set .rules) (text set c))) (matchWord (lowest (set .rules) (text set c)))
+      → matched t c ≡ cond (done c) (matchWord (matching (set .rules) (text (set .rules) c))) (matchWord (lowest (set .rules) (text (set .rules) c)))
   pub failures : (c : ℕ) → 0 < c → c < length (states (set .rules)) → done c ≡ true
-      → failure t c ≡ number (states (set .rules)) (state (set .rules) (drop 1 (text set c)))
+      → failure t c ≡ number (states (set .rules)) (failureState (set .rules) (text (set .rules) c))
   pub table : (c a : ℕ) → c < length (states (set .rules)) → a < set .symbols
-      → entry (set .symbols) rows c a
-      ≡ cond (done c) (number (states (set .rules)) (next (set .rules) (text set c) a))
-      (childNumber (states (set .rules)) (text set c) a)
+      → transition rows (set .symbols) c a
+      ≡ cond (done c) (number (states (set .rules)) (next (set .rules) (text (set .rules) c) a))
+      (childNumber (states (set .rules)) (text (set .rules) c) a)
 
 -- the states of length below d are done, and those of length d below state q
 abbrev pub FillingAt : RuleSet → ℕ → ℕ → List ℕ → List ℕ → Type 0
@@ -69,7 +62,7 @@ FillingAt set d q t rows = Filling set (reached (states (set .rules)) d q) t row
 
 -- each node's match word is the table's
 abbrev pub Matched : RuleSet → List ℕ → Type 0
-Matched set t = (c : ℕ) → c < length (states (set .rules)) → matched t c ≡ matchWord (matching (set .rules) (text set c))
+Matched set t = (c : ℕ) → c < length (states (set .rules)) → matched t c ≡ matchWord (matching (set .rules) (text (set .rules) c))
 
 -- what is there before the rows are filled: the trie of n states with their own match words, and room for the rows
 pub record Fillable (set : RuleSet) (t : List ℕ) (n : ℕ) (rows : List ℕ) : Type 0 where

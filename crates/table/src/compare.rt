@@ -5,11 +5,13 @@ ghost use mathlib.Core.Path.{_≡_};
 ghost use mathlib.Core.Bool.{true};
 ghost use lib.ListN.{length, getD};
 ghost use Rattle.image.specs.Image.{read, valid};
+ghost use Rattle.image.specs.Check.{Decides};
 ghost use Rattle.rewriting.specs.Lists.{prefix};
 ghost use Rattle.table.specs.States.{states};
 ghost use Rattle.table.specs.Table.{tableOf};
 ghost use Rattle.table.specs.Nodes.{parent, symbol, matched, failure, Trie, Owned};
-ghost use Rattle.table.specs.Consistent.{transition, differing, leaving, ownOr, Passes, RootPassed, RightTable, Decides};
+ghost use Rattle.table.specs.Words.{transition, ownOr};
+ghost use Rattle.table.specs.Consistent.{differing, leaving, Passes, RootPassed, RightTable};
 use crate::trie::failure_of;
 use crate::trie::wide;
 

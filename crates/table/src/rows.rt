@@ -1,13 +1,13 @@
 // The rows and match words of the table, filled from the trie. specs/Rows.antt says what stands in them on the way.
 ghost use Prim.Native.Nat.{_+_, _*_, _≤_, _<_};
 ghost use mathlib.Core.Path.{_≡_};
-ghost use mathlib.Core.Bool.{true, cond};
+ghost use mathlib.Core.Bool.{true};
 ghost use mathlib.Core.List.{map};
-ghost use lib.Dec.{eqb};
 ghost use lib.ListN.{length, replicate};
 ghost use Rattle.image.specs.Image.{read, valid};
 ghost use Rattle.table.specs.States.{states, matching};
 ghost use Rattle.table.specs.Table.{matchWord};
+ghost use Rattle.table.specs.Words.{ownOr};
 ghost use Rattle.table.specs.Nodes.{depth, Trie};
 ghost use Rattle.table.specs.Rows.{Laid, Merged, Noted, FillingAt, Matched, Fillable, Filled};
 use crate::trie::failure_of;
@@ -41,7 +41,7 @@ fn lay_children(image: &[u8], trie: &[u16], n: usize, rows: &mut [u16])
 // A word, or another in its place where it is 0. As a function of its own it becomes a choice without a branch, so that
 // merge takes many words at once.
 fn chosen(own: u16, other: u16) -> u16
-    ensures { λ r. ⌜ r ≡ cond (eqb own 0) other own ⌝ }
+    ensures { λ r. ⌜ r ≡ ownOr own other ⌝ }
 {
     if own == 0 { other } else { own }
 }

@@ -9,8 +9,9 @@ use native.Mathlib.Omega.{arith}
 use lib.Dec.{eqb}
 use borrow.Author.Needs.{needs}
 use Rattle.table.specs.Nodes.{tally}
-use Rattle.table.specs.Consistent.{transition, differing}
-use Rattle.table.proofs.Consistent.{tally-differ, tally-equal}
+use Rattle.table.specs.Words.{transition}
+use Rattle.table.specs.Consistent.{differing}
+use Rattle.table.proofs.Tally.{tally-differ, tally-equal}
 use Rattle.table.proofs.compare.differences.Statement.{statement}
 use Rattle.table.proofs.compare.differences.Tie as tie
 

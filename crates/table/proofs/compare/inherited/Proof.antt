@@ -2,7 +2,6 @@
 -- Assumes nothing.
 use borrow.Author.Needs.{needs}
 use borrow.Author.Tests.{eq-eqb, ne-eqb}
-use Rattle.table.specs.Consistent.{ownOr}
 use Rattle.table.proofs.compare.inherited.Statement.{statement}
 use Rattle.table.proofs.compare.inherited.Tie as tie
 
@@ -19,7 +18,6 @@ shared-slice-read-own : tie.Need-shared-slice-read-own
 shared-slice-read-own c = search needs
 
 returns : tie.Need-returns
-unfolding ownOr
 returns c = rw (ne-eqb _ 0 (c .if1 .taken))
 
 mul-wide : tie.Need-mul-wide
@@ -44,7 +42,6 @@ shared-slice-read-result : tie.Need-shared-slice-read-result
 shared-slice-read-result c = search needs
 
 returns-2 : tie.Need-returns-2
-unfolding ownOr
 returns-2 c = rw (eq-eqb _ 0 (c .before .before .before .if1 .left), c .before .wide .ensures)
 
 pub inherited-spec : {M : Type 1} → statement M

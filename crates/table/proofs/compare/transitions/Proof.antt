@@ -11,7 +11,7 @@ use lib.ListN.{getD}
 use borrow.Author.Needs.{needs}
 use Rattle.table.specs.Nodes.{tally}
 use Rattle.table.specs.Consistent.{leaving}
-use Rattle.table.proofs.Consistent.{tally-differ, tally-equal}
+use Rattle.table.proofs.Tally.{tally-differ, tally-equal}
 use Rattle.table.proofs.compare.transitions.Statement.{statement}
 use Rattle.table.proofs.compare.transitions.Tie as tie
 

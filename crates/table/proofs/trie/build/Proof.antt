@@ -9,7 +9,7 @@ use Rattle.rewriting.proofs.Ranges.{ranges}
 use Rattle.image.specs.Image.{read}
 use Rattle.image.proofs.Image.{valid-in-range}
 use Rattle.image.proofs.Places.{left-within}
-use Rattle.table.proofs.Walk.{Building, build-first, build-next, build-last, followed-room}
+use Rattle.table.proofs.Build.{Building, build-first, build-next, build-last, followed-room}
 use Rattle.table.proofs.trie.build.Statement.{statement}
 use Rattle.table.proofs.trie.build.Tie as tie
 
