@@ -1,14 +1,14 @@
 -- The trie of all rules: rule by rule its left side is followed and marked with the rule at its end.
 -- Assumes nothing.
 use Prim.Native.Nat.{ℕ, zero, suc, _+_, _*_, _≤_, _<_}
-use mathlib.Core.Path.{_≡_, refl, sym, _∙_}
+use mathlib.Core.Path.{_≡_, refl, sym, ap, _∙_}
 use mathlib.Core.Bool.{Bool, true, false, cond}
 use mathlib.Core.Logic.{_≢_, _⊎_, inl, inr}
 use mathlib.Core.Option.{Option, none, some, Option·map, orElse}
 use mathlib.Core.List.{List, [], _∷_, _++_, flatMap}
 use native.Mathlib.Omega.{arith}
 use native.Mathlib.Numerals.{add-one}
-use lib.ListN.{length, getD, take, replicate, length-replicate}
+use lib.ListN.{length, getD, take, replicate}
 use lib.Seq.{take-all, length-take-le, getD-set-same}
 use borrow.Author.Tests.{ne-eqb}
 use Rattle.rewriting.specs.Lists.{all, same}
@@ -22,12 +22,12 @@ use Rattle.image.proofs.Places.{left-first, left-next}
 use Rattle.table.specs.declared.trie.Walked.{Walked}
 use Rattle.table.specs.States.{known, number, numbered, states}
 use Rattle.table.specs.Table.{matchWord}
-use Rattle.table.specs.Nodes.{matched, Trie, Owned, marked, Grown, Followed-rule, Built}
+use Rattle.table.specs.Nodes.{matched, Trie, Owned, marked, Grown, Followed-rule, Roomy, Built}
 use Rattle.table.proofs.Tally.{tally-none}
 use Rattle.table.proofs.Nodes.{same-or}
 use Rattle.table.proofs.Growth.{node-once}
 use Rattle.table.proofs.Kept.{trie-kept, marked-other, marked-kept}
-use Rattle.table.proofs.Walk.{take-rule, few-first}
+use Rattle.table.proofs.Walk.{take-rule, few-first, symbols-within, symbols-next}
 
 -- the lowest rule with a left side, when a rule more comes last
 lowest-append : (rules : List Rule) (r : Rule) (v : List ℕ)
@@ -101,30 +101,28 @@ module _ (set : RuleSet) (i : ℕ) (lt : i < length (set .rules)) (w : Walked) (
       }
 
 -- The trie after i rules, the number of its nodes and where the next rule's left side begins.
-pub record Building (set : RuleSet) (i n at : ℕ) (t : List ℕ) : Type 0 where
+pub record Building (set : RuleSet) (words i n at : ℕ) (t : List ℕ) : Type 0 where
   pub within : i ≤ length (set .rules)
   pub grown : Grown set i t
   pub nodes : n ≡ length (states (take i (set .rules)))
   pub place : at ≡ leftAt set i
-  pub size : length t ≡ 4104
+  pub size : length t ≡ words
 
 -- words that are all 0 hold the trie of no rules
-pub build-first : (set : RuleSet) (t : List ℕ) → t ≡ replicate 4104 0 → (at : ℕ) → at ≡ 4 + 4 * length (set .rules) → Building set 0 1 at t
+pub build-first : (set : RuleSet) (t : List ℕ) → t ≡ replicate (length t) 0 → Roomy set (length t) → (at : ℕ) → at ≡ 4 + 4 * length (set .rules)
+    → Building set (length t) 0 1 at t
 unfolding states numbered number lowest matchWord flatMap known
-build-first set t zeros at here =
+build-first set t zeros roomy at here =
     record {
       within = omega arith;
       grown = record { trie = first; owned = λ c h. zero-at (8 * c + 6) };
       nodes = refl;
       place = here ∙ sym (left-first set);
-      size = size;
+      size = refl;
     }
   where
-    size : length t ≡ 4104
-    size = rw zeros (length-replicate {A = ℕ} 4104 0)
-
     zero-at : (k : ℕ) → getD t k 0 ≡ 0
-    zero-at k = rw zeros (go 4104 k)
+    zero-at k = ap (λ (l : List ℕ). getD l k 0) zeros ∙ go (length t) k
       where
         go : (n k : ℕ) → getD (replicate {A = ℕ} n 0) k 0 ≡ 0
         go zero k = refl
@@ -146,7 +144,7 @@ build-first set t zeros at here =
         record {
           linked =
               record {
-                size = omega (arith, size);
+                size = omega (arith, roomy);
                 up = λ c pos h. absurd (only c pos h);
                 young = λ q h. rw (zero-at (8 * q + 3)) (omega arith);
                 young-of = λ q h pos. absurd (omega (arith, zero-at (8 * q + 3)));
@@ -166,11 +164,11 @@ build-first set t zeros at here =
         }
 
 -- a rule more
-pub build-next : (set : RuleSet) → (i n at : ℕ) (t : List ℕ) → Building set i n at t → i < length (set .rules)
-    → (w : Walked) (t′ : List ℕ) → Followed-rule set i w t′ → 8 * w .nodes ≤ length t′ → length t′ ≡ 4104
-    → (t″ : List ℕ) → t″ ≡ marked t′ (w .node) i → length t″ ≡ 4104
-    → (n′ : ℕ) → n′ ≡ length (body (rule (set .rules) i)) → Building set (suc i) (w .nodes) (at + n′) t″
-build-next set i n at t b lt w t′ f room size t″ e size″ n′ long =
+pub build-next : (set : RuleSet) → (words i n at : ℕ) (t : List ℕ) → Building set words i n at t → i < length (set .rules)
+    → (w : Walked) (t′ : List ℕ) → Followed-rule set i w t′ → 8 * w .nodes ≤ length t′
+    → (t″ : List ℕ) → t″ ≡ marked t′ (w .node) i → length t″ ≡ words
+    → (n′ : ℕ) → n′ ≡ length (body (rule (set .rules) i)) → Building set words (suc i) (w .nodes) (at + n′) t″
+build-next set words i n at t b lt w t′ f room t″ e size″ n′ long =
     record {
       within = lt;
       grown = rw e (grown-next set i lt w t′ f room);
@@ -180,19 +178,21 @@ build-next set i n at t b lt w t′ f room size t″ e size″ n′ long =
     }
 
 -- the states of a rule more still fit
-pub followed-room : (set : RuleSet) → inRange set ≡ true → (i : ℕ) → i < length (set .rules) → (w : Walked) (t : List ℕ)
-    → Followed-rule set i w t → (8 * w .nodes ≤ 4104) × (i < 64) × (8 * w .node + 7 < 4104)
-followed-room set e i lt w t f =
-    let few : w .nodes ≤ 513 = omega (arith, f .nodes, few-first set (suc i) e, ranges set e) in
-    (omega arith, omega (arith, ranges set e), omega (arith, f .node))
+pub followed-room : (set : RuleSet) → inRange set ≡ true → (words : ℕ) → Roomy set words → (i : ℕ) → i < length (set .rules)
+    → (w : Walked) (t : List ℕ) → Followed-rule set i w t → (8 * w .nodes ≤ words) × (i < 64) × (8 * w .node + 7 < words)
+followed-room set e words roomy i lt w t f =
+    let rest = symbols-next (set .rules) i lt in
+    let few : w .nodes ≤ 1 + length (flatMap (λ r. r .left) (set .rules)) =
+    omega (arith, f .nodes, few-first set (suc i) words, symbols-within (set .rules) i lt)
+    in
+    (omega (arith, roomy), omega (arith, ranges set e), omega (arith, f .node, roomy))
 
 -- all rules
-pub build-last : (set : RuleSet) (i n at : ℕ) (t : List ℕ) → Building set i n at t → length (set .rules) ≤ i → Built set n t
-build-last set i n at t b far =
+pub build-last : (set : RuleSet) (words i n at : ℕ) (t : List ℕ) → Building set words i n at t → length (set .rules) ≤ i → Built set n t
+build-last set words i n at t b far =
     let whole : take i (set .rules) ≡ set .rules = take-all i (set .rules) far in
     record {
       trie = rw whole at (b .grown .trie);
       owned = rw whole at (b .grown .owned);
       nodes = rw whole at (b .nodes);
-      size = b .size;
     }

@@ -8,20 +8,21 @@ use mathlib.Core.List.{List, [], _∷_, _++_, map, flatMap, append-nil, append-a
 use native.Mathlib.Omega.{arith}
 use native.Mathlib.Nat.{le-of-suc-le-suc, not-suc-le-zero, min-le-left}
 use lib.Dec.{ltb}
-use lib.ListN.{length, getD, take, drop, length-take, take-append-drop}
+use lib.ListN.{length, getD, take, length-append, length-take}
 use lib.Seq.{take-suc, take-all}
 use borrow.Author.Tests.{ltb-true}
-use Rattle.rewriting.specs.Lists.{all, same}
-use Rattle.rewriting.specs.Rules.{Rule, RuleSet, rule, ruleInRange, inRange}
+use Rattle.rewriting.specs.Lists.{same}
+use Rattle.rewriting.specs.Rules.{Rule, RuleSet, rule, inRange}
 use Rattle.rewriting.specs.Occurrences.{lowest}
-use Rattle.rewriting.proofs.Lists.{all-left, all-at, or-left, or-right}
+use Rattle.rewriting.proofs.Lists.{all-at, or-left, or-right}
 use Rattle.rewriting.proofs.Ranges.{ranges, rule-at}
-use Rattle.image.specs.Image.{read, valid}
+use Rattle.image.specs.Image.{body, read, valid}
 use Rattle.image.specs.Places.{leftAt}
+use Rattle.image.proofs.Image.{valid-in-range}
 use Rattle.image.proofs.Places.{left-within, left-symbol, body-left}
 use Rattle.table.specs.declared.trie.Walked.{Walked}
 use Rattle.table.specs.States.{isPrefix, prefixes, known, numbered, states}
-use Rattle.table.specs.Nodes.{depth, children, Linked, Trie, Owned, Followed, Grown, Followed-rule}
+use Rattle.table.specs.Nodes.{depth, children, Linked, Trie, Owned, Followed, Grown, Followed-rule, Roomy}
 use Rattle.table.proofs.Matching.{lowest-no-prefix}
 use Rattle.table.proofs.States.{known-numbered, known-states, length-numbered, length-prefixes, few-prefixes}
 use Rattle.table.proofs.Tally.{tally-most}
@@ -71,8 +72,55 @@ pub states-next : (rules : List Rule) (i : ℕ) → i < length rules
     → states (take (suc i) rules) ≡ numbered (states (take i rules)) (prefixes (rule rules i .left))
 states-next rules i h = rw (take-rule rules i h) (states-append (take i rules) (rule rules i))
 
+-- as many prefixes as symbols
+prefixes-symbols : (rs : List Rule) → length (flatMap (λ r. prefixes (r .left)) rs) ≡ length (flatMap (λ r. r .left) rs)
+unfolding flatMap
+prefixes-symbols [] = refl
+prefixes-symbols (r ∷ rs) = let ih = prefixes-symbols rs in simp (length-append, length-prefixes) (omega arith)
+
+-- 64 left sides have at most 512 symbols
+pub few-symbols : (set : RuleSet) → inRange set ≡ true → length (flatMap (λ r. r .left) (set .rules)) ≤ 512
+few-symbols set e =
+    let h = ranges set e in
+    omega (arith, prefixes-symbols (set .rules), few-prefixes set (set .rules) (h .all-rules), h)
+
+-- and fewer than the bodies have
+left-bodies : (rs : List Rule) → length (flatMap (λ r. r .left) rs) ≤ length (flatMap body rs)
+unfolding flatMap
+left-bodies [] = omega arith
+left-bodies (r ∷ rs) =
+    let ih = left-bodies rs in
+    let own = body-left r in
+    simp length-append (omega arith)
+
+-- so 4,104 words are enough for every rule set, and 512 for bodies of less than 64 symbols
+pub roomy-large : (b : List ℕ) → valid b ≡ true → Roomy (read b) 4104
+roomy-large b e = omega (arith, few-symbols (read b) (valid-in-range b e))
+
+pub roomy-small : (b : List ℕ) → length (flatMap body (read b .rules)) < 64 → Roomy (read b) 512
+roomy-small b few = omega (arith, left-bodies (read b .rules))
+
+-- the symbols of the first i left sides and of left side i are among all
+pub symbols-within : (rs : List Rule) (i : ℕ) → i < length rs
+    → length (flatMap (λ r. r .left) (take i rs)) + length (rule rs i .left) ≤ length (flatMap (λ r. r .left) rs)
+unfolding flatMap rule
+symbols-within [] i h = absurd (not-suc-le-zero h)
+symbols-within (r ∷ rs) zero h = simp length-append (omega arith)
+symbols-within (r ∷ rs) (suc i) h =
+    let ih = symbols-within rs i (le-of-suc-le-suc h) in
+    simp length-append (omega arith)
+
+pub symbols-next : (rs : List Rule) (i : ℕ) → i < length rs
+    → length (flatMap (λ r. r .left) (take (suc i) rs)) ≡ length (flatMap (λ r. r .left) (take i rs)) + length (rule rs i .left)
+unfolding flatMap rule
+symbols-next [] i h = absurd (not-suc-le-zero h)
+symbols-next (r ∷ rs) zero h = rw append-nil (omega arith)
+symbols-next (r ∷ rs) (suc i) h =
+    let ih = symbols-next rs i (le-of-suc-le-suc h) in
+    simp length-append (omega arith)
+
 -- The walk along rule i's left side: after j symbols it stands at the node of the first j, and these j prefixes have nodes.
-module _ (set : RuleSet) (i : ℕ) where
+module _ (set : RuleSet) (i words : ℕ) where
   abbrev pub left : List ℕ
   left = rule (set .rules) i .left
 
@@ -87,11 +135,11 @@ module _ (set : RuleSet) (i : ℕ) where
     pub nodes : n ≡ length (sofar j)
     pub node : q < length (sofar j)
     pub state : getD (sofar j) q [] ≡ take j (rule (set .rules) i .left)
-    pub size : length t ≡ 4104
+    pub size : length t ≡ words
 
-  pub walk-first : (t : List ℕ) → Grown set i t → (n : ℕ) → n ≡ length (states (take i (set .rules))) → length t ≡ 4104 → Walking 0 0 n t
+  pub walk-first : (t : List ℕ) → Grown set i t → (n : ℕ) → n ≡ length (states (take i (set .rules))) → length t ≡ words → Walking 0 0 n t
   unfolding numbered
-  walk-first t g n e size =
+  walk-first t g n e long =
       record {
         within = omega arith;
         trie = g .trie;
@@ -99,7 +147,7 @@ module _ (set : RuleSet) (i : ℕ) where
         nodes = e;
         node = g .trie .some-node;
         state = g .trie .root;
-        size = size;
+        size = long;
       }
 
   -- the states of the first i rules are known all the while
@@ -117,22 +165,21 @@ module _ (set : RuleSet) (i : ℕ) where
       go true e = sym (still-known j v e) ∙ new
       go false e = refl
 
-  -- the first i rules have at most 8 i states beside the root
-  pub few-first : inRange set ≡ true → length (states (take i (set .rules))) ≤ 1 + 8 * i
+  -- at most as many states, beside the root, as symbols that were followed
+  pub few-first : length (states (take i (set .rules))) ≤ 1 + length (flatMap (λ r. r .left) (take i (set .rules)))
   unfolding states
-  few-first e =
-      let part : all (ruleInRange set) (take i (set .rules)) ≡ true =
-      all-left (ruleInRange set) (take i (set .rules)) (drop i (set .rules)) (rw take-append-drop (ranges set e .all-rules))
-      in
-      let few = few-prefixes set (take i (set .rules)) part in
-      let first = length-numbered ([] ∷ []) (flatMap (λ r. prefixes (r .left)) (take i (set .rules))) in
-      omega (arith, length-take i (set .rules), min-le-left i (length (set .rules)))
-
-  few-sofar : inRange set ≡ true → (j : ℕ) → length (sofar j) ≤ 1 + 8 * i + j
-  few-sofar e j =
+  few-first =
       omega (
         arith,
-        few-first e,
+        prefixes-symbols (take i (set .rules)),
+        length-numbered ([] ∷ []) (flatMap (λ r. prefixes (r .left)) (take i (set .rules))),
+      )
+
+  few-sofar : (j : ℕ) → length (sofar j) ≤ 1 + length (flatMap (λ r. r .left) (take i (set .rules))) + j
+  few-sofar j =
+      omega (
+        arith,
+        few-first,
         length-numbered (states (take i (set .rules))) (take j (prefixes (rule (set .rules) i .left))),
         length-take j (prefixes (rule (set .rules) i .left)),
         min-le-left j (length (prefixes (rule (set .rules) i .left))),
@@ -147,18 +194,21 @@ module _ (set : RuleSet) (i : ℕ) where
     pub shallow : depth t q < 513
     pub narrow : children t q < 513
 
-  pub walk-room : inRange set ≡ true → i < length (set .rules) → (j q n : ℕ) (t : List ℕ) → Walking j q n t
+  pub walk-room : inRange set ≡ true → Roomy set words → i < length (set .rules) → (j q n : ℕ) (t : List ℕ) → Walking j q n t
       → j < length (rule (set .rules) i .left) → Room j q n t
-  walk-room e lt j q n t w more =
+  walk-room e roomy lt j q n t w more =
       let h = ranges set e in
       let r = rule-at set h i lt in
-      let few : n < 513 = omega (arith, w .nodes, few-sofar e j, h, r) in
+      let all : n < 1 + length (flatMap (λ r. r .left) (set .rules)) =
+      omega (arith, w .nodes, few-sofar j, symbols-within (set .rules) i lt)
+      in
+      let few : n < 513 = omega (arith, few-symbols set e) in
       let long = ap length (w .state) in
       record {
         linked = rw (w .nodes) (w .trie .linked);
         node = rw (w .nodes) (w .node);
         few = few;
-        room = omega (arith, w .size);
+        room = omega (arith, w .size, roomy);
         shallow =
             omega (
               arith,
@@ -178,10 +228,10 @@ module _ (set : RuleSet) (i : ℕ) where
       }
 
   -- a turn
-  pub walk-next : inRange set ≡ true → i < length (set .rules) → (j q n : ℕ) (t : List ℕ) → Walking j q n t
+  pub walk-next : inRange set ≡ true → Roomy set words → i < length (set .rules) → (j q n : ℕ) (t : List ℕ) → Walking j q n t
       → j < length (rule (set .rules) i .left) → (a : ℕ) → a ≡ getD (rule (set .rules) i .left) j 0 → (w : Walked) (t′ : List ℕ)
       → Followed t n q a w t′ → Walking (suc j) (w .node) (w .nodes) t′
-  walk-next e lt j q n t k more a is w t′ f =
+  walk-next e roomy lt j q n t k more a is w t′ f =
       record {
         within = more;
         trie = rw next (step .trie);
@@ -199,7 +249,7 @@ module _ (set : RuleSet) (i : ℕ) where
           (all-at (λ x. ltb x (set .symbols)) (rule (set .rules) i .left) 0 (rule-at set (ranges set e) i lt .left-below) j more))
 
       room : Room j q n t
-      room = walk-room e lt j q n t k more
+      room = walk-room e roomy lt j q n t k more
 
       string : getD (sofar j) q [] ++ a ∷ [] ≡ take (suc j) (rule (set .rules) i .left)
       string = rw (k .state, is) (sym (take-suc (rule (set .rules) i .left) j 0 more))

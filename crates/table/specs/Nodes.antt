@@ -13,7 +13,7 @@ use Prim.Native.Nat.{ℕ, zero, suc, _+_, _*_, _≤_, _<_}
 use mathlib.Core.Path.{_≡_}
 use mathlib.Core.Bool.{Bool, cond}
 use mathlib.Core.Logic.{_⊎_}
-use mathlib.Core.List.{List, [], _∷_, _++_}
+use mathlib.Core.List.{List, [], _∷_, _++_, flatMap}
 use lib.Dec.{eqb}
 use lib.ListN.{length, getD, set, take}
 use Rattle.rewriting.specs.Rules.{Rule, RuleSet, rule}
@@ -137,9 +137,12 @@ pub record Followed-rule (set : RuleSet) (i : ℕ) (w : Walked) (t : List ℕ) :
   pub node : w .node < w .nodes
   pub ends : getD (states (take (suc i) (set .rules))) (w .node) [] ≡ rule (set .rules) i .left
 
+-- k words have room for a node for the root and one for each symbol of a left side
+abbrev pub Roomy : RuleSet → ℕ → Type 0
+Roomy set k = 8 * suc (length (flatMap (λ r. r .left) (set .rules))) ≤ k
+
 -- t holds the trie of all rules, which has n nodes
 pub record Built (set : RuleSet) (n : ℕ) (t : List ℕ) : Type 0 where
   pub trie : Trie (states (set .rules)) (set .symbols) t
   pub owned : Owned (set .rules) (states (set .rules)) t
   pub nodes : n ≡ length (states (set .rules))
-  pub size : length t ≡ 4104

@@ -2,12 +2,12 @@
 ghost use Prim.Native.Nat.{ℕ};
 ghost use mathlib.Core.Path.{_≡_};
 ghost use mathlib.Core.Bool.{true};
-ghost use lib.ListN.{length};
+ghost use lib.ListN.{length, replicate};
 ghost use Rattle.image.specs.Image.{read, valid};
 ghost use Rattle.table.specs.Table.{tableOf};
 ghost use Rattle.table.specs.Compile.{compileOf};
 ghost use Rattle.table.specs.Check.{checkOf};
-ghost use Rattle.table.specs.Nodes.{Built};
+ghost use Rattle.table.specs.Nodes.{Roomy, Built};
 
 mod compare;
 mod rows;
@@ -40,22 +40,51 @@ fn write(image: &[u8], nodes: &mut [u16], n: usize, table: &mut [u16])
     rows::write_matches(image, nodes, n, &mut table[2..rows]);
 }
 
-// Writes the table of the image. The trie of the states is built first, since their number decides whether the table fits.
+// Compile for a valid image, with words for the trie. It is built first, since the number of states decides whether the
+// table fits.
+fn compile_with(image: &[u8], nodes: &mut [u16], table: &mut [u16]) -> Compiled
+    requires image { ⌜ valid (now image) ≡ true ⌝ }
+    requires words { ⌜ (now nodes ≡ replicate (length (now nodes)) 0) × (Roomy (read (now image)) (length (now nodes))) ⌝ }
+    ensures answer { λ r. ⌜ r ≡ compileOf (now (image .entry)) (now (table .entry)) .answer ⌝ }
+    ensures area { λ r. ⌜ now (table .exit) ≡ compileOf (now (image .entry)) (now (table .entry)) .area ⌝ }
+{
+    let n = trie::build(image, nodes);
+    let words = 2 + n + n * image::symbols(image);
+    if table.len() < words {
+        return Compiled::Refused(8);
+    }
+    write(image, nodes, n, &mut table[..words]);
+    Compiled::Words(words)
+}
+
+// Writes the table of the image. A small rule set has a small array for its trie: to clear the large one takes longer than
+// all the rest.
 pub fn compile(image: &[u8], table: &mut [u16]) -> Compiled
     ensures answer { λ r. ⌜ r ≡ compileOf (now (image .entry)) (now (table .entry)) .answer ⌝ }
     ensures area { λ r. ⌜ now (table .exit) ≡ compileOf (now (image .entry)) (now (table .entry)) .area ⌝ }
 {
     if image::is_valid(image) {
-        let mut nodes = [0u16; 4104];
-        let n = trie::build(image, &mut nodes);
-        let words = 2 + n + n * image::symbols(image);
-        if table.len() < words {
-            return Compiled::Refused(8);
+        if image::bodies_length(image) < 64 {
+            let mut few = [0u16; 512];
+            return compile_with(image, &mut few, table);
         }
-        write(image, &mut nodes, n, &mut table[..words]);
-        return Compiled::Words(words);
+        let mut nodes = [0u16; 4104];
+        return compile_with(image, &mut nodes, table);
     }
     Compiled::Refused(7)
+}
+
+// The check behind refusal 9 for a valid image, with words for the trie.
+fn check_with(image: &[u8], nodes: &mut [u16], table: &[u16]) -> Checked
+    requires image { ⌜ valid (now image) ≡ true ⌝ }
+    requires words { ⌜ (now nodes ≡ replicate (length (now nodes)) 0) × (Roomy (read (now image)) (length (now nodes))) ⌝ }
+    ensures { λ r. ⌜ r ≡ checkOf (now (image .entry)) (now (table .entry)) ⌝ }
+{
+    let n = trie::build(image, nodes);
+    if compare::holds(image, nodes, n, table) {
+        return Checked::Passed;
+    }
+    Checked::Refused(9)
 }
 
 // The check of a lent image and table: refusals 7 and 9.
@@ -63,12 +92,12 @@ pub fn check(image: &[u8], table: &[u16]) -> Checked
     ensures { λ r. ⌜ r ≡ checkOf (now (image .entry)) (now (table .entry)) ⌝ }
 {
     if image::is_valid(image) {
-        let mut nodes = [0u16; 4104];
-        let n = trie::build(image, &mut nodes);
-        if compare::holds(image, &mut nodes, n, table) {
-            return Checked::Passed;
+        if image::bodies_length(image) < 64 {
+            let mut few = [0u16; 512];
+            return check_with(image, &mut few, table);
         }
-        return Checked::Refused(9);
+        let mut nodes = [0u16; 4104];
+        return check_with(image, &mut nodes, table);
     }
     Checked::Refused(7)
 }

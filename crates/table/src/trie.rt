@@ -8,7 +8,7 @@ ghost use Rattle.image.specs.Image.{read, valid};
 ghost use Rattle.image.specs.Places.{leftAt};
 ghost use Rattle.table.specs.States.{states};
 ghost use Rattle.table.specs.Nodes.{parent, symbol, depth, children, failure, failureBy};
-ghost use Rattle.table.specs.Nodes.{Linked, ChildOr, added, Followed, marked, Grown, «Followed-rule», Built};
+ghost use Rattle.table.specs.Nodes.{Linked, ChildOr, added, Followed, marked, Grown, «Followed-rule», Roomy, Built};
 
 // Where a walk has come to, and the number of nodes.
 pub struct Walked {
@@ -114,9 +114,9 @@ fn mark(trie: &mut [u16], q: usize, i: usize)
 fn walk(image: &[u8], i: usize, at: usize, trie: &mut [u16], n: usize) -> Walked
     requires image { ⌜ valid (now image) ≡ true ⌝ }
     requires rule { ⌜ (i < length (read (now image) .rules)) × (at ≡ leftAt (read (now image)) i) ⌝ }
-    requires trie { ⌜ (Grown (read (now image)) i (now trie)) × (length (now trie) ≡ 4104) ⌝ }
+    requires trie { ⌜ (Grown (read (now image)) i (now trie)) × (Roomy (read (now image)) (length (now trie))) ⌝ }
     requires nodes { ⌜ n ≡ length (states (take i (read (now image) .rules))) ⌝ }
-    ensures { λ r. ⌜ («Followed-rule» (read (now (image .entry))) i r (now (trie .exit))) × (length (now (trie .exit)) ≡ 4104) ⌝ }
+    ensures { λ r. ⌜ («Followed-rule» (read (now (image .entry))) i r (now (trie .exit))) × (length (now (trie .exit)) ≡ length (now (trie .entry))) ⌝ }
 {
     let long = image::left_length(image, i);
     let mut q = 0;
@@ -134,7 +134,7 @@ fn walk(image: &[u8], i: usize, at: usize, trie: &mut [u16], n: usize) -> Walked
 // The trie of all left sides, in words that were 0, and the number of its nodes.
 pub fn build(image: &[u8], trie: &mut [u16]) -> usize
     requires image { ⌜ valid (now image) ≡ true ⌝ }
-    requires trie { ⌜ now trie ≡ replicate 4104 0 ⌝ }
+    requires trie { ⌜ (now trie ≡ replicate (length (now trie)) 0) × (Roomy (read (now image)) (length (now trie))) ⌝ }
     ensures { λ r. ⌜ Built (read (now (image .entry))) r (now (trie .exit)) ⌝ }
 {
     let rules = image::rules(image);

@@ -20,6 +20,8 @@ const MAX_SIDE: usize = 8;
 const NODE: usize = 8;
 /// The words of the largest trie: the root and 64 left sides of 8 symbols.
 const TRIE: usize = 513 * NODE;
+/// The words of the trie of a rule set whose bodies have less than 64 symbols.
+const SMALL_TRIE: usize = 64 * NODE;
 
 // Where the words of a node are.
 const PARENT: usize = 0;
@@ -65,7 +67,7 @@ fn is_valid(image: &[u8]) -> bool {
 
 /// Builds the trie of a valid image's left sides, in a trie of zeros, and returns the number of
 /// nodes.
-fn build(image: &[u8], trie: &mut [u16; TRIE]) -> usize {
+fn build<const W: usize>(image: &[u8], trie: &mut [u16; W]) -> usize {
     let rules = usize::from(image[1]);
     let (contents, mut bodies) = image[4..].split_at(4 * rules);
     let mut n = 1;
@@ -101,7 +103,7 @@ fn build(image: &[u8], trie: &mut [u16; TRIE]) -> usize {
 }
 
 /// The failure state of node `q`, by the rows and its parent's failure state.
-fn failure(trie: &[u16; TRIE], rows: &[u16], s: usize, q: usize) -> u16 {
+fn failure<const W: usize>(trie: &[u16; W], rows: &[u16], s: usize, q: usize) -> u16 {
     match usize::from(trie[q * NODE + PARENT]) {
         0 => 0,
         parent => {
@@ -116,7 +118,21 @@ pub fn compile(image: &[u8], table: &mut [u16]) -> Result<usize, u32> {
     if !is_valid(image) {
         return Err(BAD_IMAGE);
     }
-    let mut trie = [0; TRIE];
+    if is_small(image) {
+        compile_with::<SMALL_TRIE>(image, table)
+    } else {
+        compile_with::<TRIE>(image, table)
+    }
+}
+
+/// Whether the bodies of a valid image have less than 64 symbols.
+fn is_small(image: &[u8]) -> bool {
+    image.len() - (4 + 4 * usize::from(image[1])) < 64
+}
+
+/// The same of a valid image, with so many words for the trie.
+fn compile_with<const W: usize>(image: &[u8], table: &mut [u16]) -> Result<usize, u32> {
+    let mut trie = [0; W];
     let n = build(image, &mut trie);
     let s = usize::from(image[0]);
     let words = 2 + n + n * s;
@@ -177,7 +193,16 @@ pub fn check_table(image: &[u8], table: &[u16]) -> Result<(), u32> {
     if !is_valid(image) {
         return Err(BAD_IMAGE);
     }
-    let mut trie = [0; TRIE];
+    if is_small(image) {
+        check_with::<SMALL_TRIE>(image, table)
+    } else {
+        check_with::<TRIE>(image, table)
+    }
+}
+
+/// The same of a valid image, with so many words for the trie.
+fn check_with<const W: usize>(image: &[u8], table: &[u16]) -> Result<(), u32> {
+    let mut trie = [0; W];
     let n = build(image, &mut trie);
     let s = usize::from(image[0]);
     if is_table_of(&mut trie, n, s, table) {
@@ -188,7 +213,7 @@ pub fn check_table(image: &[u8], table: &[u16]) -> Result<(), u32> {
 }
 
 /// Whether the table begins with that of a trie of `n` nodes over `s` symbols.
-fn is_table_of(trie: &mut [u16; TRIE], n: usize, s: usize, table: &[u16]) -> bool {
+fn is_table_of<const W: usize>(trie: &mut [u16; W], n: usize, s: usize, table: &[u16]) -> bool {
     let words = 2 + n + n * s;
     if table.len() < words || usize::from(table[0]) != n || usize::from(table[1]) != s {
         return false;

@@ -1,14 +1,8 @@
--- `table::compile` meets its contract: refused 7 where the image is not valid, 8 where the table does not fit, else written.
+-- `table::compile` meets its contract: refused 7 where the image is not valid, else compiled with an array of its size.
 -- Assumes nothing.
-use Prim.Native.Nat.{ℕ, _+_, _*_, _≤_}
-use mathlib.Core.Path.{_≡_, refl, sym, _∙_}
-use mathlib.Core.Bool.{true}
-use mathlib.Core.List.{List}
-use native.Mathlib.Omega.{arith}
-use lib.ListN.{length}
-use lib.Seq.{length-take-le}
-use Rattle.image.specs.Image.{read, valid}
-use Rattle.table.proofs.Compilation.{words-built, compile-seven, compile-eight, compile-words}
+use mathlib.Core.Path.{refl, sym, _∙_}
+use Rattle.table.proofs.Walk.{roomy-small, roomy-large}
+use Rattle.table.proofs.Compilation.{compile-seven}
 use borrow.Author.Needs.{needs}
 use Rattle.table.proofs.compile.Statement.{statement}
 use Rattle.table.proofs.compile.Tie as tie
@@ -16,59 +10,32 @@ use Rattle.table.proofs.compile.Tie as tie
 is-valid-requires : tie.Need-is-valid-requires
 is-valid-requires c κs = search needs
 
-slice-aggregate-build : tie.Need-slice-aggregate-build
-slice-aggregate-build c = search needs
+bodies-length-requires : tie.Need-bodies-length-requires
+bodies-length-requires c κs = sym (c .before .is-valid .ensures) ∙ c .if1 .taken
 
-build-requires : tie.Need-build-requires
-build-requires c κs = (sym (c .before .before .is-valid .ensures) ∙ c .before .if1 .taken, refl)
+slice-aggregate-compile-with : tie.Need-slice-aggregate-compile-with
+slice-aggregate-compile-with c = search needs
 
-add-words : tie.Need-add-words
-add-words c = search needs
-
-symbols-requires : tie.Need-symbols-requires
-symbols-requires c κs = sym (c .before .before .before .before .is-valid .ensures) ∙ c .before .before .before .if1 .taken
-
-mul-words : tie.Need-mul-words
-mul-words c =
-    let good = sym (c .before .before .before .before .before .is-valid .ensures) ∙ c .before .before .before .before .if1 .taken in
-    let words = words-built _ good _ _ (c .before .before .build .ensures) _ (c .symbols .ensures) in
-    omega (arith, words)
-
-add-words-2 : tie.Need-add-words-2
-add-words-2 c =
-    let good = sym (c .before .before .before .before .before .is-valid .ensures) ∙ c .before .before .before .before .if1 .taken in
-    let words = words-built _ good _ _ (c .before .before .build .ensures) _ (c .symbols .ensures) in
-    omega (arith, words)
-
-returns : tie.Need-returns
-returns c =
-    let good = sym (c .before .before .before .before .before .before .is-valid .ensures) ∙ c .before .before .before .before .before .if1 .taken in
-    let words = words-built _ good _ _ (c .before .before .before .build .ensures) _ (c .before .symbols .ensures) in
-    compile-eight _ _ good (rw (← words .0) (c .if2 .taken))
-
-slice-aggregate-write : tie.Need-slice-aggregate-write
-slice-aggregate-write c = search needs
-
-slice-relend-prefix-write : tie.Need-slice-relend-prefix-write
-slice-relend-prefix-write c = search needs
-
-slice-aggregate-write-2 : tie.Need-slice-aggregate-write-2
-slice-aggregate-write-2 c = sym (length-take-le _ _ (c .before .before .if2 .left))
-
-write-requires : tie.Need-write-requires
-write-requires c κs =
-    let good = sym (c .before .before .before .before .before .before .before .before .is-valid .ensures) ∙ c .before .before .before .before .before .before .before .if1 .taken in
-    let words = words-built _ good _ _ (c .before .before .before .before .before .build .ensures) _ (c .before .before .before .symbols .ensures) in
-    (good, (c .before .before .before .before .before .build .ensures, length-take-le _ _ (c .before .before .if2 .left) ∙ words .0))
+compile-with-requires : tie.Need-compile-with-requires
+compile-with-requires c κs = (sym (c .before .before .before .before .before .is-valid .ensures) ∙ c .before .before .before .before .if1 .taken, (refl, roomy-small _ (rw (c .before .before .before .bodies-length .ensures) at (c .before .before .if2 .taken))))
 
 same-length : tie.Need-same-length
 same-length c = search needs
 
+returns : tie.Need-returns
+returns c = search needs
+
+slice-aggregate-compile-with-2 : tie.Need-slice-aggregate-compile-with-2
+slice-aggregate-compile-with-2 c = search needs
+
+compile-with-requires-2 : tie.Need-compile-with-requires-2
+compile-with-requires-2 c κs = (let good = sym (c .before .before .before .before .before .is-valid .ensures) ∙ c .before .before .before .before .if1 .taken in (good, (refl, roomy-large _ good)))
+
+same-length-2 : tie.Need-same-length-2
+same-length-2 c = search needs
+
 returns-2 : tie.Need-returns-2
-returns-2 c =
-    let good = sym (c .before .before .before .before .before .before .before .before .before .before .before .before .is-valid .ensures) ∙ c .before .before .before .before .before .before .before .before .before .before .before .if1 .taken in
-    let words = words-built _ good _ _ (c .before .before .before .before .before .before .before .before .before .build .ensures) _ (c .before .before .before .before .before .before .before .symbols .ensures) in
-    compile-words _ _ good (rw (← words .0) (c .before .before .before .before .before .before .if2 .left)) _ (words .0) _ (c .before .before .before .write .ensures)
+returns-2 c = search needs
 
 returns-3 : tie.Need-returns-3
 returns-3 c = compile-seven _ _ (sym (c .before .is-valid .ensures) ∙ c .if1 .left)
@@ -78,17 +45,13 @@ compile-spec =
     tie.close
     (tie.spec
     is-valid-requires
-    slice-aggregate-build
-    build-requires
-    add-words
-    symbols-requires
-    mul-words
-    add-words-2
-    returns
-    slice-aggregate-write
-    slice-relend-prefix-write
-    slice-aggregate-write-2
-    write-requires
+    bodies-length-requires
+    slice-aggregate-compile-with
+    compile-with-requires
     same-length
+    returns
+    slice-aggregate-compile-with-2
+    compile-with-requires-2
+    same-length-2
     returns-2
     returns-3)

@@ -36,7 +36,7 @@ symbols-requires : tie.Need-symbols-requires
 symbols-requires c κs = search needs
 
 cast-table : tie.Need-cast-table
-cast-table c = search needs
+cast-table c = omega (arith, c .before .before .before .before .pre .1 .0 .nodes, few-states _ (valid-in-range _ (c .before .before .before .before .pre .0)))
 
 slice-write-table : tie.Need-slice-write-table
 slice-write-table c = omega (arith, sized (c .before .before .before .before))
@@ -95,7 +95,7 @@ write-matches-requires c κs =
       (
         trie .nodes,
         (
-          omega (arith, filled .ensures .size, trie .size, trie .nodes, few),
+          omega (arith, filled .ensures .size, trie .trie .linked .size, trie .nodes),
           matches-part (start .args .table .now) (start .args .n) (c .before .before .before .before .before .before .before .before .before .symbols .result) _ (sized start) rows long,
         ),
       ),

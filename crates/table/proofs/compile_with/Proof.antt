@@ -1,0 +1,81 @@
+-- `table::compile_with` meets its contract: refused 8 where the table does not fit, else written.
+-- Assumes nothing.
+use mathlib.Core.Path.{sym, _∙_}
+use native.Mathlib.Omega.{arith}
+use lib.Seq.{length-take-le}
+use Rattle.table.proofs.Compilation.{words-built, compile-eight, compile-words}
+use borrow.Author.Needs.{needs}
+use Rattle.table.proofs.compile_with.Statement.{statement}
+use Rattle.table.proofs.compile_with.Tie as tie
+
+build-requires : tie.Need-build-requires
+build-requires c κs = search needs
+
+add-words : tie.Need-add-words
+add-words c = search needs
+
+symbols-requires : tie.Need-symbols-requires
+symbols-requires c κs = search needs
+
+mul-words : tie.Need-mul-words
+mul-words c =
+    let good = c .before .before .before .before .before .before .before .before .pre .0 in
+    let words = words-built _ good _ _ (c .before .before .before .build .ensures) _ (c .symbols .ensures) in
+    omega (arith, words)
+
+add-words-2 : tie.Need-add-words-2
+add-words-2 c =
+    let good = c .before .before .before .before .before .before .before .before .pre .0 in
+    let words = words-built _ good _ _ (c .before .before .before .build .ensures) _ (c .symbols .ensures) in
+    omega (arith, words)
+
+same-length : tie.Need-same-length
+same-length c = search needs
+
+returns : tie.Need-returns
+returns c =
+    let good = c .before .before .before .before .before .before .before .before .before .pre .0 in
+    let words = words-built _ good _ _ (c .before .before .before .before .build .ensures) _ (c .before .symbols .ensures) in
+    compile-eight _ _ good (rw (← words .0) (c .if1 .taken))
+
+slice-relend-prefix-write : tie.Need-slice-relend-prefix-write
+slice-relend-prefix-write c = search needs
+
+slice-aggregate-write : tie.Need-slice-aggregate-write
+slice-aggregate-write c = sym (length-take-le _ _ (c .before .before .if1 .left))
+
+write-requires : tie.Need-write-requires
+write-requires c κs =
+    let good = c .before .before .before .before .before .before .before .before .before .before .before .pre .0 in
+    let words = words-built _ good _ _ (c .before .before .before .before .before .before .build .ensures) _ (c .before .before .before .symbols .ensures) in
+    (good, (c .before .before .before .before .before .before .build .ensures, length-take-le _ _ (c .before .before .if1 .left) ∙ words .0))
+
+same-length-2 : tie.Need-same-length-2
+same-length-2 c = search needs
+
+same-length-3 : tie.Need-same-length-3
+same-length-3 c = search needs
+
+returns-2 : tie.Need-returns-2
+returns-2 c =
+    let good = c .before .before .before .before .before .before .before .before .before .before .before .before .before .before .before .before .pre .0 in
+    let words = words-built _ good _ _ (c .before .before .before .before .before .before .before .before .before .before .before .build .ensures) _ (c .before .before .before .before .before .before .before .before .symbols .ensures) in
+    compile-words _ _ good (rw (← words .0) (c .before .before .before .before .before .before .before .if1 .left)) _ (words .0) _ (c .before .before .before .before .write .ensures)
+
+pub compile-with-spec : {M : Type 1} → statement M
+compile-with-spec =
+    tie.close
+    (tie.spec
+    build-requires
+    add-words
+    symbols-requires
+    mul-words
+    add-words-2
+    same-length
+    returns
+    slice-relend-prefix-write
+    slice-aggregate-write
+    write-requires
+    same-length-2
+    same-length-3
+    returns-2)
