@@ -114,6 +114,8 @@ fn failure<const W: usize>(trie: &[u16; W], rows: &[u16], s: usize, q: usize) ->
 }
 
 /// Writes the table of an image and returns the number of words written, or a refusal.
+// Not inlined, as the library is not: the benchmark's loop must not see what is called.
+#[inline(never)]
 pub fn compile(image: &[u8], table: &mut [u16]) -> Result<usize, u32> {
     if !is_valid(image) {
         return Err(BAD_IMAGE);
@@ -189,6 +191,7 @@ fn merge(row: &mut [u16], from: &[u16]) {
 }
 
 /// Whether the table begins with the words that compile gives for the image, or a refusal.
+#[inline(never)]
 pub fn check_table(image: &[u8], table: &[u16]) -> Result<(), u32> {
     if !is_valid(image) {
         return Err(BAD_IMAGE);
