@@ -72,10 +72,14 @@ pub match-failure : (rules : List Rule) (v : List ℕ) → 0 < length v
 match-failure rules [] h = absurd (not-suc-le-zero h)
 match-failure rules (y ∷ p) h = ap matchWord (matching-fail rules y p) ∙ match-own (lowest rules (y ∷ p)) (matching rules (state rules p))
 
+-- node c holds its failure state
+abbrev pub RightFailure : List Rule → List ℕ → ℕ → Type 0
+RightFailure rules t c = failure t c ≡ number (states rules) (failureState rules (text rules c))
+
 -- The failure state found for node c is right where that of its parent, and the word of that state's row, are.
 module _ (rules : List Rule) (symbols : ℕ) (t rows : List ℕ) (trie : Trie (states rules) symbols t) where
   pub failure-found : (c : ℕ) → 0 < c → c < length (states rules)
-      → (0 < parent t c → failure t (parent t c) ≡ number (states rules) (failureState rules (text rules (parent t c))))
+      → (0 < parent t c → RightFailure rules t (parent t c))
       → (0 < parent t c → transition rows symbols (failure t (parent t c)) (symbol t c)
       ≡ number (states rules) (next rules (text rules (failure t (parent t c))) (symbol t c)))
       → failureBy t rows symbols c ≡ number (states rules) (failureState rules (text rules c))

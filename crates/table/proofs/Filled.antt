@@ -24,9 +24,8 @@ use Rattle.table.specs.Words.{text, transition}
 use Rattle.table.specs.Nodes.{matched, Trie, Owned}
 use Rattle.table.specs.Rows.{childNumber, Laid, reached, FillingAt, Matched, Filled}
 use Rattle.table.proofs.States.{next-listed, listed-prefix, number-zero, state-zero, state-long}
-use Rattle.table.proofs.RowPlaces.{place-parts}
 use Rattle.table.proofs.Failure.{next-root}
-use Rattle.table.proofs.Table.{length-row, row-at}
+use Rattle.table.proofs.Table.{matches-whole, rows-whole}
 use Rattle.table.proofs.Turns.{reached-shorter}
 
 -- no left side is empty, so the empty state has no match word
@@ -125,26 +124,6 @@ short-state set e c h = go (listed-prefix (set .rules) c h)
     go (inl p) = let size = ap length p in omega arith
     go (inr p) = prefix-short set (set .rules) (ranges set e .all-rules) (text (set .rules) c) p
 
--- rows of the next states, word by word, are the rows of the table
-rows-whole : (set : RuleSet) (rows : List ℕ) → 0 < set .symbols → length rows ≡ length (states (set .rules)) * set .symbols
-    → ((c a : ℕ) → c < length (states (set .rules)) → a < set .symbols
-    → transition rows (set .symbols) c a ≡ number (states (set .rules)) (next (set .rules) (text (set .rules) c) a))
-    → rows ≡ flatMap (row set) (states (set .rules))
-rows-whole set rows pos size each =
-    ext-getD 0 rows (flatMap (row set) s) (size ∙ sym (length-flatMap (row set) (set .symbols) (length-row set) s)) word
-  where
-    s : List (List ℕ)
-    s = states (set .rules)
-
-    word : (k : ℕ) → k < length rows → getD rows k 0 ≡ getD (flatMap (row set) s) k 0
-    word k h =
-        let (q, a, listed, low, place) = place-parts (set .symbols) (length s) k pos (rw size at h) in
-        ap (λ (i : ℕ). getD rows i 0) (sym place)
-        ∙ each q a listed low
-        ∙ sym (row-at set (getD s q []) a low)
-        ∙ sym (getD-flatMap (row set) (set .symbols) (length-row set) s q a [] 0 listed low)
-        ∙ ap (λ (i : ℕ). getD (flatMap (row set) s) i 0) place
-
 -- When the states of 8 symbols are done, all are.
 pub filling-end : (set : RuleSet) (t t′ rows : List ℕ) → inRange set ≡ true → length t′ ≡ length t → FillingAt set 9 1 t′ rows
     → Filled set t t′ rows
@@ -176,9 +155,4 @@ written-more t words q h all k l = go (eqb k q) refl
 pub written-all : (set : RuleSet) (t words : List ℕ) → Matched set t → length words ≡ length (states (set .rules))
     → ((k : ℕ) → k < length words → getD words k 0 ≡ matched t k)
     → words ≡ map (λ q. matchWord (matching (set .rules) q)) (states (set .rules))
-written-all set t words matches size all =
-    ext-getD 0 words (map word (states (set .rules))) (size ∙ sym (length-map (states (set .rules)) word))
-    (λ k h. all k h ∙ matches k (omega arith) ∙ sym (getD-map word (states (set .rules)) k [] 0 (omega arith)))
-  where
-    word : List ℕ → ℕ
-    word q = matchWord (matching (set .rules) q)
+written-all set t words matches size all = matches-whole set words size (λ k h. all k (omega arith) ∙ matches k h)

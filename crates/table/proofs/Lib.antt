@@ -19,5 +19,9 @@ pub mod Filling
 pub mod Turns
 pub mod Filled
 pub mod Written
-pub mod Consistent
+pub mod RowBeside
+pub mod RightPasses
+pub mod PassesRight
+pub mod CheckLoop
+pub mod Compared
 pub mod Checking

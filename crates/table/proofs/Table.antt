@@ -1,7 +1,7 @@
 -- Laws of the table: how long it is, what stands in each of its words, and that each fits 16 bits.
 -- Assumes nothing.
 use Prim.Native.Nat.{ℕ, suc, _+_, _*_, _≤_, _<_}
-use mathlib.Core.Path.{_≡_, refl, _∙_}
+use mathlib.Core.Path.{_≡_, refl, sym, ap, _∙_}
 use mathlib.Core.Bool.{true}
 use mathlib.Core.Option.{Option, none, some}
 use mathlib.Core.List.{List, [], map, flatMap}
@@ -9,7 +9,7 @@ use native.Mathlib.Omega.{arith}
 use native.Mathlib.Nat.{mul-le-mul}
 use lib.Dec.{ltb}
 use lib.ListN.{length, getD, length-append, length-map, List·getD-append}
-use lib.Seq.{getD-append-add}
+use lib.Seq.{getD-append-add, ext-getD}
 use borrow.Author.Tests.{lt-ltb}
 use Rattle.rewriting.specs.Lists.{prefix, below, upTo}
 use Rattle.rewriting.specs.Rules.{Rule, RuleSet, inRange}
@@ -19,8 +19,9 @@ use Rattle.rewriting.proofs.Ranges.{ranges}
 use Rattle.rewriting.proofs.Scan.{ending-left}
 use Rattle.table.specs.States.{next, matching, states, number}
 use Rattle.table.specs.Table.{matchWord, row, tableOf}
+use Rattle.table.specs.Words.{text, transition}
 use Rattle.table.proofs.States.{next-below, few-states}
-use Rattle.table.proofs.RowPlaces.{word-within}
+use Rattle.table.proofs.RowPlaces.{word-within, place-parts}
 
 -- a row has a word for each symbol: the number of the next state
 pub length-row : (set : RuleSet) (q : List ℕ) → length (row set q) ≡ set .symbols
@@ -92,6 +93,35 @@ pub table-next-below : (set : RuleSet) (i a : ℕ) → i < length (states (set .
     → getD (tableOf set) (2 + length (states (set .rules)) + i * set .symbols + a) 0 < length (states (set .rules))
 table-next-below set i a h below =
     rw (table-next set i a h below) (next-below (set .rules) (getD (states (set .rules)) i []) a)
+
+-- match words, one by one, are those of the table
+pub matches-whole : (set : RuleSet) (words : List ℕ) → length words ≡ length (states (set .rules))
+    → ((c : ℕ) → c < length (states (set .rules)) → getD words c 0 ≡ matchWord (matching (set .rules) (text (set .rules) c)))
+    → words ≡ map (λ q. matchWord (matching (set .rules) q)) (states (set .rules))
+matches-whole set words size each =
+    ext-getD 0 words (matchWords set) (size ∙ sym (length-matchWords set))
+    (λ k h.
+    each k (omega arith) ∙ sym (getD-map (λ q. matchWord (matching (set .rules) q)) (states (set .rules)) k [] 0 (omega arith)))
+
+-- rows of the next states, word by word, are the rows of the table
+pub rows-whole : (set : RuleSet) (rows : List ℕ) → 0 < set .symbols → length rows ≡ length (states (set .rules)) * set .symbols
+    → ((c a : ℕ) → c < length (states (set .rules)) → a < set .symbols
+    → transition rows (set .symbols) c a ≡ number (states (set .rules)) (next (set .rules) (text (set .rules) c) a))
+    → rows ≡ flatMap (row set) (states (set .rules))
+rows-whole set rows pos size each =
+    ext-getD 0 rows (flatMap (row set) s) (size ∙ sym (length-flatMap (row set) (set .symbols) (length-row set) s)) word
+  where
+    s : List (List ℕ)
+    s = states (set .rules)
+
+    word : (k : ℕ) → k < length rows → getD rows k 0 ≡ getD (flatMap (row set) s) k 0
+    word k h =
+        let (q, a, listed, low, place) = place-parts (set .symbols) (length s) k pos (rw size at h) in
+        ap (λ (i : ℕ). getD rows i 0) (sym place)
+        ∙ each q a listed low
+        ∙ sym (row-at set (getD s q []) a low)
+        ∙ sym (getD-flatMap (row set) (set .symbols) (length-row set) s q a [] 0 listed low)
+        ∙ ap (λ (i : ℕ). getD (flatMap (row set) s) i 0) place
 
 -- The same of any table that begins with the words of tableOf.
 pub begins-match : (set : RuleSet) (t : List ℕ) → prefix (tableOf set) t ≡ true → (i : ℕ) → i < length (states (set .rules))

@@ -10,7 +10,7 @@ use borrow.Author.Tests.{not-true, not-false}
 use Rattle.image.specs.Image.{read}
 use Rattle.image.proofs.Image.{valid-in-range}
 use Rattle.image.proofs.Check.{decided, denied}
-use Rattle.table.proofs.Consistent.{Checking, root-asks, checking-root, wrong-root, checking-end, node-room, failure-asks, no-failure, no-state, state-asks, checking-more}
+use Rattle.table.proofs.CheckLoop.{Checking, root-asks, checking-root, wrong-root, checking-end, node-room, failure-asks, no-failure, no-state, state-asks, checking-more}
 use Rattle.table.proofs.compare.states_hold.Statement.{statement}
 use Rattle.table.proofs.compare.states_hold.Tie as tie
 
