@@ -11,7 +11,7 @@ use native.Mathlib.Numerals.{add-one}
 use lib.ListN.{length, getD, take, replicate, length-replicate}
 use lib.Seq.{take-all, length-take-le, getD-set-same}
 use borrow.Author.Tests.{ne-eqb}
-use Rattle.rewriting.specs.Lists.{all, same}
+use Rattle.rewriting.specs.Lists.{same}
 use Rattle.rewriting.specs.Rules.{Rule, RuleSet, rule, inRange}
 use Rattle.rewriting.specs.Occurrences.{lowest}
 use Rattle.rewriting.proofs.Lists.{same-eq, same-refl}

@@ -1,25 +1,25 @@
 -- Where the filling of the rows begins and ends: with the children laid the empty state is done, and when the states of 8
 -- symbols are done, the rows and match words are the table's, and are written there.
 -- Assumes nothing.
-use Prim.Native.Nat.{ℕ, _+_, _*_, _≤_, _<_}
+use Prim.Native.Nat.{ℕ, _+_, _≤_, _<_}
 use mathlib.Core.Path.{_≡_, refl, sym, ap, _∙_}
 use mathlib.Core.Bool.{Bool, true, false, cond, and-false}
 use mathlib.Core.Logic.{_⊎_, inl, inr}
 use mathlib.Core.Option.{Option, none, some}
-use mathlib.Core.List.{List, [], _∷_, flatMap, map}
+use mathlib.Core.List.{List, [], _∷_, map}
 use native.Mathlib.Omega.{arith}
 use lib.Dec.{eqb}
-use lib.ListN.{length, getD, drop, length-append, length-map, set as store}
-use lib.Seq.{ext-getD, getD-set-same, getD-set-other}
+use lib.ListN.{length, getD, drop, length-append, set as store}
+use lib.Seq.{getD-set-same, getD-set-other}
 use borrow.Author.Tests.{eqb-true, eqb-false, le-ltb}
 use Rattle.rewriting.specs.Lists.{all, prefix}
 use Rattle.rewriting.specs.Rules.{Rule, RuleSet, rule, ruleInRange, inRange}
 use Rattle.rewriting.specs.Occurrences.{lowest, ending}
-use Rattle.rewriting.proofs.Lists.{and-left, and-right, or-cases, prefix-rest, length-flatMap, getD-flatMap, getD-map}
+use Rattle.rewriting.proofs.Lists.{and-left, and-right, or-cases, prefix-rest}
 use Rattle.rewriting.proofs.Ranges.{rule-ranges, ranges, rule-at}
 use Rattle.rewriting.proofs.Scan.{lowest-left}
 use Rattle.table.specs.States.{isPrefix, next, known, matching, states, number}
-use Rattle.table.specs.Table.{matchWord, row}
+use Rattle.table.specs.Table.{matchWord}
 use Rattle.table.specs.Words.{text, transition}
 use Rattle.table.specs.Nodes.{matched, Trie, Owned}
 use Rattle.table.specs.Rows.{childNumber, Laid, reached, FillingAt, Matched, Filled}

@@ -1,7 +1,7 @@
 -- The table written in parts: its first two words, then the rows, then the match words between them.
 -- Assumes nothing.
-use Prim.Native.Nat.{ℕ, suc, _+_, _-_, _≤_, _<_}
-use mathlib.Core.Path.{_≡_, refl, sym, ap, _∙_}
+use Prim.Native.Nat.{ℕ, suc, _+_, _-_}
+use mathlib.Core.Path.{_≡_, ap, _∙_}
 use mathlib.Core.List.{List, [], _∷_, _++_, append-nil}
 use native.Mathlib.Omega.{arith}
 use lib.ListN.{length, take, drop, set, length-append, length-set, length-drop}

@@ -1,13 +1,8 @@
 -- `table::compile` meets its contract: refused 7 where the image is not valid, 8 where the table does not fit, else written.
 -- Assumes nothing.
-use Prim.Native.Nat.{ℕ, _+_, _*_, _≤_}
-use mathlib.Core.Path.{_≡_, refl, sym, _∙_}
-use mathlib.Core.Bool.{true}
-use mathlib.Core.List.{List}
+use mathlib.Core.Path.{refl, sym, _∙_}
 use native.Mathlib.Omega.{arith}
-use lib.ListN.{length}
 use lib.Seq.{length-take-le}
-use Rattle.image.specs.Image.{read, valid}
 use Rattle.table.proofs.Compilation.{words-built, compile-seven, compile-eight, compile-words}
 use borrow.Author.Needs.{needs}
 use Rattle.table.proofs.compile.Statement.{statement}

@@ -1,7 +1,7 @@
 -- `table::write` meets its contract: the first two words, the rows, and the match words between them are the table.
 -- Assumes nothing.
 use Prim.Native.Nat.{ℕ, _+_, _*_}
-use mathlib.Core.Path.{_≡_, refl, sym, ap, _∙_}
+use mathlib.Core.Path.{_≡_, sym, ap, _∙_}
 use mathlib.Core.List.{List, flatMap}
 use native.Mathlib.Omega.{arith}
 use lib.ListN.{length, length-set, length-map}

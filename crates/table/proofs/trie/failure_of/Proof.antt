@@ -1,14 +1,12 @@
 -- `table::trie::failure_of` meets its contract: by its parent's failure state and that state's row.
 -- Assumes nothing.
-use Prim.Native.Nat.{ℕ, _+_, _*_, _<_}
-use mathlib.Core.Path.{_≡_, refl, sym, _∙_}
-use mathlib.Core.Bool.{cond}
+use Prim.Native.Nat.{_+_, _*_, _<_}
+use mathlib.Core.Path.{_≡_, sym, _∙_}
 use native.Mathlib.Omega.{arith}
-use lib.Dec.{eqb}
-use lib.ListN.{length, getD}
+use lib.ListN.{length}
 use borrow.Author.Needs.{needs}
 use borrow.Author.Tests.{eq-eqb, ne-eqb}
-use Rattle.table.specs.Nodes.{parent, symbol, failure, failureBy}
+use Rattle.table.specs.Nodes.{parent, failureBy}
 use Rattle.table.proofs.trie.failure_of.Statement.{statement}
 use Rattle.table.proofs.trie.failure_of.Tie as tie
 
