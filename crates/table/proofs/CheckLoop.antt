@@ -3,22 +3,33 @@
 -- Assumes nothing.
 use Prim.Native.Nat.{ℕ, _+_, _*_, _≤_, _<_}
 use mathlib.Core.Path.{_≡_, refl, sym, subst, _∙_}
-use mathlib.Core.Bool.{Bool, true, false}
+use mathlib.Core.Bool.{Bool, true, false, not}
 use mathlib.Core.List.{List}
 use native.Mathlib.Omega.{arith}
 use lib.Dec.{ltb}
-use lib.ListN.{length, set, length-set}
-use borrow.Author.Tests.{ltb-true, ltb-false}
+use lib.ListN.{length, getD, set, length-set}
+use borrow.Author.Tests.{ltb-true, ltb-false, not-true, not-false}
 use Rattle.rewriting.specs.Rules.{Rule, RuleSet, inRange}
 use Rattle.rewriting.proofs.Ranges.{ranges}
+use Rattle.image.specs.Check.{Decides}
+use Rattle.image.proofs.Check.{decided, denied}
 use Rattle.table.specs.States.{states}
-use Rattle.table.specs.Nodes.{parent, symbol, failure, Trie, Owned, failureBy}
-use Rattle.table.specs.Consistent.{Passes, Passed, RootPassed, RightTable}
+use Rattle.table.specs.Words.{transition, ownOr}
+use Rattle.table.specs.Nodes.{parent, symbol, children, matched, failure, Trie, Owned, failureBy}
+use Rattle.table.specs.Consistent.{differing, Passes, Passed, RootPassed, RightTable}
 use Rattle.table.proofs.States.{few-states}
 use Rattle.table.proofs.RowPlaces.{row-end, word-within}
 use Rattle.table.proofs.Kept.{parent-kept, symbol-kept, children-kept, failure-set, failure-other, matched-same, failure-kept, trie-kept}
 use Rattle.table.proofs.RightPasses.{right-passes, right-inside, right-root}
 use Rattle.table.proofs.PassesRight.{consistent-right}
+
+-- state q passes, by what the code of its tests read and counted
+pub passes : (t matches rows : List ℕ) (symbols q : ℕ) {child word f n : ℕ}
+    → child ≡ transition rows symbols (parent t q) (symbol t q) → child ≡ q
+    → word ≡ ownOr (matched t q) (getD matches (failure t q) 0) → word ≡ getD matches q 0
+    → f ≡ failure t q → n ≡ differing rows symbols q f → n ≡ children t q → Passes t matches rows symbols q
+passes t matches rows symbols q led here inherits same fails differs count =
+    record { led = sym led ∙ here; inherits = sym same ∙ inherits; differs = rw (← fails) (sym differs ∙ count) }
 
 -- A check keeps node q's failure state, and what was tested before stays.
 module _ (t : List ℕ) (q f : ℕ) where
@@ -138,8 +149,8 @@ module _ (rules : RuleSet) (matches rows : List ℕ) {t : List ℕ} {n s : ℕ} 
       (omega (arith, ranges rules range .few-symbols), (omega (arith, trie .linked .size), (omega arith, omega arith)))
 
   pub checking-root : Owned (rules .rules) (states (rules .rules)) t → n ≡ length matches → n * rules .symbols ≡ length rows
-      → RootPassed t matches rows s → Checking rules t matches rows n s 1
-  checking-root owned words lines root =
+      → (b : Bool) → not b ≡ false → Decides b (RootPassed t matches rows s) → Checking rules t matches rows n s 1
+  checking-root owned words lines b e root =
       let some = trie .some-node in
       record {
         all = all;
@@ -149,12 +160,12 @@ module _ (rules : RuleSet) (matches rows : List ℕ) {t : List ℕ} {n s : ℕ} 
         words = words;
         lines = rw width lines;
         within = omega arith;
-        checked = checked-root root-trie owned root;
+        checked = checked-root root-trie owned (decided b (not-false b e) root);
       }
 
-  pub wrong-root : (RootPassed t matches rows s → ⊥) → RightTable (rules .rules) (rules .symbols) matches rows → ⊥
-  wrong-root fails right =
-      fails (right-root (rules .rules) s t matches rows root-trie (subst (λ (x : ℕ). RightTable (rules .rules) x matches rows) (sym width) right))
+  pub wrong-root : (b : Bool) → not b ≡ true → Decides b (RootPassed t matches rows s) → RightTable (rules .rules) (rules .symbols) matches rows → ⊥
+  wrong-root b e root right =
+      denied b (not-true b e) root (right-root (rules .rules) s t matches rows root-trie (subst (λ (x : ℕ). RightTable (rules .rules) x matches rows) (sym width) right))
 
 module _ {rules : RuleSet} {t matches rows : List ℕ} {n s q : ℕ} (k : Checking rules t matches rows n s q) where
   narrowed : RightTable (rules .rules) (rules .symbols) matches rows → RightTable (rules .rules) s matches rows
@@ -192,8 +203,9 @@ module _ {rules : RuleSet} {t matches rows : List ℕ} {n s q : ℕ} (k : Checki
         wrong-failure (k .checked) listed-below (λ h. omega (arith, k .all)) (narrowed right)
 
     module _ {f : ℕ} (found : f ≡ failureBy t rows s q) where
-      pub no-state : (Passes (set t (8 * q + 7) f) matches rows s q → ⊥) → RightTable (rules .rules) (rules .symbols) matches rows → ⊥
-      no-state fails right = wrong-state (k .checked) listed-below found fails (narrowed right)
+      pub no-state : (b : Bool) → not b ≡ true → Decides b (Passes (set t (8 * q + 7) f) matches rows s q)
+          → RightTable (rules .rules) (rules .symbols) matches rows → ⊥
+      no-state b e passes right = wrong-state (k .checked) listed-below found (denied b (not-true b e) passes) (narrowed right)
 
       module _ (inside : f < n) where
         pub state-asks : (s ≤ 32) × ((8 * q + 7 < length (set t (8 * q + 7) f))
@@ -216,8 +228,9 @@ module _ {rules : RuleSet} {t matches rows : List ℕ} {n s q : ℕ} (k : Checki
               ),
             )
 
-        pub checking-more : Passes (set t (8 * q + 7) f) matches rows s q → Checking rules (set t (8 * q + 7) f) matches rows n s (q + 1)
-        checking-more passing =
+        pub checking-more : (b : Bool) → not b ≡ false → Decides b (Passes (set t (8 * q + 7) f) matches rows s q)
+            → Checking rules (set t (8 * q + 7) f) matches rows n s (q + 1)
+        checking-more b e passes =
             record {
               all = k .all;
               few = k .few;
@@ -226,5 +239,5 @@ module _ {rules : RuleSet} {t matches rows : List ℕ} {n s q : ℕ} (k : Checki
               words = k .words;
               lines = k .lines;
               within = omega arith;
-              checked = checked-more (k .checked) listed-below found (omega (arith, k .all)) passing;
+              checked = checked-more (k .checked) listed-below found (omega (arith, k .all)) (decided b (not-false b e) passes);
             }
