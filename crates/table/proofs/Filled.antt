@@ -1,29 +1,27 @@
 -- Where the filling of the rows begins and ends: with the children laid the empty state is done, and when the states of 8
 -- symbols are done, the rows and match words are the table's, and are written there.
 -- Assumes nothing.
-use Prim.Native.Nat.{ℕ, _+_, _≤_, _<_}
+use Prim.Native.Nat.{ℕ, _+_, _<_}
 use mathlib.Core.Path.{_≡_, refl, sym, ap, _∙_}
 use mathlib.Core.Bool.{Bool, true, false, cond, and-false}
-use mathlib.Core.Logic.{_⊎_, inl, inr}
 use mathlib.Core.Option.{Option, none, some}
 use mathlib.Core.List.{List, [], _∷_, map}
 use native.Mathlib.Omega.{arith}
 use lib.Dec.{eqb}
-use lib.ListN.{length, getD, drop, length-append, set as store}
+use lib.ListN.{length, getD, set as store}
 use lib.Seq.{getD-set-same, getD-set-other}
 use borrow.Author.Tests.{eqb-true, eqb-false, le-ltb}
-use Rattle.rewriting.specs.Lists.{all, prefix}
-use Rattle.rewriting.specs.Rules.{Rule, RuleSet, rule, ruleInRange, inRange}
+use Rattle.rewriting.specs.Lists.{all}
+use Rattle.rewriting.specs.Rules.{Rule, RuleSet, rule, inRange}
 use Rattle.rewriting.specs.Occurrences.{lowest, ending}
-use Rattle.rewriting.proofs.Lists.{and-left, and-right, or-cases, prefix-rest}
-use Rattle.rewriting.proofs.Ranges.{rule-ranges, ranges, rule-at}
+use Rattle.rewriting.proofs.Ranges.{ranges, rule-at}
 use Rattle.rewriting.proofs.Scan.{lowest-left}
-use Rattle.table.specs.States.{isPrefix, next, known, matching, states, number}
+use Rattle.table.specs.States.{next, known, matching, states, number}
 use Rattle.table.specs.Table.{matchWord}
 use Rattle.table.specs.Words.{text, transition}
 use Rattle.table.specs.Nodes.{matched, Trie, Owned}
 use Rattle.table.specs.Rows.{childNumber, Laid, reached, FillingAt, Matched, Filled}
-use Rattle.table.proofs.States.{next-listed, listed-prefix, number-zero, state-zero, state-long}
+use Rattle.table.proofs.States.{next-listed, number-zero, state-zero, state-long, short-state}
 use Rattle.table.proofs.Failure.{next-root}
 use Rattle.table.proofs.Table.{matches-whole, rows-whole}
 use Rattle.table.proofs.Turns.{reached-shorter}
@@ -53,7 +51,7 @@ root-row rules a = go (known (states rules) (a ∷ [])) refl
 reached-root : (rules : List Rule) (c : ℕ) → 0 < c → c < length (states rules) → reached (states rules) 1 1 c ≡ false
 unfolding reached
 reached-root rules c pos below =
-    rw (le-ltb (length (getD (states rules) c [])) 1 (state-long rules c pos below), le-ltb c 1 pos, and-false)
+    rw (le-ltb (length (text rules c)) 1 (state-long rules c pos below), le-ltb c 1 pos, and-false)
 
 -- With the children laid, the empty state is done.
 pub filling-start : (set : RuleSet) (t rows : List ℕ) → inRange set ≡ true → Trie (states (set .rules)) (set .symbols) t
@@ -98,31 +96,6 @@ filling-start set t rows e trie owned laid =
     word c a h k false p =
         let differs = eqb-false c 0 p in
         rw (reached-root rules c (omega (arith, differs)) h) (laid .table c a h k)
-
--- a prefix of a left side has at most 8 symbols, and so has each state
-prefix-short : (set : RuleSet) (rules : List Rule) → all (ruleInRange set) rules ≡ true
-    → (v : List ℕ) → isPrefix rules v ≡ true → length v ≤ 8
-unfolding isPrefix
-prefix-short set [] e v p = let z : _≡_ {A = ℕ} 0 1 = cc in absurd (omega arith)
-prefix-short set (r ∷ rules) e v p =
-    go (or-cases (prefix v (r .left)) (isPrefix rules v) p)
-    (prefix-short set rules (and-right (ruleInRange set r) (all (ruleInRange set) rules) e) v)
-  where
-    go : (prefix v (r .left) ≡ true) ⊎ (isPrefix rules v ≡ true) → (isPrefix rules v ≡ true → length v ≤ 8) → length v ≤ 8
-    go (inl h) ih =
-        let own = rule-ranges set r (and-left (ruleInRange set r) (all (ruleInRange set) rules) e) in
-        let size : length (r .left) ≡ length v + length (drop (length v) (r .left)) =
-        ap length (prefix-rest v (r .left) h) ∙ length-append v (drop (length v) (r .left))
-        in
-        omega (arith, own .short-left)
-    go (inr h) ih = ih h
-
-short-state : (set : RuleSet) → inRange set ≡ true → (c : ℕ) → c < length (states (set .rules)) → length (text (set .rules) c) ≤ 8
-short-state set e c h = go (listed-prefix (set .rules) c h)
-  where
-    go : (text (set .rules) c ≡ []) ⊎ (isPrefix (set .rules) (text (set .rules) c) ≡ true) → length (text (set .rules) c) ≤ 8
-    go (inl p) = let size = ap length p in omega arith
-    go (inr p) = prefix-short set (set .rules) (ranges set e .all-rules) (text (set .rules) c) p
 
 -- When the states of 8 symbols are done, all are.
 pub filling-end : (set : RuleSet) (t t′ rows : List ℕ) → inRange set ≡ true → length t′ ≡ length t → FillingAt set 9 1 t′ rows

@@ -58,7 +58,7 @@ length-matchWords set = length-map (states (set .rules)) (λ q. matchWord (match
 
 -- the match word of state i
 pub table-match : (set : RuleSet) (i : ℕ) → i < length (states (set .rules))
-    → getD (tableOf set) (2 + i) 0 ≡ matchWord (matching (set .rules) (getD (states (set .rules)) i []))
+    → getD (tableOf set) (2 + i) 0 ≡ matchWord (matching (set .rules) (text (set .rules) i))
 unfolding tableOf
 table-match set i h =
     let at : 2 + i ≡ suc (suc i) = omega arith in
@@ -78,7 +78,7 @@ row-at set q a h =
 -- the next state of state i on symbol a
 pub table-next : (set : RuleSet) (i a : ℕ) → i < length (states (set .rules)) → a < set .symbols
     → getD (tableOf set) (2 + length (states (set .rules)) + i * set .symbols + a) 0
-    ≡ number (states (set .rules)) (next (set .rules) (getD (states (set .rules)) i []) a)
+    ≡ number (states (set .rules)) (next (set .rules) (text (set .rules) i) a)
 unfolding tableOf
 table-next set i a h below =
     let m = length-matchWords set in
@@ -86,13 +86,13 @@ table-next set i a h below =
     rw at
     (getD-append-add (matchWords set) (flatMap (row set) (states (set .rules))) (i * set .symbols + a) 0
     ∙ getD-flatMap (row set) (set .symbols) (length-row set) (states (set .rules)) i a [] 0 h below
-    ∙ row-at set (getD (states (set .rules)) i []) a below)
+    ∙ row-at set (text (set .rules) i) a below)
 
 -- it is the number of a state
 pub table-next-below : (set : RuleSet) (i a : ℕ) → i < length (states (set .rules)) → a < set .symbols
     → getD (tableOf set) (2 + length (states (set .rules)) + i * set .symbols + a) 0 < length (states (set .rules))
 table-next-below set i a h below =
-    rw (table-next set i a h below) (next-below (set .rules) (getD (states (set .rules)) i []) a)
+    rw (table-next set i a h below) (next-below (set .rules) (text (set .rules) i) a)
 
 -- match words, one by one, are those of the table
 pub matches-whole : (set : RuleSet) (words : List ℕ) → length words ≡ length (states (set .rules))
@@ -125,7 +125,7 @@ rows-whole set rows pos size each =
 
 -- The same of any table that begins with the words of tableOf.
 pub begins-match : (set : RuleSet) (t : List ℕ) → prefix (tableOf set) t ≡ true → (i : ℕ) → i < length (states (set .rules))
-    → getD t (2 + i) 0 ≡ matchWord (matching (set .rules) (getD (states (set .rules)) i []))
+    → getD t (2 + i) 0 ≡ matchWord (matching (set .rules) (text (set .rules) i))
 begins-match set t e i h =
     let m = length-table set in
     begins-at (tableOf set) t e (2 + i) 0 (omega arith) ∙ table-match set i h
@@ -133,7 +133,7 @@ begins-match set t e i h =
 pub begins-next : (set : RuleSet) (t : List ℕ) → prefix (tableOf set) t ≡ true
     → (i a : ℕ) → i < length (states (set .rules)) → a < set .symbols
     → getD t (2 + length (states (set .rules)) + i * set .symbols + a) 0
-    ≡ number (states (set .rules)) (next (set .rules) (getD (states (set .rules)) i []) a)
+    ≡ number (states (set .rules)) (next (set .rules) (text (set .rules) i) a)
 begins-next set t e i a h below =
     let m = length-table set in
     let fits = word-within (set .symbols) i (length (states (set .rules))) a h below in

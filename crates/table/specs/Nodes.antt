@@ -21,7 +21,7 @@ use Rattle.rewriting.specs.Occurrences.{lowest}
 use Rattle.table.specs.declared.trie.Walked.{Walked}
 use Rattle.table.specs.States.{known, number, states}
 use Rattle.table.specs.Table.{matchWord}
-use Rattle.table.specs.Words.{transition}
+use Rattle.table.specs.Words.{text, transition}
 
 module _ (t : List ℕ) (c : ℕ) where
   abbrev pub parent : ℕ
@@ -135,7 +135,7 @@ pub record Followed-rule (set : RuleSet) (i : ℕ) (w : Walked) (t : List ℕ) :
   pub owned : Owned (take i (set .rules)) (states (take (suc i) (set .rules))) t
   pub nodes : w .nodes ≡ length (states (take (suc i) (set .rules)))
   pub node : w .node < w .nodes
-  pub ends : getD (states (take (suc i) (set .rules))) (w .node) [] ≡ rule (set .rules) i .left
+  pub ends : text (take (suc i) (set .rules)) (w .node) ≡ rule (set .rules) i .left
 
 -- t holds the trie of all rules, which has n nodes
 pub record Built (set : RuleSet) (n : ℕ) (t : List ℕ) : Type 0 where
