@@ -1,7 +1,7 @@
 -- A state's failure state: it is shorter, and gives the next state and the match word where the state has none of its own.
 -- Found from the failure state of the parent, it is right where that and its row are.
 -- Assumes nothing.
-use Prim.Native.Nat.{ℕ, suc, _+_, _≤_, _<_}
+use Prim.Native.Nat.{ℕ, suc, _+_, _*_, _≤_, _<_}
 use mathlib.Core.Path.{_≡_, refl, sym, ap, _∙_}
 use mathlib.Core.Bool.{Bool, true, false, cond}
 use mathlib.Core.Option.{Option, none, some}
@@ -104,3 +104,13 @@ module _ (rules : List Rule) (symbols : ℕ) (t rows : List ℕ) (trie : Trie (s
           word high
           ∙ ap (λ (u : List ℕ). number (states rules) (next rules u (symbol t c))) (fails-to rules v long (failure t (parent t c)) (up high) .string)
           ∙ ap (number (states rules)) step
+
+-- how the code finds it: by the parent p, which is not the root, the symbol a and the parent's failure state f
+module _ (t rows : List ℕ) (symbols q : ℕ) {p a f : ℕ} (up : p ≡ parent t q) (by : a ≡ symbol t q) (fails : f ≡ failure t p)
+    (high : p ≡ 0 → ⊥) where
+  pub word-inside : (0 < parent t q → failure t (parent t q) * symbols + symbol t q < length rows) → f * symbols + a < length rows
+  word-inside inside = rw (fails, by, up) (inside (omega (arith, high)))
+
+  pub word-read : transition rows symbols f a ≡ failureBy t rows symbols q
+  unfolding failureBy
+  word-read = rw (ne-eqb (parent t q) 0 (λ e. high (up ∙ e)), fails, by, up)
