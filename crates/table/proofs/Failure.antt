@@ -18,7 +18,7 @@ use Rattle.rewriting.proofs.Choice.{tie-earlier, tie-later, tie-none}
 use Rattle.table.specs.States.{state, next, matching, known, states, number}
 use Rattle.table.specs.Table.{matchWord}
 use Rattle.table.specs.Words.{text, failureState, transition, ownOr}
-use Rattle.table.specs.Nodes.{parent, symbol, failure, Trie, failureBy}
+use Rattle.table.specs.Nodes.{parent, symbol, failure, Trie, RightFailure, failureBy}
 use Rattle.table.proofs.Matching.{state-drop, state-snoc, length-state, next-fail, matching-fail}
 use Rattle.table.proofs.States.{known-snoc, state-known, number-at, number-zero, state-long}
 
@@ -71,10 +71,6 @@ pub match-failure : (rules : List Rule) (v : List ℕ) → 0 < length v
     → matchWord (matching rules v) ≡ ownOr (matchWord (lowest rules v)) (matchWord (matching rules (failureState rules v)))
 match-failure rules [] h = absurd (not-suc-le-zero h)
 match-failure rules (y ∷ p) h = ap matchWord (matching-fail rules y p) ∙ match-own (lowest rules (y ∷ p)) (matching rules (state rules p))
-
--- node c holds its failure state
-abbrev pub RightFailure : List Rule → List ℕ → ℕ → Type 0
-RightFailure rules t c = failure t c ≡ number (states rules) (failureState rules (text rules c))
 
 -- The failure state found for node c is right where that of its parent, and the word of that state's row, are.
 module _ (rules : List Rule) (symbols : ℕ) (t rows : List ℕ) (trie : Trie (states rules) symbols t) where

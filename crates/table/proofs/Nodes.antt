@@ -1,4 +1,4 @@
--- Laws of the trie's nodes: looking for a child, adding one, and following a left side.
+-- Laws of the trie's nodes: looking for a child, and adding one, with which the links still hold.
 -- Assumes nothing.
 use Prim.Native.Nat.{ℕ, suc, _+_, _*_, _≤_, _<_}
 use mathlib.Core.Path.{_≡_, refl, sym, ap, _∙_}

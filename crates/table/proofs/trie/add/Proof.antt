@@ -1,7 +1,6 @@
 -- `table::trie::add` meets its contract: it makes six stores.
 -- Assumes nothing.
 use mathlib.Core.Path.{refl}
-use native.Mathlib.Omega.{arith}
 use Rattle.table.specs.Nodes.{added}
 use Rattle.table.proofs.Nodes.{symbol-within, depth-within, older-within, youngest-within, children-within, added-size}
 use borrow.Author.Needs.{needs}
