@@ -11,7 +11,7 @@ use native.Mathlib.Numerals.{add-one}
 use lib.ListN.{length, getD, take, replicate}
 use lib.Seq.{take-all, length-take-le, getD-set-same}
 use borrow.Author.Tests.{ne-eqb}
-use Rattle.rewriting.specs.Lists.{all, same}
+use Rattle.rewriting.specs.Lists.{same}
 use Rattle.rewriting.specs.Rules.{Rule, RuleSet, rule, inRange}
 use Rattle.rewriting.specs.Occurrences.{lowest}
 use Rattle.rewriting.proofs.Lists.{same-eq, same-refl}
@@ -22,6 +22,7 @@ use Rattle.image.proofs.Places.{left-first, left-next}
 use Rattle.table.specs.declared.trie.Walked.{Walked}
 use Rattle.table.specs.States.{known, number, numbered, states}
 use Rattle.table.specs.Table.{matchWord}
+use Rattle.table.specs.Words.{text}
 use Rattle.table.specs.Nodes.{matched, Trie, Owned, marked, Grown, Followed-rule, Roomy, Built}
 use Rattle.table.proofs.Tally.{tally-none}
 use Rattle.table.proofs.Nodes.{same-or}
@@ -73,15 +74,15 @@ module _ (set : RuleSet) (i : ℕ) (lt : i < length (set .rules)) (w : Walked) (
   marked-owned c h = go (same-or (w .node) c)
     where
       go : (c ≡ w .node) ⊎ (c ≢ w .node)
-          → matched (marked t (w .node) i) c ≡ matchWord (lowest (take (suc i) (set .rules)) (getD (states (take (suc i) (set .rules))) c []))
+          → matched (marked t (w .node) i) c ≡ matchWord (lowest (take (suc i) (set .rules)) (text (take (suc i) (set .rules)) c))
       go (inl e) = rw (e, f .ends, lowest-next (rule (set .rules) i .left), same-refl (rule (set .rules) i .left)) marked-own
       go (inr other) =
-          rw (lowest-next (getD (states (take (suc i) (set .rules))) c []), unlike (same (rule (set .rules) i .left) (getD (states (take (suc i) (set .rules))) c [])) refl)
+          rw (lowest-next (text (take (suc i) (set .rules)) c), unlike (same (rule (set .rules) i .left) (text (take (suc i) (set .rules)) c)) refl)
           (marked-other t (w .node) i (8 * c + 6) (λ e. other (omega arith)) ∙ f .owned c h ∙ rw orElse-none)
         where
-          unlike : (b : Bool) → same (rule (set .rules) i .left) (getD (states (take (suc i) (set .rules))) c []) ≡ b → b ≡ false
+          unlike : (b : Bool) → same (rule (set .rules) i .left) (text (take (suc i) (set .rules)) c) ≡ b → b ≡ false
           unlike true e =
-              let eq = same-eq (rule (set .rules) i .left) (getD (states (take (suc i) (set .rules))) c []) e in
+              let eq = same-eq (rule (set .rules) i .left) (text (take (suc i) (set .rules)) c) e in
               absurd
               (other
               (node-once (states (take (suc i) (set .rules))) (set .symbols) t (f .trie) c (w .node) h (rw (f .nodes) at (f .node))

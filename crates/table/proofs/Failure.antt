@@ -9,7 +9,7 @@ use mathlib.Core.List.{List, [], _∷_, _++_}
 use native.Mathlib.Omega.{arith}
 use native.Mathlib.Nat.{not-suc-le-zero}
 use lib.Dec.{eqb}
-use lib.ListN.{length, getD, drop, length-append, length-drop}
+use lib.ListN.{length, drop, length-append, length-drop}
 use lib.Seq.{drop-append-le}
 use borrow.Author.Tests.{eqb-true, eqb-false, ne-eqb}
 use Rattle.rewriting.specs.Rules.{Rule}
@@ -18,7 +18,7 @@ use Rattle.rewriting.proofs.Choice.{tie-earlier, tie-later, tie-none}
 use Rattle.table.specs.States.{state, next, matching, known, states, number}
 use Rattle.table.specs.Table.{matchWord}
 use Rattle.table.specs.Words.{text, failureState, transition, ownOr}
-use Rattle.table.specs.Nodes.{parent, symbol, failure, Trie, failureBy}
+use Rattle.table.specs.Nodes.{parent, symbol, failure, Trie, RightFailure, failureBy}
 use Rattle.table.proofs.Matching.{state-drop, state-snoc, length-state, next-fail, matching-fail}
 use Rattle.table.proofs.States.{known-snoc, state-known, number-at, number-zero, state-long}
 
@@ -75,7 +75,7 @@ match-failure rules (y ∷ p) h = ap matchWord (matching-fail rules y p) ∙ mat
 -- The failure state found for node c is right where that of its parent, and the word of that state's row, are.
 module _ (rules : List Rule) (symbols : ℕ) (t rows : List ℕ) (trie : Trie (states rules) symbols t) where
   pub failure-found : (c : ℕ) → 0 < c → c < length (states rules)
-      → (0 < parent t c → failure t (parent t c) ≡ number (states rules) (failureState rules (text rules (parent t c))))
+      → (0 < parent t c → RightFailure rules t (parent t c))
       → (0 < parent t c → transition rows symbols (failure t (parent t c)) (symbol t c)
       ≡ number (states rules) (next rules (text rules (failure t (parent t c))) (symbol t c)))
       → failureBy t rows symbols c ≡ number (states rules) (failureState rules (text rules c))
@@ -100,3 +100,13 @@ module _ (rules : List Rule) (symbols : ℕ) (t rows : List ℕ) (trie : Trie (s
           word high
           ∙ ap (λ (u : List ℕ). number (states rules) (next rules u (symbol t c))) (fails-to rules v long (failure t (parent t c)) (up high) .string)
           ∙ ap (number (states rules)) step
+
+-- how the code finds it: by the parent p, which is not the root, the symbol a and the parent's failure state f
+module _ (t rows : List ℕ) (symbols q : ℕ) {p a f : ℕ} (up : p ≡ parent t q) (by : a ≡ symbol t q) (fails : f ≡ failure t p)
+    (high : p ≡ 0 → ⊥) where
+  pub word-inside : (0 < parent t q → failure t (parent t q) * symbols + symbol t q < length rows) → f * symbols + a < length rows
+  word-inside inside = rw (fails, by, up) (inside (omega (arith, high)))
+
+  pub word-read : transition rows symbols f a ≡ failureBy t rows symbols q
+  unfolding failureBy
+  word-read = rw (ne-eqb (parent t q) 0 (λ e. high (up ∙ e)), fails, by, up)

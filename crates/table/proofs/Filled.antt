@@ -1,32 +1,29 @@
 -- Where the filling of the rows begins and ends: with the children laid the empty state is done, and when the states of 8
 -- symbols are done, the rows and match words are the table's, and are written there.
 -- Assumes nothing.
-use Prim.Native.Nat.{ℕ, _+_, _*_, _≤_, _<_}
+use Prim.Native.Nat.{ℕ, _+_, _<_}
 use mathlib.Core.Path.{_≡_, refl, sym, ap, _∙_}
 use mathlib.Core.Bool.{Bool, true, false, cond, and-false}
-use mathlib.Core.Logic.{_⊎_, inl, inr}
 use mathlib.Core.Option.{Option, none, some}
-use mathlib.Core.List.{List, [], _∷_, flatMap, map}
+use mathlib.Core.List.{List, [], _∷_, map}
 use native.Mathlib.Omega.{arith}
 use lib.Dec.{eqb}
-use lib.ListN.{length, getD, drop, length-append, length-map, set as store}
-use lib.Seq.{ext-getD, getD-set-same, getD-set-other}
+use lib.ListN.{length, getD, set as store}
+use lib.Seq.{getD-set-same, getD-set-other}
 use borrow.Author.Tests.{eqb-true, eqb-false, le-ltb}
-use Rattle.rewriting.specs.Lists.{all, prefix}
-use Rattle.rewriting.specs.Rules.{Rule, RuleSet, rule, ruleInRange, inRange}
+use Rattle.rewriting.specs.Lists.{all}
+use Rattle.rewriting.specs.Rules.{Rule, RuleSet, rule, inRange}
 use Rattle.rewriting.specs.Occurrences.{lowest, ending}
-use Rattle.rewriting.proofs.Lists.{and-left, and-right, or-cases, prefix-rest, length-flatMap, getD-flatMap, getD-map}
-use Rattle.rewriting.proofs.Ranges.{rule-ranges, ranges, rule-at}
+use Rattle.rewriting.proofs.Ranges.{ranges, rule-at}
 use Rattle.rewriting.proofs.Scan.{lowest-left}
-use Rattle.table.specs.States.{isPrefix, next, known, matching, states, number}
-use Rattle.table.specs.Table.{matchWord, row}
+use Rattle.table.specs.States.{next, known, matching, states, number}
+use Rattle.table.specs.Table.{matchWord}
 use Rattle.table.specs.Words.{text, transition}
 use Rattle.table.specs.Nodes.{matched, Trie, Owned}
 use Rattle.table.specs.Rows.{childNumber, Laid, reached, FillingAt, Matched, Filled}
-use Rattle.table.proofs.States.{next-listed, listed-prefix, number-zero, state-zero, state-long}
-use Rattle.table.proofs.RowPlaces.{place-parts}
+use Rattle.table.proofs.States.{next-listed, number-zero, state-zero, state-long, short-state}
 use Rattle.table.proofs.Failure.{next-root}
-use Rattle.table.proofs.Table.{length-row, row-at}
+use Rattle.table.proofs.Table.{matches-whole, rows-whole}
 use Rattle.table.proofs.Turns.{reached-shorter}
 
 -- no left side is empty, so the empty state has no match word
@@ -54,7 +51,7 @@ root-row rules a = go (known (states rules) (a ∷ [])) refl
 reached-root : (rules : List Rule) (c : ℕ) → 0 < c → c < length (states rules) → reached (states rules) 1 1 c ≡ false
 unfolding reached
 reached-root rules c pos below =
-    rw (le-ltb (length (getD (states rules) c [])) 1 (state-long rules c pos below), le-ltb c 1 pos, and-false)
+    rw (le-ltb (length (text rules c)) 1 (state-long rules c pos below), le-ltb c 1 pos, and-false)
 
 -- With the children laid, the empty state is done.
 pub filling-start : (set : RuleSet) (t rows : List ℕ) → inRange set ≡ true → Trie (states (set .rules)) (set .symbols) t
@@ -100,51 +97,6 @@ filling-start set t rows e trie owned laid =
         let differs = eqb-false c 0 p in
         rw (reached-root rules c (omega (arith, differs)) h) (laid .table c a h k)
 
--- a prefix of a left side has at most 8 symbols, and so has each state
-prefix-short : (set : RuleSet) (rules : List Rule) → all (ruleInRange set) rules ≡ true
-    → (v : List ℕ) → isPrefix rules v ≡ true → length v ≤ 8
-unfolding isPrefix
-prefix-short set [] e v p = let z : _≡_ {A = ℕ} 0 1 = cc in absurd (omega arith)
-prefix-short set (r ∷ rules) e v p =
-    go (or-cases (prefix v (r .left)) (isPrefix rules v) p)
-    (prefix-short set rules (and-right (ruleInRange set r) (all (ruleInRange set) rules) e) v)
-  where
-    go : (prefix v (r .left) ≡ true) ⊎ (isPrefix rules v ≡ true) → (isPrefix rules v ≡ true → length v ≤ 8) → length v ≤ 8
-    go (inl h) ih =
-        let own = rule-ranges set r (and-left (ruleInRange set r) (all (ruleInRange set) rules) e) in
-        let size : length (r .left) ≡ length v + length (drop (length v) (r .left)) =
-        ap length (prefix-rest v (r .left) h) ∙ length-append v (drop (length v) (r .left))
-        in
-        omega (arith, own .short-left)
-    go (inr h) ih = ih h
-
-short-state : (set : RuleSet) → inRange set ≡ true → (c : ℕ) → c < length (states (set .rules)) → length (text (set .rules) c) ≤ 8
-short-state set e c h = go (listed-prefix (set .rules) c h)
-  where
-    go : (text (set .rules) c ≡ []) ⊎ (isPrefix (set .rules) (text (set .rules) c) ≡ true) → length (text (set .rules) c) ≤ 8
-    go (inl p) = let size = ap length p in omega arith
-    go (inr p) = prefix-short set (set .rules) (ranges set e .all-rules) (text (set .rules) c) p
-
--- rows of the next states, word by word, are the rows of the table
-rows-whole : (set : RuleSet) (rows : List ℕ) → 0 < set .symbols → length rows ≡ length (states (set .rules)) * set .symbols
-    → ((c a : ℕ) → c < length (states (set .rules)) → a < set .symbols
-    → transition rows (set .symbols) c a ≡ number (states (set .rules)) (next (set .rules) (text (set .rules) c) a))
-    → rows ≡ flatMap (row set) (states (set .rules))
-rows-whole set rows pos size each =
-    ext-getD 0 rows (flatMap (row set) s) (size ∙ sym (length-flatMap (row set) (set .symbols) (length-row set) s)) word
-  where
-    s : List (List ℕ)
-    s = states (set .rules)
-
-    word : (k : ℕ) → k < length rows → getD rows k 0 ≡ getD (flatMap (row set) s) k 0
-    word k h =
-        let (q, a, listed, low, place) = place-parts (set .symbols) (length s) k pos (rw size at h) in
-        ap (λ (i : ℕ). getD rows i 0) (sym place)
-        ∙ each q a listed low
-        ∙ sym (row-at set (getD s q []) a low)
-        ∙ sym (getD-flatMap (row set) (set .symbols) (length-row set) s q a [] 0 listed low)
-        ∙ ap (λ (i : ℕ). getD (flatMap (row set) s) i 0) place
-
 -- When the states of 8 symbols are done, all are.
 pub filling-end : (set : RuleSet) (t t′ rows : List ℕ) → inRange set ≡ true → length t′ ≡ length t → FillingAt set 9 1 t′ rows
     → Filled set t t′ rows
@@ -176,9 +128,4 @@ written-more t words q h all k l = go (eqb k q) refl
 pub written-all : (set : RuleSet) (t words : List ℕ) → Matched set t → length words ≡ length (states (set .rules))
     → ((k : ℕ) → k < length words → getD words k 0 ≡ matched t k)
     → words ≡ map (λ q. matchWord (matching (set .rules) q)) (states (set .rules))
-written-all set t words matches size all =
-    ext-getD 0 words (map word (states (set .rules))) (size ∙ sym (length-map (states (set .rules)) word))
-    (λ k h. all k h ∙ matches k (omega arith) ∙ sym (getD-map word (states (set .rules)) k [] 0 (omega arith)))
-  where
-    word : List ℕ → ℕ
-    word q = matchWord (matching (set .rules) q)
+written-all set t words matches size all = matches-whole set words size (λ k h. all k (omega arith) ∙ matches k h)

@@ -14,7 +14,7 @@ use Rattle.rewriting.specs.Occurrences.{lowest}
 use Rattle.table.specs.States.{next, matching, known, states, number}
 use Rattle.table.specs.Table.{matchWord}
 use Rattle.table.specs.Words.{text, failureState, transition, ownOr}
-use Rattle.table.specs.Nodes.{parent, symbol, matched, failure, failureBy}
+use Rattle.table.specs.Nodes.{parent, symbol, matched, failure, RightFailure, failureBy}
 use Rattle.table.specs.Rows.{childNumber, Merged, Noted, Filling}
 use Rattle.table.proofs.States.{next-listed, child-some, state-long}
 use Rattle.table.proofs.RowPlaces.{row-apart}
@@ -48,7 +48,7 @@ module _ (set : RuleSet) (done : ℕ → Bool) (t rows : List ℕ) (filling : Fi
     size : length (text (set .rules) q) ≡ length (text (set .rules) (parent t q)) + 1
     size = parent-shorter (states (set .rules)) (set .symbols) t (filling .trie) q pos below
 
-    kept : 0 < parent t q → failure t (parent t q) ≡ number (states (set .rules)) (failureState (set .rules) (text (set .rules) (parent t q)))
+    kept : 0 < parent t q → RightFailure (set .rules) t (parent t q)
     kept high = filling .failures (parent t q) high up (shorter (parent t q) up (omega (arith, size)))
 
     -- so are its parent and its parent's failure state
@@ -108,7 +108,7 @@ module _ (set : RuleSet) (done : ℕ → Bool) (t rows : List ℕ) (filling : Fi
             (noted .rest (8 * c + 6) (λ p. differs (omega arith)) (λ p. omega arith) ∙ filling .matches c h)
 
         failing : (c : ℕ) → 0 < c → c < length s → done′ c ≡ true → (b : Bool) → eqb c q ≡ b
-            → failure t′ c ≡ number s (failureState rules (text rules c))
+            → RightFailure rules t′ c
         failing c pos₂ h e true p =
             let same : c ≡ q = eqb-true c q p in
             rw same (noted .own-failure ∙ is ∙ own-failure)

@@ -1,7 +1,7 @@
 -- The trie stays the trie where only match words and failure states change: where a rule is marked, where a filled state's
 -- failure state and match word are noted, and where a check keeps a failure state.
 -- Assumes nothing.
-use Prim.Native.Nat.{ℕ, _+_, _*_, _≤_, _<_}
+use Prim.Native.Nat.{ℕ, _+_, _*_, _<_}
 use mathlib.Core.Path.{_≡_, refl, sym, _∙_}
 use mathlib.Core.Bool.{Bool, true, false, cond}
 use mathlib.Core.Logic.{_≢_}
@@ -10,7 +10,7 @@ use native.Mathlib.Omega.{arith}
 use lib.Dec.{eqb}
 use lib.ListN.{length, getD, set, length-set}
 use lib.Seq.{getD-set-same, getD-set-other}
-use Rattle.table.specs.Nodes.{parent, symbol, depth, youngest, older, children, matched, failure, Linked, Trie, marked}
+use Rattle.table.specs.Nodes.{parent, symbol, youngest, older, children, matched, failure, Linked, Trie, marked}
 use Rattle.table.specs.Rows.{Noted}
 
 -- t′ is t but for match words and failure states of the first n nodes

@@ -15,7 +15,7 @@ use Rattle.table.specs.Words.{text, transition}
 use Rattle.table.specs.Nodes.{parent, symbol, Trie}
 use Rattle.table.specs.Rows.{childNumber, Laid}
 use Rattle.table.proofs.States.{number-at, known-at, number-back, child-some, few-states}
-use Rattle.table.proofs.RowPlaces.{row-end, place-row, word-within}
+use Rattle.table.proofs.RowPlaces.{row-end, place-row}
 use Rattle.table.proofs.Growth.{state-child}
 
 -- the number of the string v where it is a state below n, else 0

@@ -1,17 +1,20 @@
--- Laws, in this order: of the table as document 01 defines it; of the trie that the code builds; of the rows that it fills from
--- the trie; of the check of a lent table.
+-- Laws, in reading order.
+
+-- The table as document 01 defines it, and compile.
 pub mod Matching
 pub mod States
 pub mod RowPlaces
 pub mod Table
 pub mod Compilation
 pub mod Computed
+-- The trie that the code builds.
 pub mod Tally
 pub mod Nodes
 pub mod Growth
 pub mod Kept
 pub mod Walk
 pub mod Build
+-- The rows that it fills from the trie, each state's from its failure state's, and the table that it writes.
 pub mod Failure
 pub mod RowWords
 pub mod Laying
@@ -19,5 +22,10 @@ pub mod Filling
 pub mod Turns
 pub mod Filled
 pub mod Written
-pub mod Consistent
+-- The check of a lent table: it passes every state's tests exactly where it is the rules' table.
+pub mod RowBeside
+pub mod RightPasses
+pub mod PassesRight
+pub mod CheckLoop
+pub mod Compared
 pub mod Checking

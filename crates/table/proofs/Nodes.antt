@@ -1,6 +1,6 @@
--- Laws of the trie's nodes: looking for a child, adding one, and following a left side.
+-- Laws of the trie's nodes: looking for a child, and adding one, with which the links still hold.
 -- Assumes nothing.
-use Prim.Native.Nat.{ℕ, zero, suc, _+_, _*_, _≤_, _<_}
+use Prim.Native.Nat.{ℕ, suc, _+_, _*_, _≤_, _<_}
 use mathlib.Core.Path.{_≡_, refl, sym, ap, _∙_}
 use mathlib.Core.Bool.{Bool, true, false}
 use mathlib.Core.Logic.{_≢_, _⊎_, inl, inr}
@@ -49,7 +49,41 @@ pub child-missing : (t : List ℕ) (n q a r : ℕ) → ChildOr t n q a r → n �
 child-missing t n q a r (inl k) h = absurd (omega (arith, k .node))
 child-missing t n q a r (inr k) h = k .1
 
--- Adding node n as a child of q by symbol a: what stands in its six words, and that no other word changes.
+-- Adding node n as a child of q by symbol a: the trie after each store but the last.
+module _ (t : List ℕ) (n q a : ℕ) where
+  abbrev with-parent : List ℕ
+  with-parent = set t (8 * n) q
+
+  abbrev with-symbol : List ℕ
+  with-symbol = set with-parent (8 * n + 1) a
+
+  abbrev with-depth : List ℕ
+  with-depth = set with-symbol (8 * n + 2) (depth t q + 1)
+
+  abbrev with-older : List ℕ
+  with-older = set with-depth (8 * n + 4) (youngest t q)
+
+  abbrev with-youngest : List ℕ
+  with-youngest = set with-older (8 * q + 3) n
+
+  -- each store is within it
+  module _ (lt : q < n) (room : 8 * n + 7 < length t) where
+    pub symbol-within : 8 * n + 1 < length with-parent
+    symbol-within = simp length-set (omega arith)
+
+    pub depth-within : 8 * n + 2 < length with-symbol
+    depth-within = simp length-set (omega arith)
+
+    pub older-within : 8 * n + 4 < length with-depth
+    older-within = simp length-set (omega arith)
+
+    pub youngest-within : 8 * q + 3 < length with-older
+    youngest-within = simp length-set (omega arith)
+
+    pub children-within : 8 * q + 5 < length with-youngest
+    children-within = simp length-set (omega arith)
+
+-- What stands in its six words, and that no other word changes.
 module _ (t : List ℕ) (n q a : ℕ) (lt : q < n) (room : 8 * n + 7 < length t) where
   pub added-size : length (added t n q a) ≡ length t
   unfolding added
@@ -68,7 +102,7 @@ module _ (t : List ℕ) (n q a : ℕ) (lt : q < n) (room : 8 * n + 7 < length t)
       let h4 : 8 * n ≢ 8 * n + 4 = λ e. omega arith in
       let h5 : 8 * n ≢ 8 * q + 3 = λ e. omega arith in
       let h6 : 8 * n ≢ 8 * q + 5 = λ e. omega arith in
-      let lt1 : 8 * n < length t = omega arith in
+      let inside : 8 * n < length t = omega arith in
       simp (getD-set-other, getD-set-same)
 
   pub added-symbol : symbol (added t n q a) n ≡ a
@@ -78,7 +112,7 @@ module _ (t : List ℕ) (n q a : ℕ) (lt : q < n) (room : 8 * n + 7 < length t)
       let h4 : 8 * n + 1 ≢ 8 * n + 4 = λ e. omega arith in
       let h5 : 8 * n + 1 ≢ 8 * q + 3 = λ e. omega arith in
       let h6 : 8 * n + 1 ≢ 8 * q + 5 = λ e. omega arith in
-      let lt1 : 8 * n + 1 < length (set t (8 * n) q) = simp length-set (omega arith) in
+      let inside = symbol-within t n q a lt room in
       simp (getD-set-other, getD-set-same)
 
   pub added-depth : depth (added t n q a) n ≡ depth t q + 1
@@ -87,7 +121,7 @@ module _ (t : List ℕ) (n q a : ℕ) (lt : q < n) (room : 8 * n + 7 < length t)
       let h4 : 8 * n + 2 ≢ 8 * n + 4 = λ e. omega arith in
       let h5 : 8 * n + 2 ≢ 8 * q + 3 = λ e. omega arith in
       let h6 : 8 * n + 2 ≢ 8 * q + 5 = λ e. omega arith in
-      let lt1 : 8 * n + 2 < length (set (set t (8 * n) q) (8 * n + 1) a) = simp length-set (omega arith) in
+      let inside = depth-within t n q a lt room in
       simp (getD-set-other, getD-set-same)
 
   pub added-older : older (added t n q a) n ≡ youngest t q
@@ -95,29 +129,20 @@ module _ (t : List ℕ) (n q a : ℕ) (lt : q < n) (room : 8 * n + 7 < length t)
   added-older =
       let h5 : 8 * n + 4 ≢ 8 * q + 3 = λ e. omega arith in
       let h6 : 8 * n + 4 ≢ 8 * q + 5 = λ e. omega arith in
-      let lt1 : 8 * n + 4 < length (set (set (set t (8 * n) q) (8 * n + 1) a) (8 * n + 2) (depth t q + 1)) = simp length-set (omega arith) in
+      let inside = older-within t n q a lt room in
       simp (getD-set-other, getD-set-same)
 
   pub added-youngest : youngest (added t n q a) q ≡ n
   unfolding added
   added-youngest =
       let h6 : 8 * q + 3 ≢ 8 * q + 5 = λ e. omega arith in
-      let lt1 :
-      8 * q + 3
-      < length (set (set (set (set t (8 * n) q) (8 * n + 1) a) (8 * n + 2) (depth t q + 1)) (8 * n + 4) (youngest t q)) =
-      simp length-set (omega arith)
-      in
+      let inside = youngest-within t n q a lt room in
       simp (getD-set-other, getD-set-same)
 
   pub added-children : children (added t n q a) q ≡ children t q + 1
   unfolding added
   added-children =
-      let lt1 :
-      8 * q + 5
-      < length
-      (set (set (set (set (set t (8 * n) q) (8 * n + 1) a) (8 * n + 2) (depth t q + 1)) (8 * n + 4) (youngest t q)) (8 * q + 3) n) =
-      simp length-set (omega arith)
-      in
+      let inside = children-within t n q a lt room in
       simp getD-set-same
 
   -- a word of an older node, at a place other than 3 and 5

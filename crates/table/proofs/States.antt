@@ -8,14 +8,15 @@ use mathlib.Core.List.{List, [], _∷_, _++_, map, flatMap}
 use native.Mathlib.Omega.{arith}
 use native.Mathlib.Nat.{le-of-suc-le-suc, not-suc-le-zero}
 use lib.Dec.{eqb, ltb}
-use lib.ListN.{length, getD, length-append, length-map, List·getD-append}
+use lib.ListN.{length, getD, drop, length-append, length-map, List·getD-append}
 use lib.Seq.{getD-at}
 use borrow.Author.Tests.{ltb-true, ltb-false, eqb-true, eqb-false, eq-eqb, ne-eqb}
 use Rattle.rewriting.specs.Lists.{all, same, prefix}
 use Rattle.rewriting.specs.Rules.{Rule, RuleSet, ruleInRange, inRange}
-use Rattle.rewriting.proofs.Lists.{and-left, and-right, or-left, or-right, same-eq, same-refl}
+use Rattle.rewriting.proofs.Lists.{and-left, and-right, or-cases, or-left, or-right, same-eq, same-refl, prefix-rest}
 use Rattle.rewriting.proofs.Ranges.{rule-ranges, ranges}
 use Rattle.table.specs.States.{isPrefix, state, next, prefixes, known, numbered, states, number}
+use Rattle.table.specs.Words.{text}
 use Rattle.table.proofs.Matching.{state-is-prefix, next-child}
 
 eqb-sym : (x y : ℕ) → eqb x y ≡ eqb y x
@@ -143,8 +144,8 @@ known-at (u ∷ s) (suc i) h =
 
 -- each state listed is empty or a prefix of a left side
 pub listed-prefix : (rules : List Rule) (i : ℕ) → i < length (states rules)
-    → (getD (states rules) i [] ≡ []) ⊎ (isPrefix rules (getD (states rules) i []) ≡ true)
-listed-prefix rules i h = known-prefix rules (getD (states rules) i []) (known-at (states rules) i h)
+    → (text rules i ≡ []) ⊎ (isPrefix rules (text rules i) ≡ true)
+listed-prefix rules i h = known-prefix rules (text rules i) (known-at (states rules) i h)
 
 -- a string keeps its number when others follow
 pub number-old : (s t : List (List ℕ)) (v : List ℕ) → known s v ≡ true → number (s ++ t) v ≡ number s v
@@ -179,7 +180,7 @@ numbered-keeps P grow s (v ∷ vs) h = numbered-keeps P grow (cond (known s v) s
     go true e = h
     go false e = grow s v e h
 
-first-state : (rules : List Rule) → (0 < length (states rules)) × (getD (states rules) 0 [] ≡ [])
+first-state : (rules : List Rule) → (0 < length (states rules)) × (text rules 0 ≡ [])
 unfolding states
 first-state rules =
     numbered-keeps (λ s. (0 < length s) × (getD s 0 [] ≡ []))
@@ -190,7 +191,7 @@ pub some-state : (rules : List Rule) → 0 < length (states rules)
 some-state rules = first-state rules .0
 
 -- the empty string is state 0
-pub state-zero : (rules : List Rule) → getD (states rules) 0 [] ≡ []
+pub state-zero : (rules : List Rule) → text rules 0 ≡ []
 state-zero rules = first-state rules .1
 
 -- each string of the list stands in it once
@@ -209,7 +210,7 @@ once-new s v new once i h = go (ltb i (length s)) refl
         rw (getD-at s v [] [] i here, number-new s v new) here
 
 -- no state stands twice: the number of the state at place i is i
-pub number-back : (rules : List Rule) (i : ℕ) → i < length (states rules) → number (states rules) (getD (states rules) i []) ≡ i
+pub number-back : (rules : List Rule) (i : ℕ) → i < length (states rules) → number (states rules) (text rules i) ≡ i
 unfolding states number
 number-back rules =
     numbered-keeps Once once-new ([] ∷ []) (flatMap (λ r. prefixes (r .left)) rules) first
@@ -227,14 +228,14 @@ pub child-some : (rules : List Rule) (v : List ℕ) (a : ℕ) → known (states 
 child-some rules v a k e =
     snoc-some v a
     (sym (number-at (states rules) (v ++ a ∷ []) k .1)
-    ∙ ap (λ (i : ℕ). getD (states rules) i []) e
+    ∙ ap (text rules) e
     ∙ state-zero rules)
 
 -- each state but the first has a symbol
-pub state-long : (rules : List Rule) (c : ℕ) → 0 < c → c < length (states rules) → 0 < length (getD (states rules) c [])
-state-long rules c pos below = go (getD (states rules) c []) refl
+pub state-long : (rules : List Rule) (c : ℕ) → 0 < c → c < length (states rules) → 0 < length (text rules c)
+state-long rules c pos below = go (text rules c) refl
   where
-    go : (v : List ℕ) → getD (states rules) c [] ≡ v → 0 < length v
+    go : (v : List ℕ) → text rules c ≡ v → 0 < length v
     go [] e =
         let zero-too : c ≡ 0 = sym (number-back rules c below) ∙ ap (number (states rules)) e ∙ number-zero rules in
         absurd (omega arith)
@@ -271,3 +272,28 @@ few-states set e =
     let h = ranges set e in
     let few = few-prefixes set (set .rules) (h .all-rules) in
     omega (arith, length-numbered ([] ∷ []) (flatMap (λ r. prefixes (r .left)) (set .rules)))
+
+-- a prefix of a left side has at most 8 symbols, and so has each state
+prefix-short : (set : RuleSet) (rules : List Rule) → all (ruleInRange set) rules ≡ true
+    → (v : List ℕ) → isPrefix rules v ≡ true → length v ≤ 8
+unfolding isPrefix
+prefix-short set [] e v p = let z : _≡_ {A = ℕ} 0 1 = cc in absurd (omega arith)
+prefix-short set (r ∷ rules) e v p =
+    go (or-cases (prefix v (r .left)) (isPrefix rules v) p)
+    (prefix-short set rules (and-right (ruleInRange set r) (all (ruleInRange set) rules) e) v)
+  where
+    go : (prefix v (r .left) ≡ true) ⊎ (isPrefix rules v ≡ true) → (isPrefix rules v ≡ true → length v ≤ 8) → length v ≤ 8
+    go (inl h) ih =
+        let own = rule-ranges set r (and-left (ruleInRange set r) (all (ruleInRange set) rules) e) in
+        let size : length (r .left) ≡ length v + length (drop (length v) (r .left)) =
+        ap length (prefix-rest v (r .left) h) ∙ length-append v (drop (length v) (r .left))
+        in
+        omega (arith, own .short-left)
+    go (inr h) ih = ih h
+
+pub short-state : (set : RuleSet) → inRange set ≡ true → (c : ℕ) → c < length (states (set .rules)) → length (text (set .rules) c) ≤ 8
+short-state set e c h = go (listed-prefix (set .rules) c h)
+  where
+    go : (text (set .rules) c ≡ []) ⊎ (isPrefix (set .rules) (text (set .rules) c) ≡ true) → length (text (set .rules) c) ≤ 8
+    go (inl p) = let size = ap length p in omega arith
+    go (inr p) = prefix-short set (set .rules) (ranges set e .all-rules) (text (set .rules) c) p

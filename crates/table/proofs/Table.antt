@@ -1,7 +1,7 @@
 -- Laws of the table: how long it is, what stands in each of its words, and that each fits 16 bits.
 -- Assumes nothing.
 use Prim.Native.Nat.{ℕ, suc, _+_, _*_, _≤_, _<_}
-use mathlib.Core.Path.{_≡_, refl, _∙_}
+use mathlib.Core.Path.{_≡_, refl, sym, ap, _∙_}
 use mathlib.Core.Bool.{true}
 use mathlib.Core.Option.{Option, none, some}
 use mathlib.Core.List.{List, [], map, flatMap}
@@ -9,7 +9,7 @@ use native.Mathlib.Omega.{arith}
 use native.Mathlib.Nat.{mul-le-mul}
 use lib.Dec.{ltb}
 use lib.ListN.{length, getD, length-append, length-map, List·getD-append}
-use lib.Seq.{getD-append-add}
+use lib.Seq.{getD-append-add, ext-getD}
 use borrow.Author.Tests.{lt-ltb}
 use Rattle.rewriting.specs.Lists.{prefix, below, upTo}
 use Rattle.rewriting.specs.Rules.{Rule, RuleSet, inRange}
@@ -19,8 +19,9 @@ use Rattle.rewriting.proofs.Ranges.{ranges}
 use Rattle.rewriting.proofs.Scan.{ending-left}
 use Rattle.table.specs.States.{next, matching, states, number}
 use Rattle.table.specs.Table.{matchWord, row, tableOf}
+use Rattle.table.specs.Words.{text, transition}
 use Rattle.table.proofs.States.{next-below, few-states}
-use Rattle.table.proofs.RowPlaces.{word-within}
+use Rattle.table.proofs.RowPlaces.{word-within, place-parts}
 
 -- a row has a word for each symbol: the number of the next state
 pub length-row : (set : RuleSet) (q : List ℕ) → length (row set q) ≡ set .symbols
@@ -57,7 +58,7 @@ length-matchWords set = length-map (states (set .rules)) (λ q. matchWord (match
 
 -- the match word of state i
 pub table-match : (set : RuleSet) (i : ℕ) → i < length (states (set .rules))
-    → getD (tableOf set) (2 + i) 0 ≡ matchWord (matching (set .rules) (getD (states (set .rules)) i []))
+    → getD (tableOf set) (2 + i) 0 ≡ matchWord (matching (set .rules) (text (set .rules) i))
 unfolding tableOf
 table-match set i h =
     let at : 2 + i ≡ suc (suc i) = omega arith in
@@ -77,7 +78,7 @@ row-at set q a h =
 -- the next state of state i on symbol a
 pub table-next : (set : RuleSet) (i a : ℕ) → i < length (states (set .rules)) → a < set .symbols
     → getD (tableOf set) (2 + length (states (set .rules)) + i * set .symbols + a) 0
-    ≡ number (states (set .rules)) (next (set .rules) (getD (states (set .rules)) i []) a)
+    ≡ number (states (set .rules)) (next (set .rules) (text (set .rules) i) a)
 unfolding tableOf
 table-next set i a h below =
     let m = length-matchWords set in
@@ -85,17 +86,46 @@ table-next set i a h below =
     rw at
     (getD-append-add (matchWords set) (flatMap (row set) (states (set .rules))) (i * set .symbols + a) 0
     ∙ getD-flatMap (row set) (set .symbols) (length-row set) (states (set .rules)) i a [] 0 h below
-    ∙ row-at set (getD (states (set .rules)) i []) a below)
+    ∙ row-at set (text (set .rules) i) a below)
 
 -- it is the number of a state
 pub table-next-below : (set : RuleSet) (i a : ℕ) → i < length (states (set .rules)) → a < set .symbols
     → getD (tableOf set) (2 + length (states (set .rules)) + i * set .symbols + a) 0 < length (states (set .rules))
 table-next-below set i a h below =
-    rw (table-next set i a h below) (next-below (set .rules) (getD (states (set .rules)) i []) a)
+    rw (table-next set i a h below) (next-below (set .rules) (text (set .rules) i) a)
+
+-- match words, one by one, are those of the table
+pub matches-whole : (set : RuleSet) (words : List ℕ) → length words ≡ length (states (set .rules))
+    → ((c : ℕ) → c < length (states (set .rules)) → getD words c 0 ≡ matchWord (matching (set .rules) (text (set .rules) c)))
+    → words ≡ map (λ q. matchWord (matching (set .rules) q)) (states (set .rules))
+matches-whole set words size each =
+    ext-getD 0 words (matchWords set) (size ∙ sym (length-matchWords set))
+    (λ k h.
+    each k (omega arith) ∙ sym (getD-map (λ q. matchWord (matching (set .rules) q)) (states (set .rules)) k [] 0 (omega arith)))
+
+-- rows of the next states, word by word, are the rows of the table
+pub rows-whole : (set : RuleSet) (rows : List ℕ) → 0 < set .symbols → length rows ≡ length (states (set .rules)) * set .symbols
+    → ((c a : ℕ) → c < length (states (set .rules)) → a < set .symbols
+    → transition rows (set .symbols) c a ≡ number (states (set .rules)) (next (set .rules) (text (set .rules) c) a))
+    → rows ≡ flatMap (row set) (states (set .rules))
+rows-whole set rows pos size each =
+    ext-getD 0 rows (flatMap (row set) s) (size ∙ sym (length-flatMap (row set) (set .symbols) (length-row set) s)) word
+  where
+    s : List (List ℕ)
+    s = states (set .rules)
+
+    word : (k : ℕ) → k < length rows → getD rows k 0 ≡ getD (flatMap (row set) s) k 0
+    word k h =
+        let (q, a, listed, low, place) = place-parts (set .symbols) (length s) k pos (rw size at h) in
+        ap (λ (i : ℕ). getD rows i 0) (sym place)
+        ∙ each q a listed low
+        ∙ sym (row-at set (getD s q []) a low)
+        ∙ sym (getD-flatMap (row set) (set .symbols) (length-row set) s q a [] 0 listed low)
+        ∙ ap (λ (i : ℕ). getD (flatMap (row set) s) i 0) place
 
 -- The same of any table that begins with the words of tableOf.
 pub begins-match : (set : RuleSet) (t : List ℕ) → prefix (tableOf set) t ≡ true → (i : ℕ) → i < length (states (set .rules))
-    → getD t (2 + i) 0 ≡ matchWord (matching (set .rules) (getD (states (set .rules)) i []))
+    → getD t (2 + i) 0 ≡ matchWord (matching (set .rules) (text (set .rules) i))
 begins-match set t e i h =
     let m = length-table set in
     begins-at (tableOf set) t e (2 + i) 0 (omega arith) ∙ table-match set i h
@@ -103,7 +133,7 @@ begins-match set t e i h =
 pub begins-next : (set : RuleSet) (t : List ℕ) → prefix (tableOf set) t ≡ true
     → (i a : ℕ) → i < length (states (set .rules)) → a < set .symbols
     → getD t (2 + length (states (set .rules)) + i * set .symbols + a) 0
-    ≡ number (states (set .rules)) (next (set .rules) (getD (states (set .rules)) i []) a)
+    ≡ number (states (set .rules)) (next (set .rules) (text (set .rules) i) a)
 begins-next set t e i a h below =
     let m = length-table set in
     let fits = word-within (set .symbols) i (length (states (set .rules))) a h below in

@@ -1,5 +1,6 @@
 -- The tests that a lent table is checked by, in place: each state against its parent, its failure state and its node of
--- the trie. A table passes them all exactly where it is the rules' (`right-passes` and `consistent-right`, proofs/RightPasses.antt and proofs/PassesRight.antt).
+-- the trie. A table passes them all exactly where it is the rules' (`right-passes` and `right-root`, proofs/RightPasses.antt;
+-- `consistent-right`, proofs/PassesRight.antt).
 use Prim.Native.Nat.{ℕ, _<_}
 use mathlib.Core.Path.{_≡_}
 use mathlib.Core.Bool.{not}

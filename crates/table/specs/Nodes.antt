@@ -21,7 +21,7 @@ use Rattle.rewriting.specs.Occurrences.{lowest}
 use Rattle.table.specs.declared.trie.Walked.{Walked}
 use Rattle.table.specs.States.{known, number, states}
 use Rattle.table.specs.Table.{matchWord}
-use Rattle.table.specs.Words.{transition}
+use Rattle.table.specs.Words.{text, failureState, transition}
 
 module _ (t : List ℕ) (c : ℕ) where
   abbrev pub parent : ℕ
@@ -81,6 +81,10 @@ pub record Trie (s : List (List ℕ)) (symbols : ℕ) (t : List ℕ) : Type 0 wh
 abbrev pub Owned : List Rule → List (List ℕ) → List ℕ → Type 0
 Owned rules s t = (c : ℕ) → c < length s → matched t c ≡ matchWord (lowest rules (getD s c []))
 
+-- node c holds its failure state
+abbrev pub RightFailure : List Rule → List ℕ → ℕ → Type 0
+RightFailure rules t c = failure t c ≡ number (states rules) (failureState rules (text rules c))
+
 -- the failure state of node c, found from that of its parent and the parent's failure state's row; rows of so many symbols
 unfoldable pub failureBy : List ℕ → List ℕ → ℕ → ℕ → ℕ
 failureBy t rows symbols c =
@@ -135,7 +139,7 @@ pub record Followed-rule (set : RuleSet) (i : ℕ) (w : Walked) (t : List ℕ) :
   pub owned : Owned (take i (set .rules)) (states (take (suc i) (set .rules))) t
   pub nodes : w .nodes ≡ length (states (take (suc i) (set .rules)))
   pub node : w .node < w .nodes
-  pub ends : getD (states (take (suc i) (set .rules))) (w .node) [] ≡ rule (set .rules) i .left
+  pub ends : text (take (suc i) (set .rules)) (w .node) ≡ rule (set .rules) i .left
 
 -- k words have room for a node for the root and one for each symbol of a left side
 abbrev pub Roomy : RuleSet → ℕ → Type 0

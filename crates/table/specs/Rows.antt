@@ -10,8 +10,8 @@ use Rattle.rewriting.specs.Rules.{RuleSet}
 use Rattle.rewriting.specs.Occurrences.{lowest}
 use Rattle.table.specs.States.{next, matching, known, states, number}
 use Rattle.table.specs.Table.{matchWord, row}
-use Rattle.table.specs.Words.{text, failureState, transition, ownOr}
-use Rattle.table.specs.Nodes.{matched, failure, Trie, Owned}
+use Rattle.table.specs.Words.{text, transition, ownOr}
+use Rattle.table.specs.Nodes.{matched, failure, Trie, Owned, RightFailure}
 
 -- the child of state v by symbol a, 0 where it has none
 unfoldable pub childNumber : List (List ℕ) → List ℕ → ℕ → ℕ
@@ -49,8 +49,7 @@ pub record Filling (set : RuleSet) (done : ℕ → Bool) (t rows : List ℕ) : T
   pub size : length rows ≡ length (states (set .rules)) * set .symbols
   pub matches : (c : ℕ) → c < length (states (set .rules))
       → matched t c ≡ cond (done c) (matchWord (matching (set .rules) (text (set .rules) c))) (matchWord (lowest (set .rules) (text (set .rules) c)))
-  pub failures : (c : ℕ) → 0 < c → c < length (states (set .rules)) → done c ≡ true
-      → failure t c ≡ number (states (set .rules)) (failureState (set .rules) (text (set .rules) c))
+  pub failures : (c : ℕ) → 0 < c → c < length (states (set .rules)) → done c ≡ true → RightFailure (set .rules) t c
   pub table : (c a : ℕ) → c < length (states (set .rules)) → a < set .symbols
       → transition rows (set .symbols) c a
       ≡ cond (done c) (number (states (set .rules)) (next (set .rules) (text (set .rules) c) a))

@@ -1,51 +1,38 @@
 -- `table::write` meets its contract: the first two words, the rows, and the match words between them are the table.
 -- Assumes nothing.
-use Prim.Native.Nat.{ℕ, _+_, _*_}
-use mathlib.Core.Path.{_≡_, refl, sym, ap, _∙_}
-use mathlib.Core.List.{List, flatMap}
+use Prim.Native.Nat.{_+_, _≤_}
+use mathlib.Core.Path.{refl}
 use native.Mathlib.Omega.{arith}
-use lib.ListN.{length, length-set, length-map}
-use Rattle.rewriting.proofs.Lists.{length-flatMap}
+use lib.ListN.{length, length-set}
 use Rattle.rewriting.proofs.Ranges.{ranges}
 use Rattle.image.specs.Image.{read}
 use Rattle.image.proofs.Image.{valid-in-range}
-use Rattle.table.specs.States.{states}
-use Rattle.table.specs.Table.{row, tableOf}
 use Rattle.table.proofs.States.{few-states}
-use Rattle.table.proofs.Table.{length-row, length-table}
-use Rattle.table.proofs.Written.{rows-part, rowed-length, matches-part, words-are, words-length}
+use Rattle.table.proofs.Written.{area-some, rows-room, matches-end, matches-room, area-length, table-written}
 use borrow.Author.Needs.{needs}
 use Rattle.table.proofs.write.Statement.{statement}
 use Rattle.table.proofs.write.Tie as tie
 
--- the area has the table's length
-sized : (c : tie.Start)
-    → length (c .args .table .now)
-    ≡ 2 + c .args .n + length (states (read (c .args .image .now) .rules)) * read (c .args .image .now) .symbols
-sized c = c .pre .1 .1 ∙ length-table (read (c .args .image .now)) ∙ rw (c .pre .1 .0 .nodes)
-
--- and the rows theirs
-rows-long : (c : tie.Start) (rows : List ℕ) → rows ≡ flatMap (row (read (c .args .image .now))) (states (read (c .args .image .now) .rules))
-    → length rows ≡ length (states (read (c .args .image .now) .rules)) * read (c .args .image .now) .symbols
-rows-long c rows e =
-    ap length e
-    ∙ length-flatMap (row (read (c .args .image .now))) (read (c .args .image .now) .symbols) (length-row (read (c .args .image .now)))
-    (states (read (c .args .image .now) .rules))
+-- the area has room for the first words
+some : (c : tie.Start) → 2 + c .args .n ≤ length (c .args .table .now)
+some c = area-some (read (c .args .image .now)) (c .args .table .now) (c .pre .1 .0 .nodes) refl (c .pre .1 .1)
 
 symbols-requires : tie.Need-symbols-requires
 symbols-requires c κs = search needs
 
 cast-table : tie.Need-cast-table
-cast-table c = omega (arith, c .before .before .before .before .pre .1 .0 .nodes, few-states _ (valid-in-range _ (c .before .before .before .before .pre .0)))
+cast-table c =
+    let start = c .before .before .before .before in
+    omega (arith, start .pre .1 .0 .nodes, few-states _ (valid-in-range _ (start .pre .0)))
 
 slice-write-table : tie.Need-slice-write-table
-slice-write-table c = omega (arith, sized (c .before .before .before .before))
+slice-write-table c = omega (arith, some (c .before .before .before .before))
 
 cast-table-2 : tie.Need-cast-table-2
 cast-table-2 c = omega (arith, c .symbols .ensures, ranges _ (valid-in-range _ (c .before .before .before .before .pre .0)))
 
 slice-write-table-2 : tie.Need-slice-write-table-2
-slice-write-table-2 c = simp length-set (omega (arith, sized (c .before .before .before .before)))
+slice-write-table-2 c = simp length-set (omega (arith, some (c .before .before .before .before)))
 
 add-rows : tie.Need-add-rows
 add-rows c = search needs
@@ -54,10 +41,10 @@ mul-fill : tie.Need-mul-fill
 mul-fill c = search needs
 
 sub-fill : tie.Need-sub-fill
-sub-fill c = simp length-set (omega (arith, sized (c .before .before .before .before .before)))
+sub-fill c = simp length-set (omega (arith, some (c .before .before .before .before .before)))
 
 part-fill-start : tie.Need-part-fill-start
-part-fill-start c = simp length-set (omega (arith, sized (c .before .before .before .before .before)))
+part-fill-start c = simp length-set (omega (arith, some (c .before .before .before .before .before)))
 
 part-fill-end : tie.Need-part-fill-end
 part-fill-end c = search needs
@@ -66,7 +53,7 @@ fill-requires : tie.Need-fill-requires
 fill-requires c κs =
     let start = c .before .before .before .before .before .before in
     let trie = start .pre .1 .0 in
-    let size = rows-part (start .args .table .now) (start .args .n) (c .before .before .symbols .result) _ (sized start) in
+    let size = rows-room (read (start .args .image .now)) (start .args .table .now) (start .pre .1 .0 .nodes) (c .before .before .symbols .ensures) (start .pre .1 .1) in
     (start .pre .0, record { trie = trie .trie; owned = trie .owned; count = trie .nodes; size = size })
 
 sub-write-matches : tie.Need-sub-write-matches
@@ -77,26 +64,25 @@ part-write-matches-start c = search needs
 
 part-write-matches-end : tie.Need-part-write-matches-end
 part-write-matches-end c =
-    let start = c .before .before .before .before .before .before .before .before .before .before .before .before in
-    let filled = c .before .before .before .before .before .fill in
-    let rows = filled .last .1 .1 .1 .0 in
-    let long = rows-long start rows (filled .ensures .table) in
-    omega (arith, rowed-length (start .args .table .now) (start .args .n) (c .before .before .before .before .before .before .before .before .symbols .result) _ (sized start) rows long)
+    let filled = c .before .before .before .before .before in
+    let read-symbols = filled .before .before .before in
+    let start = read-symbols .before .before .before .before in
+    matches-end (read (start .args .image .now)) (start .args .table .now) (start .pre .1 .0 .nodes) (read-symbols .symbols .ensures) (start .pre .1 .1)
+    (filled .fill .last .1 .1 .1 .0) (filled .fill .ensures .table)
 
 write-matches-requires : tie.Need-write-matches-requires
 write-matches-requires c κs =
-    let start = c .before .before .before .before .before .before .before .before .before .before .before .before .before in
-    let trie = start .pre .1 .0 in
-    let filled = c .before .before .before .before .before .before .fill in
-    let rows = filled .last .1 .1 .1 .0 in
-    let long = rows-long start rows (filled .ensures .table) in
-    let few = few-states _ (valid-in-range _ (start .pre .0)) in (
-      filled .ensures .matches,
+    let filled = c .before .before .before .before .before .before in
+    let read-symbols = filled .before .before .before in
+    let start = read-symbols .before .before .before .before in
+    let trie = start .pre .1 .0 in (
+      filled .fill .ensures .matches,
       (
         trie .nodes,
         (
-          omega (arith, filled .ensures .size, trie .trie .linked .size, trie .nodes),
-          matches-part (start .args .table .now) (start .args .n) (c .before .before .before .before .before .before .before .before .before .symbols .result) _ (sized start) rows long,
+          omega (arith, filled .fill .ensures .size, trie .trie .linked .size, trie .nodes),
+          matches-room (read (start .args .image .now)) (start .args .table .now) (start .pre .1 .0 .nodes) (read-symbols .symbols .ensures) (start .pre .1 .1)
+              (filled .fill .last .1 .1 .1 .0) (filled .fill .ensures .table),
         ),
       ),
     )
@@ -106,24 +92,21 @@ same-length c = search needs
 
 same-length-2 : tie.Need-same-length-2
 same-length-2 c =
-    let start = c .before .before .before .before .before .before .before .before .before .before .before .before .before .before .before .before in
-    let filled = c .before .before .before .before .before .before .before .before .before .fill in
-    let rows = filled .last .1 .1 .1 .0 in
-    let matches = c .before .before .write-matches .last .1 .1 .1 .0 in
-    let long = rows-long start rows (filled .ensures .table) in
-    let count : length matches ≡ start .args .n = rw (c .before .before .write-matches .ensures) (simp length-map (sym (start .pre .1 .0 .nodes))) in
-    words-length (start .args .table .now) (start .args .n) (c .before .before .before .before .before .before .before .before .before .before .before .before .symbols .result) _ (sized start) rows long matches count
+    let written = c .before .before in
+    let filled = written .before .before .before .before .before .before .before in
+    let read-symbols = filled .before .before .before in
+    let start = read-symbols .before .before .before .before in
+    area-length (read (start .args .image .now)) (start .args .table .now) (start .pre .1 .0 .nodes) (read-symbols .symbols .ensures) (start .pre .1 .1)
+    (filled .fill .last .1 .1 .1 .0) (filled .fill .ensures .table) (written .write-matches .last .1 .1 .1 .0) (written .write-matches .ensures)
 
 returns : tie.Need-returns
-unfolding tableOf
 returns c =
-    let start = c .before .before .before .before .before .before .before .before .before .before .before .before .before .before .before .before in
-    let filled = c .before .before .before .before .before .before .before .before .before .fill in
-    let rows = filled .last .1 .1 .1 .0 in
-    let matches = c .before .before .write-matches .last .1 .1 .1 .0 in
-    let long = rows-long start rows (filled .ensures .table) in
-    words-are (start .args .table .now) (start .args .n) (c .before .before .before .before .before .before .before .before .before .before .before .before .symbols .result) _ (sized start) rows long matches
-    ∙ rw (start .pre .1 .0 .nodes, c .before .before .before .before .before .before .before .before .before .before .before .before .symbols .ensures, filled .ensures .table, c .before .before .write-matches .ensures)
+    let written = c .before .before in
+    let filled = written .before .before .before .before .before .before .before in
+    let read-symbols = filled .before .before .before in
+    let start = read-symbols .before .before .before .before in
+    table-written (read (start .args .image .now)) (start .args .table .now) (start .pre .1 .0 .nodes) (read-symbols .symbols .ensures) (start .pre .1 .1)
+    (filled .fill .last .1 .1 .1 .0) (filled .fill .ensures .table) (written .write-matches .last .1 .1 .1 .0) (written .write-matches .ensures)
 
 pub write-spec : {M : Type 1} → statement M
 write-spec =

@@ -6,7 +6,7 @@ use native.Mathlib.Omega.{arith}
 use borrow.Author.Needs.{needs}
 use Rattle.image.specs.Image.{read}
 use Rattle.image.proofs.Image.{valid-in-range}
-use Rattle.table.proofs.Consistent.{table-small, part-lengths, short-table, other-states, other-symbols, compared}
+use Rattle.table.proofs.Compared.{table-small, part-lengths, short-table, other-states, other-symbols, compared}
 use Rattle.table.proofs.compare.holds.Statement.{statement}
 use Rattle.table.proofs.compare.holds.Tie as tie
 

@@ -1,7 +1,8 @@
 -- `table::compare::state_holds` meets its contract: false at the first test that fails, true behind the last.
 -- Assumes nothing.
-use mathlib.Core.Path.{sym, _∙_}
+use mathlib.Core.Path.{_∙_}
 use borrow.Author.Needs.{needs}
+use Rattle.table.proofs.CheckLoop.{passes}
 use Rattle.table.proofs.compare.state_holds.Statement.{statement}
 use Rattle.table.proofs.compare.state_holds.Tie as tie
 
@@ -61,13 +62,12 @@ returns-3 c = λ p.
 
 returns-4 : tie.Need-returns-4
 returns-4 c =
-    let led = c .before .before .before .before .before .before .before .before .before .led-to .ensures in
-    let word = c .before .before .before .before .before .before .before .inherited .ensures in
-    record {
-      led = sym led ∙ c .before .before .before .before .before .before .before .before .if1 .left;
-      inherits = sym (c .before .before .before .before .before .if2 .left) ∙ word;
-      differs = rw (← c .before .before .before .wide .ensures) (sym (c .before .before .differences .ensures) ∙ c .if3 .left);
-    }
+    let led = c .before .before .before .before .before .before .before .before in
+    let start = led .before .before .before .before .before in
+    passes (start .args .trie .now) (start .args .matches .now) (start .args .rows .now) (start .args .s) (start .args .q)
+    (led .before .led-to .ensures) (led .if1 .left)
+    (c .before .before .before .before .before .before .before .inherited .ensures) (c .before .before .before .before .before .if2 .left)
+    (c .before .before .before .wide .ensures) (c .before .before .differences .ensures) (c .if3 .left)
 
 pub state-holds-spec : {M : Type 1} → statement M
 state-holds-spec =

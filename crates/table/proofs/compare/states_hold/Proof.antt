@@ -6,11 +6,9 @@ use mathlib.Core.Path.{_≡_, refl}
 use native.Mathlib.Omega.{arith}
 use lib.ListN.{length, length-set}
 use borrow.Author.Needs.{needs}
-use borrow.Author.Tests.{not-true, not-false}
 use Rattle.image.specs.Image.{read}
 use Rattle.image.proofs.Image.{valid-in-range}
-use Rattle.image.proofs.Check.{decided, denied}
-use Rattle.table.proofs.Consistent.{Checking, root-asks, checking-root, wrong-root, checking-end, node-room, failure-asks, no-failure, no-state, state-asks, checking-more}
+use Rattle.table.proofs.CheckLoop.{Checking, root-asks, checking-root, wrong-root, checking-end, node-room, failure-asks, no-failure, no-state, state-asks, checking-more}
 use Rattle.table.proofs.compare.states_hold.Statement.{statement}
 use Rattle.table.proofs.compare.states_hold.Tie as tie
 
@@ -45,7 +43,7 @@ returns c =
     let pre = start .pre in
     wrong-root (read (start .args .image .now)) (start .args .matches .now) (start .args .rows .now)
     (valid-in-range (start .args .image .now) (pre .0)) (pre .1 .1 .1 .0) (c .before .before .before .symbols .ensures) (pre .1 .0)
-    (denied (c .before .root-holds .result) (not-true (c .before .root-holds .result) (c .if1 .taken)) (c .before .root-holds .ensures))
+    (c .before .root-holds .result) (c .if1 .taken) (c .before .root-holds .ensures)
 
 loop-holds : tie.Need-loop-holds Inv-loop μ-loop
 loop-holds c =
@@ -55,7 +53,7 @@ loop-holds c =
       checking-root (read (start .args .image .now)) (start .args .matches .now) (start .args .rows .now)
           (valid-in-range (start .args .image .now) (pre .0)) (pre .1 .1 .1 .0) (c .before .before .before .symbols .ensures)
           (pre .1 .0) (pre .1 .1 .0) (pre .1 .1 .1 .1 .0) (pre .1 .1 .1 .1 .1)
-          (decided (c .before .root-holds .result) (not-false (c .before .root-holds .result) (c .if1 .left)) (c .before .root-holds .ensures)),
+          (c .before .root-holds .result) (c .if1 .left) (c .before .root-holds .ensures),
     )
 
 failure-of-requires : tie.Need-failure-of-requires Inv-loop μ-loop
@@ -98,7 +96,7 @@ returns-3 c =
     let found = c .before .before .before .before in
     let turn = found .before .before .before .loop in
     no-state (turn .inv .1) (found .before .before .loop-test .taken) (found .failure-of .ensures)
-    (denied (c .before .state-holds .result) (not-true (c .before .state-holds .result) (c .if3 .taken)) (c .before .state-holds .ensures))
+    (c .before .state-holds .result) (c .if3 .taken) (c .before .state-holds .ensures)
 
 add-q : tie.Need-add-q Inv-loop μ-loop
 add-q c = search needs
@@ -112,7 +110,7 @@ loop-again c =
     let turn = found .before .before .before .loop in (
       rw length-set (turn .inv .0),
       checking-more (turn .inv .1) (found .before .before .loop-test .taken) (found .failure-of .ensures) (c .before .before .before .if2 .left)
-          (decided (c .before .state-holds .result) (not-false (c .before .state-holds .result) (c .if3 .left)) (c .before .state-holds .ensures)),
+          (c .before .state-holds .result) (c .if3 .left) (c .before .state-holds .ensures),
     )
 
 same-length-4 : tie.Need-same-length-4 Inv-loop μ-loop

@@ -1,9 +1,8 @@
--- `table::trie::add` meets its contract: six stores.
+-- `table::trie::add` meets its contract: it makes six stores.
 -- Assumes nothing.
 use mathlib.Core.Path.{refl}
-use native.Mathlib.Omega.{arith}
-use lib.ListN.{length-set}
 use Rattle.table.specs.Nodes.{added}
+use Rattle.table.proofs.Nodes.{symbol-within, depth-within, older-within, youngest-within, children-within, added-size}
 use borrow.Author.Needs.{needs}
 use Rattle.table.proofs.trie.add.Statement.{statement}
 use Rattle.table.proofs.trie.add.Tie as tie
@@ -66,7 +65,9 @@ mul-trie-4 : tie.Need-mul-trie-4
 mul-trie-4 c = search needs
 
 slice-write-trie-2 : tie.Need-slice-write-trie-2
-slice-write-trie-2 c = simp length-set (omega arith)
+slice-write-trie-2 c =
+    let start = c .before .before .before in
+    symbol-within (start .args .trie .now) (start .args .n) (start .args .q) (start .args .a) (start .pre .0 .0) (start .pre .1 .0)
 
 add-trie-2 : tie.Need-add-trie-2
 add-trie-2 c = search needs
@@ -81,7 +82,9 @@ mul-trie-6 : tie.Need-mul-trie-6
 mul-trie-6 c = search needs
 
 slice-write-trie-3 : tie.Need-slice-write-trie-3
-slice-write-trie-3 c = simp length-set (omega arith)
+slice-write-trie-3 c =
+    let start = c .before .before .before in
+    depth-within (start .args .trie .now) (start .args .n) (start .args .q) (start .args .a) (start .pre .0 .0) (start .pre .1 .0)
 
 mul-trie-7 : tie.Need-mul-trie-7
 mul-trie-7 c = search needs
@@ -93,7 +96,9 @@ mul-trie-8 : tie.Need-mul-trie-8
 mul-trie-8 c = search needs
 
 slice-write-trie-4 : tie.Need-slice-write-trie-4
-slice-write-trie-4 c = simp length-set (omega arith)
+slice-write-trie-4 c =
+    let start = c .before .before .before in
+    older-within (start .args .trie .now) (start .args .n) (start .args .q) (start .args .a) (start .pre .0 .0) (start .pre .1 .0)
 
 cast-trie-2 : tie.Need-cast-trie-2
 cast-trie-2 c = search needs
@@ -108,7 +113,9 @@ mul-trie-10 : tie.Need-mul-trie-10
 mul-trie-10 c = search needs
 
 slice-write-trie-5 : tie.Need-slice-write-trie-5
-slice-write-trie-5 c = simp length-set (omega arith)
+slice-write-trie-5 c =
+    let start = c .before .before .before in
+    youngest-within (start .args .trie .now) (start .args .n) (start .args .q) (start .args .a) (start .pre .0 .0) (start .pre .1 .0)
 
 add-trie-6 : tie.Need-add-trie-6
 add-trie-6 c = search needs
@@ -123,10 +130,15 @@ mul-trie-12 : tie.Need-mul-trie-12
 mul-trie-12 c = search needs
 
 slice-write-trie-6 : tie.Need-slice-write-trie-6
-slice-write-trie-6 c = simp length-set (omega arith)
+slice-write-trie-6 c =
+    let start = c .before .before .before in
+    children-within (start .args .trie .now) (start .args .n) (start .args .q) (start .args .a) (start .pre .0 .0) (start .pre .1 .0)
 
 same-length : tie.Need-same-length
-same-length c = simp length-set
+unfolding added
+same-length c =
+    let start = c .before .before .before in
+    added-size (start .args .trie .now) (start .args .n) (start .args .q) (start .args .a) (start .pre .0 .0) (start .pre .1 .0)
 
 returns : tie.Need-returns
 unfolding added

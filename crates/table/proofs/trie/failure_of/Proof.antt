@@ -1,14 +1,13 @@
 -- `table::trie::failure_of` meets its contract: by its parent's failure state and that state's row.
 -- Assumes nothing.
-use Prim.Native.Nat.{ℕ, _+_, _*_, _<_}
-use mathlib.Core.Path.{_≡_, refl, sym, _∙_}
-use mathlib.Core.Bool.{cond}
+use Prim.Native.Nat.{_+_, _*_, _<_}
+use mathlib.Core.Path.{sym, _∙_}
 use native.Mathlib.Omega.{arith}
-use lib.Dec.{eqb}
-use lib.ListN.{length, getD}
+use lib.ListN.{length}
 use borrow.Author.Needs.{needs}
-use borrow.Author.Tests.{eq-eqb, ne-eqb}
-use Rattle.table.specs.Nodes.{parent, symbol, failure, failureBy}
+use borrow.Author.Tests.{eq-eqb}
+use Rattle.table.specs.Nodes.{failureBy}
+use Rattle.table.proofs.Failure.{word-inside, word-read}
 use Rattle.table.proofs.trie.failure_of.Statement.{statement}
 use Rattle.table.proofs.trie.failure_of.Tie as tie
 
@@ -18,9 +17,9 @@ inside : (c : tie.After-wide3)
     < length (c .before .before .before .before .before .before .before .before .before .args .rows .now)
 inside c =
     let turn = c .before .before .before .before in
-    let left = turn .if1 .left in
-    rw (c .wide3 .ensures, c .before .before .wide2 .ensures, turn .before .wide .ensures)
-    (turn .before .before .before .before .before .pre .1 .1 (omega (arith, left, turn .before .wide .ensures)))
+    let start = turn .before .before .before .before .before in
+    word-inside (start .args .trie .now) (start .args .rows .now) (start .args .s) (start .args .q) (turn .before .wide .ensures)
+    (c .before .before .wide2 .ensures) (c .wide3 .ensures) (turn .if1 .left) (start .pre .1 .1)
 
 mul-wide : tie.Need-mul-wide
 mul-wide c = search needs
@@ -84,13 +83,12 @@ wide-requires-4 : tie.Need-wide-requires-4
 wide-requires-4 c κs = search needs
 
 returns-2 : tie.Need-returns-2
-unfolding failureBy
 returns-2 c =
     let turn = c .before .before .before .before .before .before in
-    let up : parent (turn .before .before .before .before .before .args .trie .now) (turn .before .before .before .before .before .args .q) ≡ 0 → ⊥ =
-    λ e. turn .if1 .left (turn .before .wide .ensures ∙ e)
-    in
-    rw (ne-eqb _ 0 up) (rw (c .wide4 .ensures, c .before .before .wide3 .ensures, c .before .before .before .before .wide2 .ensures, turn .before .wide .ensures))
+    let start = turn .before .before .before .before .before in
+    c .wide4 .ensures
+    ∙ word-read (start .args .trie .now) (start .args .rows .now) (start .args .s) (start .args .q) (turn .before .wide .ensures)
+    (c .before .before .before .before .wide2 .ensures) (c .before .before .wide3 .ensures) (turn .if1 .left)
 
 pub failure-of-spec : {M : Type 1} → statement M
 failure-of-spec =
