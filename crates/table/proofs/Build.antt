@@ -23,7 +23,7 @@ use Rattle.table.specs.declared.trie.Walked.{Walked}
 use Rattle.table.specs.States.{known, number, numbered, states}
 use Rattle.table.specs.Table.{matchWord}
 use Rattle.table.specs.Words.{text}
-use Rattle.table.specs.Nodes.{matched, Trie, Owned, marked, Grown, Followed-rule, Roomy, Built}
+use Rattle.table.specs.Nodes.{matched, Trie, Owned, marked, Grown, FollowedRule, Roomy, Built}
 use Rattle.table.proofs.Tally.{tally-none}
 use Rattle.table.proofs.Nodes.{same-or}
 use Rattle.table.proofs.Growth.{node-once}
@@ -50,7 +50,7 @@ lowest-append (x ∷ rules) r v = go (same (x .left) v) (same (r .left) v) (lowe
     go false false none e = rw e
 
 -- Rule i marked at the node that its left side ends in.
-module _ (set : RuleSet) (i : ℕ) (lt : i < length (set .rules)) (w : Walked) (t : List ℕ) (f : Followed-rule set i w t)
+module _ (set : RuleSet) (i : ℕ) (lt : i < length (set .rules)) (w : Walked) (t : List ℕ) (f : FollowedRule set i w t)
     (room : 8 * w .nodes ≤ length t) where
   lowest-next : (v : List ℕ)
       → lowest (take (suc i) (set .rules)) v
@@ -166,7 +166,7 @@ build-first set t zeros roomy at here =
 
 -- a rule more
 pub build-next : (set : RuleSet) → (words i n at : ℕ) (t : List ℕ) → Building set words i n at t → i < length (set .rules)
-    → (w : Walked) (t′ : List ℕ) → Followed-rule set i w t′ → 8 * w .nodes ≤ length t′
+    → (w : Walked) (t′ : List ℕ) → FollowedRule set i w t′ → 8 * w .nodes ≤ length t′
     → (t″ : List ℕ) → t″ ≡ marked t′ (w .node) i → length t″ ≡ words
     → (n′ : ℕ) → n′ ≡ length (body (rule (set .rules) i)) → Building set words (suc i) (w .nodes) (at + n′) t″
 build-next set words i n at t b lt w t′ f room t″ e size″ n′ long =
@@ -180,7 +180,7 @@ build-next set words i n at t b lt w t′ f room t″ e size″ n′ long =
 
 -- the states of a rule more still fit
 pub followed-room : (set : RuleSet) → inRange set ≡ true → (words : ℕ) → Roomy set words → (i : ℕ) → i < length (set .rules)
-    → (w : Walked) (t : List ℕ) → Followed-rule set i w t → (8 * w .nodes ≤ words) × (i < 64) × (8 * w .node + 7 < words)
+    → (w : Walked) (t : List ℕ) → FollowedRule set i w t → (8 * w .nodes ≤ words) × (i < 64) × (8 * w .node + 7 < words)
 followed-room set e words roomy i lt w t f =
     let rest = symbols-next (set .rules) i lt in
     let few : w .nodes ≤ 1 + length (flatMap (λ r. r .left) (set .rules)) =

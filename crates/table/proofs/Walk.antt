@@ -22,7 +22,7 @@ use Rattle.image.proofs.Image.{valid-in-range}
 use Rattle.image.proofs.Places.{left-within, left-symbol, body-left}
 use Rattle.table.specs.declared.trie.Walked.{Walked}
 use Rattle.table.specs.States.{isPrefix, prefixes, known, numbered, states}
-use Rattle.table.specs.Nodes.{depth, children, Linked, Trie, Owned, Followed, Grown, Followed-rule, Roomy}
+use Rattle.table.specs.Nodes.{depth, children, Linked, Trie, Owned, Followed, Grown, FollowedRule, Roomy}
 use Rattle.table.proofs.Matching.{lowest-no-prefix}
 use Rattle.table.proofs.States.{known-numbered, known-states, length-numbered, length-prefixes, few-prefixes}
 use Rattle.table.proofs.Tally.{tally-most}
@@ -265,7 +265,7 @@ module _ (set : RuleSet) (i words : ℕ) where
 
   -- the end
   pub walk-last : i < length (set .rules) → (j q n : ℕ) (t : List ℕ) → Walking j q n t → length (rule (set .rules) i .left) ≤ j
-      → Followed-rule set i (record { node = q; nodes = n }) t
+      → FollowedRule set i (record { node = q; nodes = n }) t
   walk-last lt j q n t w far =
       record {
         trie = rw whole (w .trie);

@@ -134,7 +134,7 @@ pub record Grown (set : RuleSet) (i : ℕ) (t : List ℕ) : Type 0 where
   pub owned : Owned (take i (set .rules)) (states (take i (set .rules))) t
 
 -- The left side of rule i was followed from the root: each of its prefixes has a node, and it ends in the node w says.
-pub record Followed-rule (set : RuleSet) (i : ℕ) (w : Walked) (t : List ℕ) : Type 0 where
+pub record FollowedRule (set : RuleSet) (i : ℕ) (w : Walked) (t : List ℕ) : Type 0 where
   pub trie : Trie (states (take (suc i) (set .rules))) (set .symbols) t
   pub owned : Owned (take i (set .rules)) (states (take (suc i) (set .rules))) t
   pub nodes : w .nodes ≡ length (states (take (suc i) (set .rules)))

@@ -11,7 +11,7 @@ use Rattle.rewriting.specs.Occurrences.{lowest}
 use Rattle.table.specs.States.{next, matching, known, states, number}
 use Rattle.table.specs.Table.{matchWord, row}
 use Rattle.table.specs.Words.{text, transition, ownOr}
-use Rattle.table.specs.Nodes.{matched, failure, Trie, Owned, RightFailure}
+use Rattle.table.specs.Nodes.{matched, failure, Trie, RightFailure}
 
 -- the child of state v by symbol a, 0 where it has none
 unfoldable pub childNumber : List (List ℕ) → List ℕ → ℕ → ℕ
@@ -63,14 +63,7 @@ FillingAt set d q t rows = Filling set (reached (states (set .rules)) d q) t row
 abbrev pub Matched : RuleSet → List ℕ → Type 0
 Matched set t = (c : ℕ) → c < length (states (set .rules)) → matched t c ≡ matchWord (matching (set .rules) (text (set .rules) c))
 
--- what is there before the rows are filled: the trie of n states with their own match words, and room for the rows
-pub record Fillable (set : RuleSet) (t : List ℕ) (n : ℕ) (rows : List ℕ) : Type 0 where
-  pub trie : Trie (states (set .rules)) (set .symbols) t
-  pub owned : Owned (set .rules) (states (set .rules)) t
-  pub count : n ≡ length (states (set .rules))
-  pub size : length rows ≡ length (states (set .rules)) * set .symbols
-
--- and what is there then: the rows of the table, and its match words in the nodes
+-- what is there when the rows are filled: the rows of the table, and its match words in the nodes
 pub record Filled (set : RuleSet) (t t′ rows : List ℕ) : Type 0 where
   pub size : length t′ ≡ length t
   pub table : rows ≡ flatMap (row set) (states (set .rules))

@@ -7,9 +7,8 @@ ghost use lib.ListN.{length, getD};
 ghost use Rattle.image.specs.Image.{read, valid};
 ghost use Rattle.image.specs.Check.{Decides};
 ghost use Rattle.rewriting.specs.Lists.{prefix};
-ghost use Rattle.table.specs.States.{states};
 ghost use Rattle.table.specs.Table.{tableOf};
-ghost use Rattle.table.specs.Nodes.{parent, symbol, matched, failure, Trie, Owned};
+ghost use Rattle.table.specs.Nodes.{parent, symbol, matched, failure, Built};
 ghost use Rattle.table.specs.Words.{transition, ownOr};
 ghost use Rattle.table.specs.Consistent.{differing, leaving, Passes, RootPassed, RightTable};
 use crate::trie::failure_of;
@@ -119,9 +118,7 @@ fn state_holds(trie: &[u16], matches: &[u16], rows: &[u16], s: usize, q: usize) 
 // state is reached. Keeps each state's failure state in its node.
 fn states_hold(image: &[u8], trie: &mut [u16], n: usize, matches: &[u16], rows: &[u16]) -> bool
     requires { ⌜ valid (now image) ≡ true ⌝ }
-    requires { ⌜ Trie (states (read (now image) .rules)) (read (now image) .symbols) (now trie) ⌝ }
-    requires { ⌜ Owned (read (now image) .rules) (states (read (now image) .rules)) (now trie) ⌝ }
-    requires { ⌜ n ≡ length (states (read (now image) .rules)) ⌝ }
+    requires { ⌜ Built (read (now image)) n (now trie) ⌝ }
     requires { ⌜ (n ≡ length (now matches)) × (n * read (now image) .symbols ≡ length (now rows)) ⌝ }
     ensures { λ r. ⌜ Decides r
         (RightTable (read (now (image .entry)) .rules) (read (now (image .entry)) .symbols) (now (matches .entry)) (now (rows .entry))) ⌝ }
@@ -147,9 +144,7 @@ fn states_hold(image: &[u8], trie: &mut [u16], n: usize, matches: &[u16], rows: 
 // state's tests. Keeps each state's failure state in its node of the trie.
 pub fn holds(image: &[u8], trie: &mut [u16], n: usize, table: &[u16]) -> bool
     requires { ⌜ valid (now image) ≡ true ⌝ }
-    requires { ⌜ Trie (states (read (now image) .rules)) (read (now image) .symbols) (now trie) ⌝ }
-    requires { ⌜ Owned (read (now image) .rules) (states (read (now image) .rules)) (now trie) ⌝ }
-    requires { ⌜ n ≡ length (states (read (now image) .rules)) ⌝ }
+    requires { ⌜ Built (read (now image)) n (now trie) ⌝ }
     ensures { λ r. ⌜ r ≡ prefix (tableOf (read (now (image .entry)))) (now (table .entry)) ⌝ }
 {
     let s = image::symbols(image);

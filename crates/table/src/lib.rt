@@ -1,5 +1,4 @@
 // The matching table: compile, and the check that a lent table is the one that compile gives.
-ghost use Prim.Native.Nat.{ℕ};
 ghost use mathlib.Core.Path.{_≡_};
 ghost use mathlib.Core.Bool.{true};
 ghost use lib.ListN.{length, replicate};

@@ -8,8 +8,8 @@ ghost use Rattle.image.specs.Image.{read, valid};
 ghost use Rattle.table.specs.States.{states, matching};
 ghost use Rattle.table.specs.Table.{matchWord};
 ghost use Rattle.table.specs.Words.{ownOr};
-ghost use Rattle.table.specs.Nodes.{depth, Trie};
-ghost use Rattle.table.specs.Rows.{Laid, Merged, Noted, FillingAt, Matched, Fillable, Filled};
+ghost use Rattle.table.specs.Nodes.{depth, Trie, Built};
+ghost use Rattle.table.specs.Rows.{Laid, Merged, Noted, FillingAt, Matched, Filled};
 use crate::trie::failure_of;
 use crate::trie::wide;
 
@@ -101,7 +101,8 @@ fn fill_depth(image: &[u8], trie: &mut [u16], rows: &mut [u16], n: usize, d: u16
 // The rows of the table, and its match words in the nodes: short states before long, as a failure state is shorter.
 pub fn fill(image: &[u8], trie: &mut [u16], n: usize, rows: &mut [u16])
     requires { ⌜ valid (now image) ≡ true ⌝ }
-    requires fillable { ⌜ Fillable (read (now image)) (now trie) n (now rows) ⌝ }
+    requires trie { ⌜ Built (read (now image)) n (now trie) ⌝ }
+    requires room { ⌜ length (now rows) ≡ length (states (read (now image) .rules)) * read (now image) .symbols ⌝ }
     ensures { λ _. ⌜ Filled (read (now (image .entry))) (now (trie .entry)) (now (trie .exit)) (now (rows .exit)) ⌝ }
 {
     clear(rows);

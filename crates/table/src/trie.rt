@@ -1,14 +1,13 @@
 // The trie of the left sides, one node of eight words for each state. specs/Nodes.antt has the layout.
-ghost use Prim.Native.Nat.{_+_, _*_, _≤_, _<_};
+ghost use Prim.Native.Nat.{_+_, _*_, _<_};
 ghost use mathlib.Core.Path.{_≡_};
 ghost use mathlib.Core.Bool.{true};
 ghost use lib.ListN.{length, take, replicate};
-ghost use Rattle.rewriting.specs.Rules.{rule};
 ghost use Rattle.image.specs.Image.{read, valid};
 ghost use Rattle.image.specs.Places.{leftAt};
 ghost use Rattle.table.specs.States.{states};
 ghost use Rattle.table.specs.Nodes.{parent, symbol, depth, children, failure, failureBy};
-ghost use Rattle.table.specs.Nodes.{Linked, ChildOr, added, Followed, marked, Grown, «Followed-rule», Roomy, Built};
+ghost use Rattle.table.specs.Nodes.{Linked, ChildOr, added, Followed, marked, Grown, FollowedRule, Roomy, Built};
 
 // Where a walk has come to, and the number of nodes.
 pub struct Walked {
@@ -116,7 +115,7 @@ fn walk(image: &[u8], i: usize, at: usize, trie: &mut [u16], n: usize) -> Walked
     requires rule { ⌜ (i < length (read (now image) .rules)) × (at ≡ leftAt (read (now image)) i) ⌝ }
     requires trie { ⌜ (Grown (read (now image)) i (now trie)) × (Roomy (read (now image)) (length (now trie))) ⌝ }
     requires nodes { ⌜ n ≡ length (states (take i (read (now image) .rules))) ⌝ }
-    ensures { λ r. ⌜ («Followed-rule» (read (now (image .entry))) i r (now (trie .exit))) × (length (now (trie .exit)) ≡ length (now (trie .entry))) ⌝ }
+    ensures { λ r. ⌜ (FollowedRule (read (now (image .entry))) i r (now (trie .exit))) × (length (now (trie .exit)) ≡ length (now (trie .entry))) ⌝ }
 {
     let long = image::left_length(image, i);
     let mut q = 0;

@@ -1,6 +1,6 @@
 -- `ffi::watcher_compile` meets its contract, by the answer of compile.
 -- Assumes nothing.
-use mathlib.Core.Path.{refl, sym, _∙_}
+use mathlib.Core.Path.{sym, _∙_}
 use Rattle.table.specs.Compile.{refusedBy, wordCount}
 use Rattle.ffi.specs.Numbers.{refusalNumber, compiledNumber}
 use borrow.Author.Needs.{needs}

@@ -52,9 +52,8 @@ part-fill-end c = search needs
 fill-requires : tie.Need-fill-requires
 fill-requires c κs =
     let start = c .before .before .before .before .before .before in
-    let trie = start .pre .1 .0 in
     let size = rows-room (read (start .args .image .now)) (start .args .table .now) (start .pre .1 .0 .nodes) (c .before .before .symbols .ensures) (start .pre .1 .1) in
-    (start .pre .0, record { trie = trie .trie; owned = trie .owned; count = trie .nodes; size = size })
+    (start .pre .0, (start .pre .1 .0, size))
 
 sub-write-matches : tie.Need-sub-write-matches
 sub-write-matches c = search needs

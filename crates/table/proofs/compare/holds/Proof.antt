@@ -15,7 +15,7 @@ small : (c : tie.After-symbols)
     → 2 + c .before .before .before .before .args .n + (c .before .before .before .before .args .n) * (c .symbols .result) ≤ 16931
 small c =
     let start = c .before .before .before .before in
-    table-small (read (start .args .image .now)) (start .args .table .now) (start .pre .1 .1 .1) (c .symbols .ensures)
+    table-small (read (start .args .image .now)) (start .args .table .now) (start .pre .1 .nodes) (c .symbols .ensures)
     (valid-in-range (start .args .image .now) (start .pre .0))
 
 symbols-requires : tie.Need-symbols-requires
@@ -33,7 +33,7 @@ add-end c = omega (arith, small c)
 returns : tie.Need-returns
 returns c =
     let start = c .before .before .before .before .before in
-    short-table (read (start .args .image .now)) (start .args .table .now) (start .pre .1 .1 .1) (c .before .symbols .ensures) (c .if1 .taken)
+    short-table (read (start .args .image .now)) (start .args .table .now) (start .pre .1 .nodes) (c .before .symbols .ensures) (c .if1 .taken)
 
 shared-slice-read-wide : tie.Need-shared-slice-read-wide
 shared-slice-read-wide c = search needs
@@ -45,7 +45,7 @@ returns-2 : tie.Need-returns-2
 returns-2 c =
     let sized = c .before .before .before in
     let start = sized .before .before .before .before .before in
-    other-states (read (start .args .image .now)) (start .args .table .now) (start .pre .1 .1 .1) (sized .before .symbols .ensures)
+    other-states (read (start .args .image .now)) (start .args .table .now) (start .pre .1 .nodes) (sized .before .symbols .ensures)
     (λ e. c .if2 .taken (c .before .wide .ensures ∙ e))
 
 shared-slice-read-wide-2 : tie.Need-shared-slice-read-wide-2
@@ -58,7 +58,7 @@ returns-3 : tie.Need-returns-3
 returns-3 c =
     let sized = c .before .before .before .before .before .before in
     let start = sized .before .before .before .before .before in
-    other-symbols (read (start .args .image .now)) (start .args .table .now) (start .pre .1 .1 .1) (sized .before .symbols .ensures)
+    other-symbols (read (start .args .image .now)) (start .args .table .now) (start .pre .1 .nodes) (sized .before .symbols .ensures)
     (λ e. c .if3 .taken (c .before .wide2 .ensures ∙ e))
 
 sub-states-hold : tie.Need-sub-states-hold
@@ -87,9 +87,9 @@ states-hold-requires c κs =
     let sized = c .before .before .before .before .before .before .before .before .before in
     let start = sized .before .before .before .before .before in
     let parts =
-    part-lengths (read (start .args .image .now)) (start .args .table .now) (start .pre .1 .1 .1) (sized .before .symbols .ensures) (sized .if1 .left)
+    part-lengths (read (start .args .image .now)) (start .args .table .now) (start .pre .1 .nodes) (sized .before .symbols .ensures) (sized .if1 .left)
     in
-    (start .pre .0, (start .pre .1 .0, (start .pre .1 .1 .0, (start .pre .1 .1 .1, parts))))
+    (start .pre .0, (start .pre .1, parts))
 
 same-length : tie.Need-same-length
 same-length c = search needs
@@ -100,7 +100,7 @@ returns-4 c =
     let second = third .before .before .before in
     let sized = second .before .before .before in
     let start = sized .before .before .before .before .before in
-    compared (read (start .args .image .now)) (start .args .table .now) (start .pre .1 .1 .1) (sized .before .symbols .ensures)
+    compared (read (start .args .image .now)) (start .args .table .now) (start .pre .1 .nodes) (sized .before .symbols .ensures)
     (valid-in-range (start .args .image .now) (start .pre .0)) (sized .if1 .left)
     (sym (second .before .wide .ensures) ∙ second .if2 .left) (sym (third .before .wide2 .ensures) ∙ third .if3 .left)
     (c .before .before .states-hold .result) (c .before .before .states-hold .ensures)

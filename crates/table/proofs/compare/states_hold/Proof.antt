@@ -31,8 +31,8 @@ root-holds-requires c κs =
     let start = c .before .before .before .before .before .before in
     let pre = start .pre in
     root-asks (read (start .args .image .now)) (start .args .matches .now) (start .args .rows .now)
-    (valid-in-range (start .args .image .now) (pre .0)) (pre .1 .1 .1 .0) (c .before .symbols .ensures) (pre .1 .0)
-    (pre .1 .1 .1 .1 .0) (pre .1 .1 .1 .1 .1)
+    (valid-in-range (start .args .image .now) (pre .0)) (pre .1 .0 .nodes) (c .before .symbols .ensures) (pre .1 .0 .trie)
+    (pre .1 .1 .0) (pre .1 .1 .1)
 
 same-length : tie.Need-same-length Inv-loop μ-loop
 same-length c = refl
@@ -42,7 +42,7 @@ returns c =
     let start = c .before .before .before .before .before .before .before .before in
     let pre = start .pre in
     wrong-root (read (start .args .image .now)) (start .args .matches .now) (start .args .rows .now)
-    (valid-in-range (start .args .image .now) (pre .0)) (pre .1 .1 .1 .0) (c .before .before .before .symbols .ensures) (pre .1 .0)
+    (valid-in-range (start .args .image .now) (pre .0)) (pre .1 .0 .nodes) (c .before .before .before .symbols .ensures) (pre .1 .0 .trie)
     (c .before .root-holds .result) (c .if1 .taken) (c .before .root-holds .ensures)
 
 loop-holds : tie.Need-loop-holds Inv-loop μ-loop
@@ -51,8 +51,8 @@ loop-holds c =
     let pre = start .pre in (
       refl,
       checking-root (read (start .args .image .now)) (start .args .matches .now) (start .args .rows .now)
-          (valid-in-range (start .args .image .now) (pre .0)) (pre .1 .1 .1 .0) (c .before .before .before .symbols .ensures)
-          (pre .1 .0) (pre .1 .1 .0) (pre .1 .1 .1 .1 .0) (pre .1 .1 .1 .1 .1)
+          (valid-in-range (start .args .image .now) (pre .0)) (pre .1 .0 .nodes) (c .before .before .before .symbols .ensures)
+          (pre .1 .0 .trie) (pre .1 .0 .owned) (pre .1 .1 .0) (pre .1 .1 .1)
           (c .before .root-holds .result) (c .if1 .left) (c .before .root-holds .ensures),
     )
 

@@ -28,11 +28,11 @@ lay-children-requires c κs =
     let symbols = read (start .args .image .now) .symbols in (
       start .pre .0,
       (
-        start .pre .1 .trie,
+        start .pre .1 .0 .trie,
         (
-          start .pre .1 .count,
+          start .pre .1 .0 .nodes,
           c .before .before .before .before .clear .ensures
-              ∙ ap (λ (k : ℕ). replicate k 0) (start .pre .1 .size ∙ ap (λ (k : ℕ). k * symbols) (sym (start .pre .1 .count))),
+              ∙ ap (λ (k : ℕ). replicate k 0) (start .pre .1 .1 ∙ ap (λ (k : ℕ). k * symbols) (sym (start .pre .1 .0 .nodes))),
         ),
       ),
     )
@@ -43,14 +43,14 @@ loop-holds c =
       omega arith,
       refl,
       filling-start (read (start .args .image .now)) (start .args .trie .now) (c .before .before .lay-children .last .1 .1 .1 .0)
-          (valid-in-range (start .args .image .now) (start .pre .0)) (start .pre .1 .trie) (start .pre .1 .owned)
+          (valid-in-range (start .args .image .now) (start .pre .0)) (start .pre .1 .0 .trie) (start .pre .1 .0 .owned)
           (c .before .before .lay-children .ensures),
     )
 
 fill-depth-requires : tie.Need-fill-depth-requires Inv-loop μ-loop
 fill-depth-requires c κs =
     let start = c .before .before .before .before .before .before .before .before .before .before .before .before .before .before .before .before in
-    (start .pre .0, (start .pre .1 .count, c .before .before .before .loop .inv .2))
+    (start .pre .0, (start .pre .1 .0 .nodes, c .before .before .before .loop .inv .2))
 
 add-d : tie.Need-add-d Inv-loop μ-loop
 add-d c = omega arith
@@ -68,7 +68,7 @@ same-length : tie.Need-same-length Inv-loop μ-loop
 same-length c = c .before .loop .inv .1
 
 same-length-2 : tie.Need-same-length-2 Inv-loop μ-loop
-same-length-2 c = c .before .loop .inv .2 .size ∙ sym (c .before .before .before .before .before .before .before .before .before .before .before .before .before .before .pre .1 .size)
+same-length-2 c = c .before .loop .inv .2 .size ∙ sym (c .before .before .before .before .before .before .before .before .before .before .before .before .before .before .pre .1 .1)
 
 returns : tie.Need-returns Inv-loop μ-loop
 returns c =
