@@ -148,6 +148,9 @@ pub fn is_valid(image: &[u8]) -> bool
     false
 }
 
+// What follows looks into an image that is_valid has passed, and asks its callers for that: the check costs more than a
+// look, and is made once.
+
 // S, the number of symbols.
 pub fn symbols(image: &[u8]) -> usize
     requires { ⌜ valid (now image) ≡ true ⌝ }

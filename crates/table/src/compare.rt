@@ -1,5 +1,6 @@
 // The check of a lent table, in place: each state against its parent, its failure state and its node of the trie. It
 // holds exactly where the table is the one that compile writes (specs/Consistent.antt has the tests).
+// The module is private: what its functions ask, check has shown.
 ghost use Prim.Native.Nat.{_+_, _*_, _≤_, _<_};
 ghost use mathlib.Core.Path.{_≡_};
 ghost use mathlib.Core.Bool.{true};

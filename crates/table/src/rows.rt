@@ -1,4 +1,5 @@
 // The rows and match words of the table, filled from the trie. specs/Rows.antt says what stands in them on the way.
+// The module is private: what its functions ask, compile has shown.
 ghost use Prim.Native.Nat.{_+_, _*_, _≤_, _<_};
 ghost use mathlib.Core.Path.{_≡_};
 ghost use mathlib.Core.Bool.{true};

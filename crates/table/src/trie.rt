@@ -1,4 +1,5 @@
 // The trie of the left sides, one node of eight words for each state. specs/Nodes.antt has the layout.
+// The module is private: what its functions ask, compile and check have shown.
 ghost use Prim.Native.Nat.{_+_, _*_, _<_};
 ghost use mathlib.Core.Path.{_≡_};
 ghost use mathlib.Core.Bool.{true};
