@@ -2,6 +2,7 @@
 ghost use mathlib.Core.Path.{_≡_};
 ghost use mathlib.Core.Bool.{true};
 ghost use lib.ListN.{length, replicate};
+ghost use Rattle.rewriting.specs.Lists.{prefix};
 ghost use Rattle.image.specs.Image.{read, valid};
 ghost use Rattle.table.specs.Table.{tableOf};
 ghost use Rattle.table.specs.Compile.{compileOf};
@@ -73,17 +74,27 @@ pub fn compile(image: &[u8], table: &mut [u16]) -> Compiled
     Compiled::Refused(7)
 }
 
-// The check behind refusal 9 for a valid image, with words for the trie.
-fn check_with(image: &[u8], nodes: &mut [u16], table: &[u16]) -> Checked
+// Whether the table begins with that of a valid image, with words for the trie.
+fn begins_by(image: &[u8], nodes: &mut [u16], table: &[u16]) -> bool
     requires image { ⌜ valid (now image) ≡ true ⌝ }
     requires words { ⌜ (now nodes ≡ replicate (length (now nodes)) 0) × (Roomy (read (now image)) (length (now nodes))) ⌝ }
-    ensures { λ r. ⌜ r ≡ checkOf (now (image .entry)) (now (table .entry)) ⌝ }
+    ensures { λ r. ⌜ r ≡ prefix (tableOf (read (now (image .entry)))) (now (table .entry)) ⌝ }
 {
     let n = trie::build(image, nodes);
-    if compare::holds(image, nodes, n, table) {
-        return Checked::Passed;
+    compare::holds(image, nodes, n, table)
+}
+
+// The same, with an array of the rule set's size.
+fn begins_with_table(image: &[u8], table: &[u16]) -> bool
+    requires { ⌜ valid (now image) ≡ true ⌝ }
+    ensures { λ r. ⌜ r ≡ prefix (tableOf (read (now (image .entry)))) (now (table .entry)) ⌝ }
+{
+    if image::bodies_length(image) < 64 {
+        let mut few = [0u16; 512];
+        return begins_by(image, &mut few, table);
     }
-    Checked::Refused(9)
+    let mut nodes = [0u16; 4104];
+    begins_by(image, &mut nodes, table)
 }
 
 // The check of a lent image and table: refusals 7 and 9.
@@ -91,12 +102,10 @@ pub fn check(image: &[u8], table: &[u16]) -> Checked
     ensures { λ r. ⌜ r ≡ checkOf (now (image .entry)) (now (table .entry)) ⌝ }
 {
     if image::is_valid(image) {
-        if image::bodies_length(image) < 64 {
-            let mut few = [0u16; 512];
-            return check_with(image, &mut few, table);
+        if begins_with_table(image, table) {
+            return Checked::Passed;
         }
-        let mut nodes = [0u16; 4104];
-        return check_with(image, &mut nodes, table);
+        return Checked::Refused(9);
     }
     Checked::Refused(7)
 }
