@@ -181,6 +181,46 @@ fn largest_table() {
     }
 }
 
+/// Rule sets with every number of symbols in their bodies up to 200, in left sides alone (each symbol a new state) and with
+/// right sides.
+#[test]
+fn bodies_of_every_length() {
+    for total in 0..=200u8 {
+        let lefts: Vec<Vec<u8>> = (0..total.div_ceil(8))
+            .map(|rule| {
+                let length = (total - 8 * rule).min(8);
+                (0..length).map(|place| (rule + place) % 32).collect()
+            })
+            .collect();
+        for right in [
+            Right::Verdict(1),
+            Right::Symbols(vec![0]),
+            Right::Symbols(vec![31; 8]),
+        ] {
+            let case = Case::new(RuleSet {
+                symbols: 32,
+                events: 32,
+                verdicts: 2,
+                rules: lefts
+                    .iter()
+                    .map(|left| Rule {
+                        left: left.clone(),
+                        right: right.clone(),
+                    })
+                    .collect(),
+            });
+            assert_eq!(case.states(), 1 + usize::from(total));
+            case.compile_into(case.table.len());
+            case.compile_into(case.table.len() - 1);
+            assert!(case.check(&case.table));
+            let mut other = case.table.clone();
+            let last = other.len() - 1;
+            other[last] ^= 1;
+            assert!(!case.check(&other));
+        }
+    }
+}
+
 /// Areas of every length up to some words more than needed.
 #[test]
 fn areas_of_every_length() {
