@@ -1,2 +1,3 @@
--- The numbers that stand for answers in the C interface.
+-- The numbers that stand for answers, and for a head, in the C interface.
 pub mod Numbers
+pub mod Heads

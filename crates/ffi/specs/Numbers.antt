@@ -1,14 +1,10 @@
 -- Answers as numbers: 0, or the number that document 01 gives the refusal.
 use Prim.Native.Nat.{ℕ}
-use mathlib.Core.Option.{Option, none, some}
+use Rattle.image.specs.Refusals.{refusalNumber}
 use Rattle.table.specs.declared.Compiled.{Compiled}
 use Rattle.table.specs.declared.Checked.{Checked}
 use Rattle.table.specs.Compile as Compile
 use Rattle.table.specs.Check as Check
-
-unfoldable pub refusalNumber : Option ℕ → ℕ
-refusalNumber none = 0
-refusalNumber (some n) = n
 
 unfoldable pub compiledNumber : Compiled → ℕ
 compiledNumber c = refusalNumber (Compile.refusedBy c)

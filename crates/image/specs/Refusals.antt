@@ -12,3 +12,8 @@ Check = Bool × ℕ
 unfoldable pub refusal : List Check → Option ℕ
 refusal [] = none
 refusal (c ∷ checks) = cond (c .0) (refusal checks) (some (c .1))
+
+-- a refusal as a number: 0 where there is none
+unfoldable pub refusalNumber : Option ℕ → ℕ
+refusalNumber none = 0
+refusalNumber (some n) = n

@@ -114,7 +114,7 @@ fn contents_in_range(image: &[u8], rules: usize) -> bool
 }
 
 // Whether each symbol is below s. The largest is kept and tested once: a loop with no other way out becomes vector code.
-fn all_below(symbols: &[u8], s: u8) -> bool
+pub fn all_below(symbols: &[u8], s: u8) -> bool
     requires { ⌜ 1 ≤ s ⌝ }
     ensures { λ r. ⌜ r ≡ below s (now (symbols .entry)) ⌝ }
 {

@@ -55,7 +55,7 @@ length-states-after rules q [] = refl
 length-states-after rules q (a ∷ s) = ap suc (length-states-after rules (next rules q a) s)
 
 -- the state after each settled symbol is the state of the string up to it
-states-after : (rules : List Rule) (p s : List ℕ) (i : ℕ) → i < length s
+pub states-after : (rules : List Rule) (p s : List ℕ) (i : ℕ) → i < length s
     → getD (statesAfter rules (state rules p) s) i [] ≡ state rules (p ++ take (suc i) s)
 unfolding statesAfter
 states-after rules p [] i h = absurd (not-suc-le-zero h)

@@ -50,13 +50,13 @@ pub more-nil : (s : State) → more s [] ≡ s
 unfolding more
 more-nil s = λ i. record { settled = s .settled; waiting = append-nil (s .waiting) i; verdict = s .verdict; rule = s .rule }
 
-offered-more : (s : State) (c : Call) → offered s c ≡ more s (eventsOf none c)
+pub offered-more : (s : State) (c : Call) → offered s c ≡ more s (eventsOf none c)
 unfolding offered eventsOf more
 offered-more s (Offer event fuel) = refl
 offered-more s (GoOn fuel) = sym (more-nil s)
 
 -- an accepted event is a symbol, and there is room for it
-accepted-event : (set : RuleSet) → Ranges set → (capacity : ℕ) (s : State) (c : Call)
+pub accepted-event : (set : RuleSet) → Ranges set → (capacity : ℕ) (s : State) (c : Call)
     → refusal (callChecks set capacity (headOf s) c) ≡ none → fits capacity s ≡ true
     → (fits capacity (offered s c) ≡ true) × (below (set .symbols) (eventsOf none c) ≡ true)
 unfolding callChecks fuelCheck verdictCheck offered eventsOf fits headOf

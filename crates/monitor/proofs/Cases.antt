@@ -13,11 +13,11 @@ use Rattle.table.specs.Table.{matchWord, row, tableOf}
 use Rattle.table.specs.Compile.{over}
 use Rattle.monitor.specs.State.{empty, active, replace, settle, step}
 use Rattle.monitor.specs.Run.{noCounts, plus, countsOf, ended, counted, fits, proceed, tests, run}
-use Rattle.monitor.specs.Areas.{headOf, areaOf, bytesOf, statesAfter, wordsOf, monitorOf, stateOf, noMatch, unmatched, closesWith, standsBy, holds, described}
+use Rattle.monitor.specs.Areas.{documentCapacity, headOf, areaOf, bytesOf, statesAfter, wordsOf, monitorOf, stateOf, noMatch, unmatched, closesWith, standsBy, holds, described}
 use Rattle.monitor.specs.Calls.{sized, freshened, freshOf, fuelOf, lentChecks, isNone, fuelCheck, verdictCheck, callChecks, offered, outcome, decided, callOf, offerOf, refusedBy, answerNumber}
 use Rattle.monitor.specs.Batch.{stopped, andThen, offers, batchChecks, batched, batchOf}
 use Rattle.monitor.specs.Play.{stringOf, noCalls, eventsOf, logged, play}
-use Rattle.monitor.specs.Cases.{Case, fresh, foundIn, find, worked, abcd, cases, documentCapacity}
+use Rattle.monitor.specs.Cases.{Case, fresh, foundIn, find, worked, abcd, cases}
 use Rattle.monitor.specs.Edges.{day, growing, tripling, edges, holding, closedAndFull, Answering, answering, onSample, undescribed, monitors, tiny, inOrder, BatchCase, findBatch, batch, batches, manyEvents}
 
 -- every definition that a computed case goes through

@@ -18,7 +18,8 @@ use Rattle.image.proofs.Computed.{sample-valid, longer-refused}
 use Rattle.table.specs.Table.{tableOf}
 use Rattle.monitor.specs.Calls.{Call, sized, freshened, freshOf}
 use Rattle.monitor.specs.Promise.{Kept, AllRefused}
-use Rattle.monitor.specs.Cases.{documentCapacity, fresh}
+use Rattle.monitor.specs.Areas.{documentCapacity}
+use Rattle.monitor.specs.Cases.{fresh}
 use Rattle.monitor.proofs.ListTheorem.{list-theorem}
 
 abbrev area : List ℕ

@@ -78,7 +78,7 @@ unfolding replace symbolsOf
 replace-counts set s q i (Put v) h = (refl, length-right set (Put v) h)
 replace-counts set s q i (Close v) h = (refl, omega arith)
 
-step-counts : (set : RuleSet) → Ranges set → (s : List ℕ) (a : ℕ) (q : List ℕ)
+pub step-counts : (set : RuleSet) → Ranges set → (s : List ℕ) (a : ℕ) (q : List ℕ)
     → (step (set .rules) s a q .rewrites ≤ 1) × (step (set .rules) s a q .put ≤ 8 * step (set .rules) s a q .rewrites)
 unfolding step settle
 step-counts set ranges s a q = rw matching-next (go (ending (set .rules) (s ++ a ∷ [])) refl)

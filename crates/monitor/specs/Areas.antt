@@ -12,6 +12,10 @@ use Rattle.monitor.specs.declared.Standing.{Standing}
 use Rattle.monitor.specs.declared.Head.{Head}
 use Rattle.monitor.specs.State.{State}
 
+-- document 01's capacity
+abbrev pub documentCapacity : ℕ
+documentCapacity = 2048
+
 -- "Its head is a value .. Its areas are 2,048 bytes and 2,048 words."
 pub record Monitor : Type 0 where
   pub head : Head

@@ -10,13 +10,9 @@ use Rattle.table.specs.Table.{tableOf}
 use Rattle.monitor.specs.declared.Standing.{Standing}
 use Rattle.monitor.specs.declared.Answer.{Answer}
 use Rattle.monitor.specs.declared.Counts.{Counts}
-use Rattle.monitor.specs.Areas.{Monitor}
+use Rattle.monitor.specs.Areas.{documentCapacity, Monitor}
 use Rattle.monitor.specs.Calls.{Call, Offer, freshOf}
 use Rattle.monitor.specs.Play.{Log, noCalls, play, stringOf}
-
--- document 01's capacity
-abbrev pub documentCapacity : ℕ
-documentCapacity = 2048
 
 -- what fresh makes of areas that held something else
 unfoldable pub fresh : Monitor

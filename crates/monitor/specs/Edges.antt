@@ -12,11 +12,11 @@ use Rattle.table.specs.Table.{tableOf}
 use Rattle.monitor.specs.declared.Standing.{Standing}
 use Rattle.monitor.specs.declared.Answer.{Answer}
 use Rattle.monitor.specs.declared.Counts.{Counts}
-use Rattle.monitor.specs.Areas.{Monitor, areaOf}
+use Rattle.monitor.specs.Areas.{documentCapacity, Monitor, areaOf}
 use Rattle.monitor.specs.Calls.{Call, Offer, GoOn}
 use Rattle.monitor.specs.Batch.{Batched, batchChecks, batchOf}
 use Rattle.monitor.specs.Play.{stringOf}
-use Rattle.monitor.specs.Cases.{documentCapacity, fresh, Case, worked, abcd}
+use Rattle.monitor.specs.Cases.{fresh, Case, worked, abcd}
 
 -- a → a a
 unfoldable pub growing : RuleSet

@@ -5,6 +5,7 @@ pub mod Run
 pub mod Areas
 pub mod Calls
 pub mod Batch
+pub mod Lent
 pub mod Play
 pub mod Promise
 pub mod Cases

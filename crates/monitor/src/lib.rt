@@ -1,5 +1,24 @@
-// The monitor: the values that it works on. Its operations are defined in specs/, and the promise about every list of
-// calls is proved of them in proofs/.
+// The monitor: fresh, offer, go on and batch. Each is what specs/ defines, for everything that may be lent to it; the
+// promise about every list of calls is proved of those definitions in proofs/ListTheorem.antt.
+ghost use mathlib.Core.Path.{_≡_};
+ghost use Rattle.image.specs.Refusals.{refusal, refusalNumber};
+ghost use Rattle.monitor.specs.declared.Answer.{Answer};
+ghost use Rattle.monitor.specs.declared.Refusal.{Refusal};
+ghost use Rattle.monitor.specs.State as State;
+ghost use Rattle.monitor.specs.Areas.{documentCapacity, headOf};
+ghost use Rattle.monitor.specs.Run.{noCounts};
+ghost use Rattle.monitor.specs.Calls.{freshOf, lentChecks, offerOf, goOnOf};
+ghost use Rattle.monitor.specs.Batch.{batchOf};
+ghost use Rattle.monitor.specs.Lent.{lent, freshFrom, outcomeFrom, batchFrom};
+use table::Checked;
+
+mod check;
+mod checked;
+mod held;
+mod steps;
+
+// Document 01's 2,048: the number of bytes and of words.
+const CAPACITY: usize = 2048;
 
 // Whether a verdict stands, and which.
 pub enum Standing {
@@ -29,4 +48,209 @@ pub struct Counts {
     pub steps: u64,
     pub rewrites: u64,
     pub put: u64,
+}
+
+// Whether an operation was refused, and document 01's number for it.
+pub enum Refusal {
+    None,
+    Number(u32),
+}
+
+// What fresh gives back.
+pub struct Begun {
+    pub head: Head,
+    pub refusal: Refusal,
+}
+
+// What offer and go on give back: the new head beside the answer.
+pub struct Called {
+    pub head: Head,
+    pub answer: Answer,
+    pub counts: Counts,
+}
+
+// What batch gives back. The stop is 0, or the refusal of the first offer that was refused.
+pub struct BatchCalled {
+    pub head: Head,
+    pub refusal: Refusal,
+    pub stop: u32,
+    pub accepted: usize,
+    pub counts: Counts,
+}
+
+// A step that was tried: whether it was taken, the head after it, its rewrites (0 or 1) and the symbols that it put back.
+pub struct Stepped {
+    pub head: Head,
+    pub taken: bool,
+    pub rewrites: u64,
+    pub put: u64,
+}
+
+// The head of a monitor that holds nothing.
+fn empty() -> Head
+    ensures { λ r. ⌜ r ≡ headOf State.empty ⌝ }
+{
+    Head {
+        settled: 0,
+        waiting: 0,
+        verdict: Standing::None,
+        rule: 0,
+    }
+}
+
+// Sets both areas to 0.
+pub fn fresh(bytes: &mut [u8], words: &mut [u16]) -> Begun
+    ensures { λ r. ⌜ freshFrom r (now (bytes .exit)) (now (words .exit))
+        ≡ freshOf documentCapacity (now (bytes .entry)) (now (words .entry)) ⌝ }
+{
+    if bytes.len() != CAPACITY {
+        return Begun {
+            head: empty(),
+            refusal: Refusal::Number(10),
+        };
+    }
+    if words.len() != CAPACITY {
+        return Begun {
+            head: empty(),
+            refusal: Refusal::Number(10),
+        };
+    }
+    held::clear_bytes(bytes, 0, CAPACITY);
+    held::clear_words(words, 0, CAPACITY);
+    Begun {
+        head: empty(),
+        refusal: Refusal::None,
+    }
+}
+
+impl Head {
+    // A refusal: the head as given, and no counts.
+    fn refused(self, n: u32) -> Called
+        ensures { λ r. ⌜ r ≡ record { head = self; answer = Answer.Refused n; counts = noCounts } ⌝ }
+    {
+        Called {
+            head: self,
+            answer: Answer::Refused(n),
+            counts: Counts {
+                steps: 0,
+                rewrites: 0,
+                put: 0,
+            },
+        }
+    }
+
+    // A refusal of a batch.
+    fn batch_refused(self, n: u32) -> BatchCalled
+        ensures { λ r. ⌜ r ≡ record { head = self; refusal = Refusal.Number n; stop = 0; accepted = 0; counts = noCounts } ⌝ }
+    {
+        BatchCalled {
+            head: self,
+            refusal: Refusal::Number(n),
+            stop: 0,
+            accepted: 0,
+            counts: Counts {
+                steps: 0,
+                rewrites: 0,
+                put: 0,
+            },
+        }
+    }
+
+    // What is lent calls for refusal 7, 9, 10 or 11; else 0.
+    fn refusal(self, image: &[u8], table: &[u16], bytes: &[u8], words: &[u16]) -> u32
+        ensures { λ r. ⌜ r ≡ refusalNumber (refusal (lentChecks documentCapacity (now (image .entry)) (now (table .entry))
+            (lent self (now (bytes .entry)) (now (words .entry))))) ⌝ }
+    {
+        match table::check(image, table) {
+            Checked::Refused(n) => n,
+            Checked::Passed => {
+                if bytes.len() != CAPACITY {
+                    return 10;
+                }
+                if words.len() != CAPACITY {
+                    return 10;
+                }
+                if check::as_described(self, image, table, bytes, words) {
+                    return 0;
+                }
+                11
+            }
+        }
+    }
+
+    // The event becomes the last waiting symbol, and the call runs.
+    pub fn offer(
+        self,
+        image: &[u8],
+        table: &[u16],
+        bytes: &mut [u8],
+        words: &mut [u16],
+        event: u8,
+        fuel: u32,
+    ) -> Called
+        ensures { λ r. ⌜ outcomeFrom r (now (bytes .exit)) (now (words .exit))
+            ≡ offerOf documentCapacity (now (image .entry)) (now (table .entry)) (lent self (now (bytes .entry)) (now (words .entry))) event fuel ⌝ }
+    {
+        let n = self.refusal(image, table, bytes, words);
+        if n != 0 {
+            return self.refused(n);
+        }
+        let mut starts = [0u16; 64];
+        held::index(image, &mut starts);
+        self.offer_checked(image, table, &starts, bytes, words, event, fuel)
+    }
+
+    // The call runs on.
+    pub fn go_on(
+        self,
+        image: &[u8],
+        table: &[u16],
+        bytes: &mut [u8],
+        words: &mut [u16],
+        fuel: u32,
+    ) -> Called
+        ensures { λ r. ⌜ outcomeFrom r (now (bytes .exit)) (now (words .exit))
+            ≡ goOnOf documentCapacity (now (image .entry)) (now (table .entry)) (lent self (now (bytes .entry)) (now (words .entry))) fuel ⌝ }
+    {
+        let n = self.refusal(image, table, bytes, words);
+        if n != 0 {
+            return self.refused(n);
+        }
+        let mut starts = [0u16; 64];
+        held::index(image, &mut starts);
+        self.go_on_checked(image, table, &starts, bytes, words, fuel)
+    }
+
+    // The offers of all events, up to the first that is refused, with the dear checks made once.
+    pub fn batch(
+        self,
+        image: &[u8],
+        table: &[u16],
+        bytes: &mut [u8],
+        words: &mut [u16],
+        events: &[u8],
+        fuel: u32,
+        answers: &mut [u8],
+    ) -> BatchCalled
+        ensures { λ r. ⌜ batchFrom r (now (bytes .exit)) (now (words .exit)) (now (answers .exit))
+            ≡ batchOf documentCapacity (now (image .entry)) (now (table .entry)) (lent self (now (bytes .entry)) (now (words .entry)))
+            (now (events .entry)) fuel (now (answers .entry)) ⌝ }
+    {
+        let n = self.refusal(image, table, bytes, words);
+        if n != 0 {
+            return self.batch_refused(n);
+        }
+        if 65535 < fuel {
+            return self.batch_refused(13);
+        }
+        if 65535 < events.len() {
+            return self.batch_refused(16);
+        }
+        if answers.len() < events.len() {
+            return self.batch_refused(16);
+        }
+        let mut starts = [0u16; 64];
+        held::index(image, &mut starts);
+        self.offers(image, table, &starts, bytes, words, events, fuel, answers)
+    }
 }

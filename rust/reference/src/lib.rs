@@ -1,21 +1,25 @@
 /*!
-Rule images and matching tables, computed naively.
+Rule images, matching tables, the plain rewriter and the monitor, computed naively.
 
 This is the model that the tests compare the library with. It follows the words of document 01 one
-by one: states are strings, a next state is found by trying every suffix, a match word by trying
-every rule. There is no trie and there are no failure states here, and nothing is shared with the
-library, so that a mistake in the one is not a mistake in the other.
+by one: states are strings, a next state is found by trying every suffix, a match by trying every
+rule. There is no trie and there are no failure states here, and nothing is shared with the library,
+so that a mistake in the one is not a mistake in the other.
 
 * [`RuleSet`] and [`Rule`]: the rules, as strings of symbols.
 * [`encode`], [`parse`]: rule sets to images and back.
 * [`table`], [`compile`], [`check_table`]: what the library's functions must give.
+* [`rewriter`]: the plain rewriter.
+* [`monitor`]: the monitor's operations.
 * [`random`]: a generator of pseudo-random numbers and of rule sets.
 */
 
 #![forbid(unsafe_code)]
 #![deny(missing_docs)]
 
+pub mod monitor;
 pub mod random;
+pub mod rewriter;
 
 /// A symbol: a number below the number of symbols.
 pub type Symbol = u8;
@@ -43,6 +47,22 @@ pub struct Rule {
     pub left: Vec<Symbol>,
     /// The right side.
     pub right: Right,
+}
+
+/// A rule with a string as its right side.
+pub fn string(left: &[Symbol], right: &[Symbol]) -> Rule {
+    Rule {
+        left: left.to_vec(),
+        right: Right::Symbols(right.to_vec()),
+    }
+}
+
+/// A rule with a verdict as its right side.
+pub fn verdict(left: &[Symbol], verdict: u8) -> Rule {
+    Rule {
+        left: left.to_vec(),
+        right: Right::Verdict(verdict),
+    }
 }
 
 /// A rule set with its numbers of symbols, events and verdicts.
@@ -231,20 +251,6 @@ pub fn check_table(image: &[u8], words: &[u16]) -> Result<(), u32> {
 mod tests {
     use super::*;
 
-    fn string(left: &[Symbol], right: &[Symbol]) -> Rule {
-        Rule {
-            left: left.to_vec(),
-            right: Right::Symbols(right.to_vec()),
-        }
-    }
-
-    fn verdict(left: &[Symbol], verdict: u8) -> Rule {
-        Rule {
-            left: left.to_vec(),
-            right: Right::Verdict(verdict),
-        }
-    }
-
     #[test]
     fn sample() {
         let set = random::sample();
@@ -365,6 +371,11 @@ mod tests {
             for shape in random::Shape::ALL {
                 let set = shape.rule_set(&mut random);
                 assert!(set.in_range(), "{shape:?}: {set:?}");
+                assert_eq!(parse(&encode(&set)), Ok(set));
+            }
+            for habit in random::Habit::ALL {
+                let set = habit.rule_set(&mut random);
+                assert!(set.in_range(), "{habit:?}: {set:?}");
                 assert_eq!(parse(&encode(&set)), Ok(set));
             }
         }

@@ -177,6 +177,143 @@ impl Shape {
     }
 }
 
+/// What the rules of a set do when they run.
+///
+/// The rule sets have few symbols and short left sides, so that strings drawn at random match often.
+#[derive(Clone, Copy, Debug, PartialEq, Eq)]
+pub enum Habit {
+    /// Right sides are longer than left sides.
+    Grow,
+    /// Right sides are as long as left sides, and often left sides themselves.
+    Loop,
+    /// Right sides are beginnings of left sides, so that matches span the cut.
+    Chain,
+    /// Right sides are shorter than left sides.
+    Shrink,
+    /// Verdicts, for symbols that are put in by other rules.
+    Judge,
+    /// Any of these, rule by rule.
+    Mixed,
+}
+
+impl Habit {
+    /// Every habit.
+    pub const ALL: [Habit; 6] = [
+        Habit::Grow,
+        Habit::Loop,
+        Habit::Chain,
+        Habit::Shrink,
+        Habit::Judge,
+        Habit::Mixed,
+    ];
+
+    /// A rule set with this habit.
+    pub fn rule_set(self, random: &mut Random) -> RuleSet {
+        let symbols = random.within(1, 5) as u8;
+        let events = random.within(symbols.div_ceil(2).into(), symbols.into()) as u8;
+        let verdicts = random.within(2, 16) as u8;
+        let count = random.within(1, 10);
+        let lefts: Vec<Vec<Symbol>> = (0..count)
+            .map(|_| {
+                let longest = if random.once_in(4) { 8 } else { 3 };
+                let length = random.within(1, longest);
+                random.string(length, symbols)
+            })
+            .collect();
+        let rules = lefts
+            .iter()
+            .map(|left| Rule {
+                left: left.clone(),
+                right: self.right(random, symbols, verdicts, left, &lefts),
+            })
+            .collect();
+        let set = RuleSet {
+            symbols,
+            events,
+            verdicts,
+            rules,
+        };
+        match self {
+            Habit::Judge => judge(random, set),
+            _ => set,
+        }
+    }
+
+    /// The right side of a rule with this left side, which is one of `lefts`.
+    fn right(
+        self,
+        random: &mut Random,
+        symbols: u8,
+        verdicts: u8,
+        left: &[Symbol],
+        lefts: &[Vec<Symbol>],
+    ) -> Right {
+        // Whatever the habit, a few rules are verdicts.
+        if random.once_in(7) {
+            return Right::Verdict(random.below(verdicts.into()) as u8);
+        }
+        let other = &lefts[random.below(lefts.len())];
+        match self {
+            Habit::Grow => {
+                let length = random.within((left.len() + 1).min(8), 8);
+                Right::Symbols(random.string(length, symbols))
+            }
+            Habit::Loop => {
+                if other.len() == left.len() && random.once_in(2) {
+                    Right::Symbols(other.clone())
+                } else {
+                    Right::Symbols(random.string(left.len(), symbols))
+                }
+            }
+            Habit::Chain => {
+                let length = random.within(0, other.len());
+                let mut right = random.string(1, symbols);
+                right.truncate(random.below(2));
+                right.extend(&other[..length]);
+                right.truncate(8);
+                Right::Symbols(right)
+            }
+            Habit::Shrink => {
+                let length = random.below(left.len());
+                Right::Symbols(random.string(length, symbols))
+            }
+            Habit::Judge => {
+                let length = random.within(1, 2);
+                Right::Symbols(random.string(length, symbols))
+            }
+            Habit::Mixed => {
+                let habit = Habit::ALL[random.below(Habit::ALL.len() - 1)];
+                habit.right(random, symbols, verdicts, left, lefts)
+            }
+        }
+    }
+}
+
+/// The rule set with a symbol more, which is no event and ends some right sides, and with verdicts for
+/// strings that hold it.
+fn judge(random: &mut Random, mut set: RuleSet) -> RuleSet {
+    let made = set.symbols;
+    set.symbols += 1;
+    for rule in &mut set.rules {
+        match &mut rule.right {
+            Right::Symbols(right) if random.once_in(2) && right.len() < 8 => right.push(made),
+            _ => {}
+        }
+    }
+    for _ in 0..random.within(1, 3) {
+        let length = random.within(0, 2);
+        let mut left = random.string(length, set.symbols);
+        left.insert(random.within(0, length), made);
+        let verdict = random.below(set.verdicts.into()) as u8;
+        let rule = Rule {
+            left,
+            right: Right::Verdict(verdict),
+        };
+        set.rules.insert(random.within(0, set.rules.len()), rule);
+    }
+    set
+}
+
 /// 64 rules of 8 symbols, the left sides over the first `used` of `symbols` symbols.
 pub fn full(random: &mut Random, symbols: u8, used: u8) -> RuleSet {
     let lefts = (0..64).map(|_| random.string(8, used)).collect();

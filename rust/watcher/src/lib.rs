@@ -1,5 +1,6 @@
 /*!
-A library that compiles rewriting rules to a matching table, and checks such tables.
+A library that watches a stream of events by rewriting rules: it compiles the rules to a matching
+table and keeps the events' string rewritten while they arrive.
 
 The functions here call the watcher's core, which is written in a language where each function is
 proved to meet its contract and which is linked as a static C library. This crate gives its
@@ -7,9 +8,13 @@ functions safe Rust signatures and adds nothing else.
 
 # Overview
 
+* [`Rules`] is a rule image with its table.
+* [`Monitor`] holds a string of symbols. Its [`offer`](Monitor::offer) takes an event,
+  [`go_on`](Monitor::go_on) takes none, [`batch`](Monitor::batch) takes many.
+* [`Run`] and [`Batch`] are what these give: an [`Answer`] and [`Counts`].
+* [`Refusal`] is the number of the reason for which an operation did nothing.
 * [`compile`] writes the table of a rule image into an area that the caller lends.
 * [`check_table`] says whether an area begins with the table of a rule image.
-* [`Refusal`] is the number of the reason for which an operation did nothing.
 * [`raw`] has the same operations with the parameters and the results of the C functions.
 
 # Rule images
@@ -28,6 +33,54 @@ with every transition filled in, so that reading a symbol is one look into the t
 prefixes of left sides, numbered as they first appear; state 0 is the empty string. A match word is
 0, or 1 + the number of the rule whose left side has just been read: the longest such left side, and
 of equal ones the lowest rule.
+
+# Monitors
+
+A monitor holds up to [`ROOM`] symbols: settled ones, in which no left side occurs, and then waiting
+ones. An offer adds its event to the waiting symbols. Then the call runs, one step after another. A
+step takes the first waiting symbol onto the settled string. If a left side has been read, the longest
+that ends there, its symbols are taken off, and those of the right side are put back before the
+waiting ones; or a verdict is set, and nothing is put back. A call ends when a verdict stands, when no
+symbol waits, when as many steps were taken as it was given fuel, or when the next step would leave
+more symbols than there is room for.
+
+So the string is at each time what the events become when the occurrence of a left side that ends
+first is rewritten, then the one that ends first in what that gives, and so on, for as many rewrites as
+the calls reported.
+
+# Example: a small school's swaps
+
+The symbols are `lock`, `take`, `free` and `held`; the first three are events. `lock take` becomes
+`held`, `held free` becomes nothing, and any other `take` becomes verdict 0, which is fail.
+
+```
+use watcher::{Answer, Monitor, Refusal, Rules};
+
+let (lock, take, free, held) = (0, 1, 2, 3);
+let rules = Rules::new(&[
+    4, 3, 2, 3, // four symbols, three rules, two verdicts, three events
+    2, 0, 1, 0, // rule 0: two symbols become a string of one
+    2, 0, 0, 0, // rule 1: two symbols become a string of none
+    1, 1, 0, 0, // rule 2: one symbol becomes verdict 0
+    lock, take, held, // rule 0
+    held, free, // rule 1
+    take, // rule 2
+])?;
+
+let mut monitor = Monitor::new();
+monitor.offer(&rules, lock, 1_000)?;
+let run = monitor.offer(&rules, take, 1_000)?;
+assert_eq!(run.answer, Answer::Quiet);
+assert_eq!((run.counts.steps, run.counts.rewrites), (2, 1));
+assert_eq!(monitor.string(), [held]);
+
+let mut answers = [0; 3];
+let batch = monitor.batch(&rules, &[free, take, lock], 1_000, &mut answers)?;
+assert_eq!(answers.map(Answer::from_byte)[..2], [Some(Answer::Quiet), Some(Answer::Verdict(0))]);
+assert_eq!((batch.accepted, batch.stop), (2, Some(Refusal::VERDICT_STANDS)));
+assert_eq!(monitor.verdict(), Some(0));
+# Ok::<(), Refusal>(())
+```
 
 # Example: compiling two rules
 
@@ -87,115 +140,15 @@ assert_eq!(check_table(&no_symbols, &[]), Err(Refusal::BAD_IMAGE));
 
 #![deny(missing_docs, unsafe_op_in_unsafe_fn)]
 
-use std::error::Error;
-use std::fmt;
-
+mod answer;
+mod monitor;
 pub mod raw;
+mod refusal;
+mod rules;
+mod table;
 
-/// The length in bytes of the longest rule image.
-pub const MAX_IMAGE_BYTES: usize = 1_284;
-
-/// A number of words that suffices for the table of every rule image.
-pub const MAX_TABLE_WORDS: usize = 16_931;
-
-/// The reason for which an operation did nothing, by its number.
-///
-/// # Example
-///
-/// ```
-/// use watcher::{compile, Refusal};
-///
-/// let refusal = compile(&[], &mut []).unwrap_err();
-/// assert_eq!(refusal, Refusal::BAD_IMAGE);
-/// assert_eq!(refusal.number(), 7);
-/// assert_eq!(refusal.to_string(), "refused 7: the rule image breaks the layout or a range");
-/// ```
-#[derive(Clone, Copy, Debug, PartialEq, Eq, Hash)]
-pub struct Refusal(u32);
-
-impl Refusal {
-    /// Refusal 7: the rule image breaks the layout or a range.
-    pub const BAD_IMAGE: Refusal = Refusal(7);
-
-    /// Refusal 8: the table area is shorter than the words needed.
-    pub const SHORT_AREA: Refusal = Refusal(8);
-
-    /// Refusal 9: the table does not begin with the words that [`compile`] gives for the image.
-    pub const OTHER_TABLE: Refusal = Refusal(9);
-
-    /// The refusal's number.
-    pub fn number(self) -> u32 {
-        self.0
-    }
-
-    /// What an operation returned: 0 is no refusal.
-    fn from_result(result: u32) -> Result<(), Refusal> {
-        match result {
-            0 => Ok(()),
-            number => Err(Refusal(number)),
-        }
-    }
-}
-
-impl fmt::Display for Refusal {
-    fn fmt(&self, f: &mut fmt::Formatter<'_>) -> fmt::Result {
-        write!(f, "refused {}", self.0)?;
-        match *self {
-            Refusal::BAD_IMAGE => write!(f, ": the rule image breaks the layout or a range"),
-            Refusal::SHORT_AREA => write!(f, ": the table area is too short"),
-            Refusal::OTHER_TABLE => write!(f, ": the table is not that of the rule image"),
-            _ => Ok(()),
-        }
-    }
-}
-
-impl Error for Refusal {}
-
-/// Writes the table of a rule image into `table` and returns the number of words written.
-///
-/// Words beyond those written keep their values. An area of [`MAX_TABLE_WORDS`] words is long enough
-/// for every image.
-///
-/// # Errors
-///
-/// In this order: [`Refusal::BAD_IMAGE`], [`Refusal::SHORT_AREA`]. Then `table` is as it was.
-///
-/// # Example
-///
-/// ```
-/// use watcher::compile;
-///
-/// // Two symbols and no rules: one state, which nothing leaves.
-/// let mut table = [9; 6];
-/// assert_eq!(compile(&[2, 0, 2, 1], &mut table), Ok(5));
-/// assert_eq!(table, [1, 2, 0, 0, 0, 9]);
-/// ```
-pub fn compile(image: &[u8], table: &mut [u16]) -> Result<usize, Refusal> {
-    let mut out = [0];
-    Refusal::from_result(raw::compile(image, table, &mut out))?;
-    // The number of words is at most the length of `table`, which is a `usize`.
-    Ok(out[0] as usize)
-}
-
-/// Says whether `table` begins with the words that [`compile`] gives for this rule image.
-///
-/// Words beyond those are not read.
-///
-/// # Errors
-///
-/// In this order: [`Refusal::BAD_IMAGE`], [`Refusal::OTHER_TABLE`]. A `table` that is too short is
-/// [`Refusal::OTHER_TABLE`].
-///
-/// # Example
-///
-/// ```
-/// use watcher::{check_table, Refusal};
-///
-/// let image = [2, 0, 2, 1];
-/// assert_eq!(check_table(&image, &[1, 2, 0, 0, 0]), Ok(()));
-/// assert_eq!(check_table(&image, &[1, 2, 0, 0, 0, 5, 6]), Ok(()));
-/// assert_eq!(check_table(&image, &[1, 2, 0, 0]), Err(Refusal::OTHER_TABLE));
-/// ```
-pub fn check_table(image: &[u8], table: &[u16]) -> Result<(), Refusal> {
-    Refusal::from_result(raw::check_table(image, table))
-}
+pub use answer::{Answer, Batch, Counts, Run};
+pub use monitor::{Monitor, MAX_EVENTS, MAX_FUEL, ROOM};
+pub use refusal::Refusal;
+pub use rules::Rules;
+pub use table::{check_table, compile, MAX_IMAGE_BYTES, MAX_TABLE_WORDS};

@@ -2,7 +2,8 @@
 -- Assumes nothing.
 use mathlib.Core.Path.{sym, _∙_}
 use Rattle.table.specs.Check.{refusedBy}
-use Rattle.ffi.specs.Numbers.{refusalNumber, checkedNumber}
+use Rattle.image.specs.Refusals.{refusalNumber}
+use Rattle.ffi.specs.Numbers.{checkedNumber}
 use borrow.Author.Needs.{needs}
 use Rattle.ffi.proofs.watcher_check_table.Statement.{statement}
 use Rattle.ffi.proofs.watcher_check_table.Tie as tie

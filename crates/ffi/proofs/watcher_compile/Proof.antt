@@ -2,7 +2,8 @@
 -- Assumes nothing.
 use mathlib.Core.Path.{sym, _∙_}
 use Rattle.table.specs.Compile.{refusedBy, wordCount}
-use Rattle.ffi.specs.Numbers.{refusalNumber, compiledNumber}
+use Rattle.image.specs.Refusals.{refusalNumber}
+use Rattle.ffi.specs.Numbers.{compiledNumber}
 use borrow.Author.Needs.{needs}
 use Rattle.ffi.proofs.watcher_compile.Statement.{statement}
 use Rattle.ffi.proofs.watcher_compile.Tie as tie

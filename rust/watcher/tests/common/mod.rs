@@ -3,6 +3,9 @@
 // Each test file uses some of these.
 #![allow(dead_code)]
 
+pub mod calls;
+pub mod list;
+
 use reference::RuleSet;
 
 /// Words kept on both sides of a lent area, which no call may touch.

@@ -1,0 +1,71 @@
+-- `monitor::Head::go_on` meets its contract: refused by what is lent, or decided by the call's own checks.
+-- Assumes nothing.
+use borrow.Author.Needs.{needs}
+use Rattle.monitor.specs.Areas.{documentCapacity, Monitor}
+use Rattle.monitor.specs.Lent.{lent}
+use Rattle.monitor.specs.Calls.{GoOn, goOnOf}
+use Rattle.monitor.proofs.LentRefusal.{lent-none, lent-some}
+use Rattle.monitor.proofs.BatchChecks.{passed-image}
+use Rattle.monitor.proofs.Offering.{passed-sizes, passed-call}
+use Rattle.monitor.proofs.Deciding.{lent-refused}
+use Rattle.monitor.proofs.Head.go_on.Statement.{statement}
+use Rattle.monitor.proofs.Head.go_on.Tie as tie
+
+-- what is lent
+abbrev given : tie.Start → Monitor
+given s = lent (s .args .self) (s .args .bytes .now) (s .args .words .now)
+
+refusal-requires : tie.Need-refusal-requires
+refusal-requires c κs = search needs
+
+refused-requires : tie.Need-refused-requires
+refused-requires c κs = search needs
+
+same-length : tie.Need-same-length
+same-length c = search needs
+
+same-length-2 : tie.Need-same-length-2
+same-length-2 c = search needs
+
+returns : tie.Need-returns
+unfolding goOnOf
+returns c = rw (c .refused .ensures) (lent-refused documentCapacity (c .before .before .before .before .before .before .before .before .before .args .image .now) (c .before .before .before .before .before .before .before .before .before .args .table .now) (given (c .before .before .before .before .before .before .before .before .before)) (GoOn (c .before .before .before .before .before .before .before .before .before .args .fuel)) _ (lent-some documentCapacity (c .before .before .before .before .before .before .before .before .before .args .image .now) (c .before .before .before .before .before .before .before .before .before .args .table .now) (given (c .before .before .before .before .before .before .before .before .before)) (c .before .before .refusal .ensures) (c .before .if1 .taken)))
+
+slice-aggregate-index : tie.Need-slice-aggregate-index
+slice-aggregate-index c = search needs
+
+index-requires : tie.Need-index-requires
+index-requires c κs = passed-image documentCapacity (c .before .before .before .before .before .before .before .before .before .args .image .now) (c .before .before .before .before .before .before .before .before .before .args .table .now) (given (c .before .before .before .before .before .before .before .before .before)) (lent-none documentCapacity (c .before .before .before .before .before .before .before .before .before .args .image .now) (c .before .before .before .before .before .before .before .before .before .args .table .now) (given (c .before .before .before .before .before .before .before .before .before)) (c .before .before .refusal .ensures) (c .before .if1 .left))
+
+slice-aggregate-go-on-checked : tie.Need-slice-aggregate-go-on-checked
+slice-aggregate-go-on-checked c = search needs
+
+go-on-checked-requires : tie.Need-go-on-checked-requires
+go-on-checked-requires c κs = (rw (passed-sizes documentCapacity (c .before .before .before .before .before .before .before .before .before .before .before .before .before .before .args .image .now) (c .before .before .before .before .before .before .before .before .before .before .before .before .before .before .args .table .now) (given (c .before .before .before .before .before .before .before .before .before .before .before .before .before .before)) (lent-none documentCapacity (c .before .before .before .before .before .before .before .before .before .before .before .before .before .before .args .image .now) (c .before .before .before .before .before .before .before .before .before .before .before .before .before .before .args .table .now) (given (c .before .before .before .before .before .before .before .before .before .before .before .before .before .before)) (c .before .before .before .before .before .before .before .refusal .ensures) (c .before .before .before .before .before .before .if1 .left)) .0) (lent-none documentCapacity (c .before .before .before .before .before .before .before .before .before .before .before .before .before .before .args .image .now) (c .before .before .before .before .before .before .before .before .before .before .before .before .before .before .args .table .now) (given (c .before .before .before .before .before .before .before .before .before .before .before .before .before .before)) (c .before .before .before .before .before .before .before .refusal .ensures) (c .before .before .before .before .before .before .if1 .left)), c .before .before .before .before .index .ensures)
+
+same-length-3 : tie.Need-same-length-3
+same-length-3 c = search needs
+
+same-length-4 : tie.Need-same-length-4
+same-length-4 c = search needs
+
+returns-2 : tie.Need-returns-2
+unfolding goOnOf
+returns-2 c = passed-call documentCapacity (c .before .before .before .before .before .before .before .before .before .before .before .before .before .before .before .before .before .before .before .args .image .now) (c .before .before .before .before .before .before .before .before .before .before .before .before .before .before .before .before .before .before .before .args .table .now) (given (c .before .before .before .before .before .before .before .before .before .before .before .before .before .before .before .before .before .before .before)) (GoOn (c .before .before .before .before .before .before .before .before .before .before .before .before .before .before .before .before .before .before .before .args .fuel)) _ (lent-none documentCapacity (c .before .before .before .before .before .before .before .before .before .before .before .before .before .before .before .before .before .before .before .args .image .now) (c .before .before .before .before .before .before .before .before .before .before .before .before .before .before .before .before .before .before .before .args .table .now) (given (c .before .before .before .before .before .before .before .before .before .before .before .before .before .before .before .before .before .before .before)) (c .before .before .before .before .before .before .before .before .before .before .before .before .refusal .ensures) (c .before .before .before .before .before .before .before .before .before .before .before .if1 .left)) (rw (passed-sizes documentCapacity (c .before .before .before .before .before .before .before .before .before .before .before .before .before .before .before .before .before .before .before .args .image .now) (c .before .before .before .before .before .before .before .before .before .before .before .before .before .before .before .before .before .before .before .args .table .now) (given (c .before .before .before .before .before .before .before .before .before .before .before .before .before .before .before .before .before .before .before)) (lent-none documentCapacity (c .before .before .before .before .before .before .before .before .before .before .before .before .before .before .before .before .before .before .before .args .image .now) (c .before .before .before .before .before .before .before .before .before .before .before .before .before .before .before .before .before .before .before .args .table .now) (given (c .before .before .before .before .before .before .before .before .before .before .before .before .before .before .before .before .before .before .before)) (c .before .before .before .before .before .before .before .before .before .before .before .before .refusal .ensures) (c .before .before .before .before .before .before .before .before .before .before .before .if1 .left)) .0) at (c .before .before .before .before .go-on-checked .ensures))
+
+pub go-on-spec : {M : Type 1} → statement M
+go-on-spec =
+    tie.close
+    (tie.spec
+    refusal-requires
+    refused-requires
+    same-length
+    same-length-2
+    returns
+    slice-aggregate-index
+    index-requires
+    slice-aggregate-go-on-checked
+    go-on-checked-requires
+    same-length-3
+    same-length-4
+    returns-2)

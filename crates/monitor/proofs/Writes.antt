@@ -1,0 +1,134 @@
+-- Loops that write: places set to 0, symbols copied, bytes moved. Each is `paste`, element by element.
+-- Assumes nothing.
+use Prim.Native.Nat.{ℕ, zero, suc, _+_, _-_, _≤_, _<_}
+use mathlib.Core.Path.{_≡_, refl, sym, ap, _∙_}
+use mathlib.Core.List.{List, [], _∷_, _++_}
+use native.Mathlib.Omega.{arith}
+use native.Mathlib.Numerals.{add-one}
+use native.Mathlib.Nat.{le-of-suc-le-suc, not-suc-le-zero}
+use lib.ListN.{length, getD, set, take, drop, replicate, length-replicate, length-drop}
+use lib.Seq.{paste, paste-zero, paste-suc, length-paste, drop-paste, getD-drop}
+
+-- d with the first j of n elements of s copied to it, from `at` on, is xs
+pub record Copying (d : List ℕ) (at : ℕ) (s : List ℕ) (n : ℕ) (xs : List ℕ) (j : ℕ) : Type 0 where
+  pub few : j ≤ n
+  pub room : at + n ≤ length d
+  pub source : n ≤ length s
+  pub done : xs ≡ paste d at s j
+
+pub copying-first : (d : List ℕ) (at : ℕ) (s : List ℕ) (n : ℕ) → at + n ≤ length d → n ≤ length s → Copying d at s n d 0
+copying-first d at s n room source = record { few = omega arith; room = room; source = source; done = paste-zero d at s }
+
+pub copying-length : {d : List ℕ} {at : ℕ} {s : List ℕ} {n : ℕ} {xs : List ℕ} {j : ℕ} → Copying d at s n xs j → length xs ≡ length d
+copying-length {d} {at} {s} {n} {xs} {j} k =
+    rw (k .done) (length-paste d at s j (omega (arith, k .few, k .room)) (omega (arith, k .few, k .source)))
+
+-- element j goes to place i
+pub copying-next : {d : List ℕ} {at : ℕ} {s : List ℕ} {n : ℕ} {xs : List ℕ} {j : ℕ} (i x : ℕ) → Copying d at s n xs j → j < n
+    → i ≡ at + j → x ≡ getD s j 0 → Copying d at s n (set xs i x) (suc j)
+copying-next {d} {at} {s} {n} {xs} {j} i x k more place value =
+    record {
+      few = omega arith;
+      room = k .room;
+      source = k .source;
+      done =
+          rw (k .done, place, value) (paste-suc d at s j 0 (omega (arith, k .room)) (omega (arith, k .source)));
+    }
+
+pub copying-last : {d : List ℕ} {at : ℕ} {s : List ℕ} {n : ℕ} {xs : List ℕ} {j : ℕ} → Copying d at s n xs j → n ≤ j → xs ≡ paste d at s n
+copying-last {d} {at} {s} {n} {xs} {j} k all =
+    let e : j ≡ n = omega (arith, k .few) in
+    k .done ∙ ap (λ (m : ℕ). paste d at s m) e
+
+-- what stands behind the copy is as it was
+pub copying-behind : {d : List ℕ} {at : ℕ} {s : List ℕ} {n : ℕ} {xs : List ℕ} {j : ℕ} (i : ℕ) → Copying d at s n xs j → at + j ≤ i
+    → getD xs i 0 ≡ getD d i 0
+copying-behind {d} {at} {s} {n} {xs} {j} i k later =
+    let e : at + j + (i - (at + j)) ≡ i = omega arith in
+    let rest : drop (at + j) xs ≡ drop (at + j) d =
+    rw (k .done) (drop-paste d at s j (omega (arith, k .few, k .room)) (omega (arith, k .few, k .source)))
+    in
+    rw (← e) (sym (getD-drop (at + j) xs (i - (at + j)) 0) ∙ ap (λ (l : List ℕ). getD l (i - (at + j)) 0) rest ∙ getD-drop (at + j) d (i - (at + j)) 0)
+
+zero-at : (n i : ℕ) → getD {A = ℕ} (replicate n 0) i 0 ≡ 0
+zero-at zero i = refl
+zero-at (suc n) zero = refl
+zero-at (suc n) (suc i) = zero-at n i
+
+-- places from .. to are set to 0
+pub record Clearing (d : List ℕ) (from to : ℕ) (xs : List ℕ) (i : ℕ) : Type 0 where
+  pub begun : from ≤ i
+  pub ended : i ≤ to
+  pub copying : Copying d from (replicate (to - from) 0) (to - from) xs (i - from)
+
+pub clearing-first : (d : List ℕ) (from to : ℕ) → from ≤ to → to ≤ length d → Clearing d from to d from
+clearing-first d from to order inside =
+    let e : from - from ≡ 0 = omega arith in
+    record {
+      begun = omega arith;
+      ended = order;
+      copying =
+          rw e (copying-first d from (replicate (to - from) 0) (to - from) (omega arith) (rw (length-replicate {A = ℕ}) (omega arith)));
+    }
+
+pub clearing-next : {d : List ℕ} {from to : ℕ} {xs : List ℕ} {i : ℕ} → Clearing d from to xs i → i < to
+    → Clearing d from to (set xs i 0) (i + 1)
+clearing-next {d} {from} {to} {xs} {i} k more =
+    let e : i + 1 - from ≡ suc (i - from) = omega (arith, k .begun) in
+    record {
+      begun = omega (arith, k .begun);
+      ended = omega arith;
+      copying =
+          rw e
+          (copying-next i 0 (k .copying) (omega (arith, k .begun)) (omega (arith, k .begun)) (sym (zero-at (to - from) (i - from))));
+    }
+
+pub clearing-last : {d : List ℕ} {from to : ℕ} {xs : List ℕ} {i : ℕ} → Clearing d from to xs i → to ≤ i
+    → xs ≡ paste d from (replicate (to - from) 0) (to - from)
+clearing-last k all = copying-last (k .copying) (omega (arith, k .begun, k .ended))
+
+-- the place is inside
+pub clearing-inside : {d : List ℕ} {from to : ℕ} {xs : List ℕ} {i : ℕ} → Clearing d from to xs i → i < to → i < length xs
+clearing-inside k more =
+    omega (arith, k .begun, k .copying .room, copying-length (k .copying))
+
+-- the symbols of b from `start` on, to the places from `to` on
+pub source-at : (b : List ℕ) (start k : ℕ) → getD b (start + k) 0 ≡ getD (drop start b) k 0
+source-at b start k = sym (getD-drop start b k 0)
+
+pub source-length : (b : List ℕ) (start n : ℕ) → start + n ≤ length b → n ≤ length (drop start b)
+source-length b start n h = rw length-drop (omega arith)
+
+-- the places from `from` on are moved one to the left
+pub record Moving (d : List ℕ) (from : ℕ) (xs : List ℕ) (i : ℕ) : Type 0 where
+  pub some : 1 ≤ from
+  pub begun : from ≤ i
+  pub copying : Copying d (from - 1) (drop from d) (length d - from) xs (i - from)
+
+pub moving-first : (d : List ℕ) (from : ℕ) → 1 ≤ from → from ≤ length d → Moving d from d from
+moving-first d from some inside =
+    let e : from - from ≡ 0 = omega arith in
+    record {
+      some = some;
+      begun = omega arith;
+      copying = rw e (copying-first d (from - 1) (drop from d) (length d - from) (omega arith) (rw length-drop (omega arith)));
+    }
+
+pub moving-next : {d : List ℕ} {from : ℕ} {xs : List ℕ} {i : ℕ} → Moving d from xs i → i < length d
+    → Moving d from (set xs (i - 1) (getD xs i 0)) (i + 1)
+moving-next {d} {from} {xs} {i} k more =
+    let e : i + 1 - from ≡ suc (i - from) = omega (arith, k .begun) in
+    let place : from + (i - from) ≡ i = omega (arith, k .begun) in
+    let same : getD xs i 0 ≡ getD (drop from d) (i - from) 0 =
+    copying-behind i (k .copying) (omega (arith, k .begun, k .some))
+    ∙ rw (getD-drop from d (i - from) 0, place)
+    in
+    record {
+      some = k .some;
+      begun = omega (arith, k .begun);
+      copying = rw e (copying-next (i - 1) (getD xs i 0) (k .copying) (omega (arith, k .begun)) (omega (arith, k .begun, k .some)) same);
+    }
+
+pub moving-last : {d : List ℕ} {from : ℕ} {xs : List ℕ} {i : ℕ} → Moving d from xs i → length d ≤ i
+    → xs ≡ paste d (from - 1) (drop from d) (length d - from)
+moving-last k all = copying-last (k .copying) (omega (arith, k .begun))

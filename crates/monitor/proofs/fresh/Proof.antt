@@ -1,0 +1,56 @@
+-- `monitor::fresh` meets its contract: refused 10, or all 0.
+-- Assumes nothing.
+use borrow.Author.Needs.{needs}
+use Rattle.monitor.specs.Areas.{documentCapacity}
+use Rattle.monitor.specs.Lent.{refusedAs}
+use Rattle.monitor.proofs.Deciding.{other-length, other-bytes, other-words, cleared}
+use Rattle.monitor.proofs.fresh.Statement.{statement}
+use Rattle.monitor.proofs.fresh.Tie as tie
+
+empty-requires : tie.Need-empty-requires
+empty-requires c κs = search needs
+
+returns : tie.Need-returns
+unfolding refusedAs
+returns c = rw (c .empty .ensures) (other-length documentCapacity _ _ (other-bytes documentCapacity (c .before .before .before .before .args .bytes .now) (c .before .before .before .before .args .words .now) (c .before .if1 .taken)))
+
+empty-requires-2 : tie.Need-empty-requires-2
+empty-requires-2 c κs = search needs
+
+returns-2 : tie.Need-returns-2
+unfolding refusedAs
+returns-2 c = rw (c .empty2 .ensures) (other-length documentCapacity _ _ (other-words documentCapacity (c .before .before .before .before .before .args .bytes .now) (c .before .before .before .before .before .args .words .now) (c .before .before .if1 .left) (c .before .if2 .taken)))
+
+clear-bytes-requires : tie.Need-clear-bytes-requires
+clear-bytes-requires c κs = search needs
+
+clear-words-requires : tie.Need-clear-words-requires
+clear-words-requires c κs = search needs
+
+empty-requires-3 : tie.Need-empty-requires-3
+empty-requires-3 c κs = search needs
+
+same-length : tie.Need-same-length
+same-length c = search needs
+
+same-length-2 : tie.Need-same-length-2
+same-length-2 c = search needs
+
+returns-3 : tie.Need-returns-3
+unfolding refusedAs
+returns-3 c = rw (c .empty3 .ensures) (cleared documentCapacity (c .before .before .before .before .before .before .before .before .before .before .before .before .before .args .bytes .now) (c .before .before .before .before .before .before .before .before .before .before .before .before .before .args .words .now) _ _ (c .before .before .before .before .before .before .before .before .before .before .if1 .left) (c .before .before .before .before .before .before .before .before .before .if2 .left) (c .before .before .before .before .before .before .before .clear-bytes .ensures) (c .before .before .before .clear-words .ensures))
+
+pub fresh-spec : {M : Type 1} → statement M
+fresh-spec =
+    tie.close
+    (tie.spec
+    empty-requires
+    returns
+    empty-requires-2
+    returns-2
+    clear-bytes-requires
+    clear-words-requires
+    empty-requires-3
+    same-length
+    same-length-2
+    returns-3)

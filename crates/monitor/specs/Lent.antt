@@ -1,0 +1,109 @@
+-- How the code speaks of these definitions: what it is lent, what it gives back, and what its functions read and keep.
+use Prim.Native.Nat.{ℕ, zero, suc, _+_, _*_, _<_}
+use mathlib.Core.Path.{_≡_}
+use mathlib.Core.Bool.{Bool, true, false, cond}
+use mathlib.Core.Option.{Option, none, some}
+use mathlib.Core.List.{List, [], _∷_, map}
+use lib.ListN.{length, getD}
+use Rattle.rewriting.specs.Lists.{below}
+use Rattle.rewriting.specs.Rules.{Rule, RuleSet}
+use Rattle.image.specs.Image.{read}
+use Rattle.image.specs.Places.{rightAt}
+use Rattle.image.specs.Refusals.{refusal}
+use Rattle.table.specs.States.{states, number, state, next, matching}
+use Rattle.monitor.specs.declared.Head.{Head}
+use Rattle.monitor.specs.declared.Refusal.{Refusal}
+use Rattle.monitor.specs.declared.Begun.{Begun}
+use Rattle.monitor.specs.declared.Called.{Called}
+use Rattle.monitor.specs.declared.Stepped.{Stepped}
+use Rattle.monitor.specs.declared.BatchCalled.{BatchCalled}
+use Rattle.monitor.specs.State.{State, Step, step}
+use Rattle.monitor.specs.Run.{fits}
+use Rattle.monitor.specs.Areas.{Monitor, statesAfter, monitorOf, stateOf, unmatched}
+use Rattle.monitor.specs.Calls.{Fresh, Outcome, lentChecks}
+use Rattle.monitor.specs.Batch.{Batched}
+
+-- the monitor that is lent
+abbrev pub lent : Head → List ℕ → List ℕ → Monitor
+lent head bytes words = record { head = head; bytes = bytes; words = words }
+
+-- none of the refusals 7, 9, 10 and 11 is called for
+abbrev pub Passed : ℕ → List ℕ → List ℕ → Monitor → Type 0
+Passed capacity image table m = refusal (lentChecks capacity image table m) ≡ none
+
+-- a refusal, if it is one
+unfoldable pub refusedAs : Refusal → Option ℕ
+refusedAs Refusal.None = none
+refusedAs (Refusal.Number n) = some n
+
+-- What fresh, a call and batch gave back, with the areas at their exit.
+abbrev pub freshFrom : Begun → List ℕ → List ℕ → Fresh
+freshFrom r bytes words = record { refused = refusedAs (r .refusal); monitor = lent (r .head) bytes words }
+
+abbrev pub outcomeFrom : Called → List ℕ → List ℕ → Outcome
+outcomeFrom r bytes words = record { answer = r .answer; counts = r .counts; monitor = lent (r .head) bytes words }
+
+abbrev pub batchFrom : BatchCalled → List ℕ → List ℕ → List ℕ → Batched
+batchFrom r bytes words answers =
+    record {
+      refused = refusedAs (r .refusal);
+      stop = r .stop;
+      accepted = r .accepted;
+      counts = r .counts;
+      answers = answers;
+      monitor = lent (r .head) bytes words;
+    }
+
+-- the next state of q on symbol a, and the match word of q, in a table
+abbrev pub nextIn : List ℕ → ℕ → ℕ → ℕ
+nextIn table q a = getD table (2 + getD table 0 0 + q * getD table 1 0 + a) 0
+
+abbrev pub matchIn : List ℕ → ℕ → ℕ
+matchIn table q = getD table (2 + q) 0
+
+-- "the word before it (state 0 at the start)", where n symbols are settled
+abbrev pub wordBefore : List ℕ → ℕ → ℕ
+wordBefore words zero = 0
+wordBefore words (suc i) = getD words i 0
+
+-- these are settled symbols and their words
+pub record Settled (set : RuleSet) (symbols words : List ℕ) : Type 0 where
+  pub symbols-below : below (set .symbols) symbols ≡ true
+  pub words-right : words ≡ map (number (states (set .rules))) (statesAfter (set .rules) [] symbols)
+  pub no-match : unmatched (set .rules) symbols ≡ true
+
+-- where each rule's right symbols begin in the image
+abbrev pub Starts : List ℕ → List ℕ → Type 0
+Starts image starts =
+    (i : ℕ) → i < length (read image .rules) → (i < length starts) × (getD starts i 0 ≡ rightAt (read image) i)
+
+-- the next step of a state in which a symbol waits
+unfoldable pub stepWaiting : List Rule → State → List ℕ → Step
+stepWaiting rules s [] = record { to = s; rewrites = 0; put = 0 }
+stepWaiting rules s (a ∷ q) = step rules (s .settled) a q
+
+abbrev pub stepOf : List Rule → State → Step
+stepOf rules s = stepWaiting rules s (s .waiting)
+
+-- a symbol waits, and with it the settled string's state matches as m says
+abbrev pub Matches : List Rule → State → Option ℕ → Type 0
+Matches rules s m =
+    (a : ℕ) × (q : List ℕ) × (s .waiting ≡ a ∷ q) × (matching rules (next rules (state rules (s .settled)) a) ≡ m)
+
+-- "A step after which a + w would pass 2,048 is not taken.": whether the step t is taken, the monitor after it, its
+-- rewrites and the number of symbols that it put back
+pub record Tried : Type 0 where
+  pub taken : Bool
+  pub monitor : Monitor
+  pub rewrites : ℕ
+  pub put : ℕ
+
+unfoldable pub tried : List Rule → ℕ → Monitor → Step → Tried
+tried rules capacity m t =
+    cond (fits capacity (t .to))
+    (record { taken = true; monitor = monitorOf rules capacity (t .to); rewrites = t .rewrites; put = t .put })
+    (record { taken = false; monitor = m; rewrites = 0; put = 0 })
+
+abbrev pub triedFrom : Stepped → List ℕ → List ℕ → Tried
+triedFrom r bytes words =
+    record { taken = r .taken; monitor = lent (r .head) bytes words; rewrites = r .rewrites; put = r .put }
