@@ -23,7 +23,8 @@ use Rattle.monitor.specs.declared.Answer.{Answer}
 use Rattle.monitor.specs.Run.{Run, run}
 use Rattle.monitor.specs.Areas.{Monitor, headOf, monitorOf, stateOf, closesWith, standsBy}
 use Rattle.monitor.specs.Calls.{Call, Offer, Outcome, lentChecks, callChecks, fuelOf, offered, outcome, decided, callOf, offerOf, refusedBy, answerNumber}
-use Rattle.monitor.specs.Batch.{stopped, andThen, offers, batchChecks, batched, batchOf}
+use Rattle.monitor.specs.Play.{offersOf}
+use Rattle.monitor.specs.Batch.{stopped, andThen, inTurn, offers, batchChecks, batched, batchOf}
 use Rattle.monitor.specs.Promise.{Stopped}
 use Rattle.monitor.proofs.Stepping.{passed-valid, passed-table}
 use Rattle.monitor.proofs.Calls.{Holding, passed-holding, next}
@@ -120,7 +121,7 @@ answer-number-below capacity image table m c =
 offers-holding : (capacity : ℕ) (image table : List ℕ) → valid image ≡ true → prefix (tableOf (read image)) table ≡ true
     → (fuel : ℕ) (events : List ℕ) (m : Monitor) → Holding (read image) capacity m
     → Holding (read image) capacity (offers capacity image table m events fuel .monitor)
-unfolding offers stopped offerOf andThen
+unfolding offers inTurn offersOf stopped andThen
 offers-holding capacity image table good right fuel [] m h = h
 offers-holding capacity image table good right fuel (event ∷ events) m h =
     go (refusedBy (o .answer)) after (offers-holding capacity image table good right fuel events (o .monitor) after)

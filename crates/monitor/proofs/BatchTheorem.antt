@@ -24,7 +24,7 @@ use Rattle.monitor.specs.declared.Counts.{Counts}
 use Rattle.monitor.specs.Run.{Run, noCounts, plus, run}
 use Rattle.monitor.specs.Areas.{Monitor, stateOf}
 use Rattle.monitor.specs.Calls.{Call, Offer, Outcome, lentChecks, isNone, fuelCheck, verdictCheck, callChecks, fuelOf, offered, outcome, decided, refusalOf, callOf, offerOf, refusedBy, answerNumber}
-use Rattle.monitor.specs.Batch.{Offers, stopped, andThen, offers, batchChecks, batched, batchOf}
+use Rattle.monitor.specs.Batch.{Offers, stopped, andThen, inTurn, offers, batchChecks, batched, batchOf}
 use Rattle.monitor.specs.Play.{noCalls, eventsOf, logged, play, offersOf}
 use Rattle.monitor.specs.Promise.{Ended, BatchEnded, BatchIsOffers}
 use Rattle.monitor.proofs.Sums.{none-plus}
@@ -89,7 +89,7 @@ module _ (capacity : ℕ) (image table : List ℕ) (good : valid image ≡ true)
 
   offers-offered : (fuel : ℕ) → leb fuel 65535 ≡ true → (events : List ℕ) (m : Monitor) → Holding (read image) capacity m
       → Offered capacity image table m events fuel (offers capacity image table m events fuel)
-  unfolding offers stopped noCalls play offersOf offerOf andThen logged after eventsOf noCounts plus fuelOf
+  unfolding offers inTurn stopped noCalls play offersOf offerOf andThen logged after eventsOf noCounts plus fuelOf
   offers-offered fuel f [] m h =
       record {
         few = omega arith;

@@ -15,8 +15,8 @@ use Rattle.monitor.specs.State.{empty, active, replace, settle, step}
 use Rattle.monitor.specs.Run.{noCounts, plus, countsOf, ended, counted, fits, proceed, tests, run}
 use Rattle.monitor.specs.Areas.{documentCapacity, headOf, areaOf, bytesOf, statesAfter, wordsOf, monitorOf, stateOf, noMatch, unmatched, closesWith, standsBy, holds, described}
 use Rattle.monitor.specs.Calls.{sized, freshened, freshOf, fuelOf, lentChecks, isNone, fuelCheck, verdictCheck, callChecks, offered, outcome, decided, callOf, offerOf, refusedBy, answerNumber}
-use Rattle.monitor.specs.Batch.{stopped, andThen, offers, batchChecks, batched, batchOf}
-use Rattle.monitor.specs.Play.{stringOf, noCalls, eventsOf, logged, play}
+use Rattle.monitor.specs.Batch.{stopped, andThen, inTurn, offers, batchChecks, batched, batchOf}
+use Rattle.monitor.specs.Play.{stringOf, noCalls, eventsOf, logged, play, offersOf}
 use Rattle.monitor.specs.Cases.{Case, fresh, foundIn, find, worked, abcd, cases}
 use Rattle.monitor.specs.Edges.{day, growing, tripling, edges, holding, closedAndFull, Answering, answering, onSample, undescribed, monitors, tiny, inOrder, BatchCase, findBatch, batch, batches, manyEvents}
 
@@ -53,7 +53,7 @@ refusals-in-order = refl
 
 -- batches
 pub batches-found : map findBatch batches ≡ map (λ (c : BatchCase). c .found) batches
-unfolding computes over stopped andThen offers offerOf answerNumber batchChecks batched batchOf findBatch batch holding growing tripling batches
+unfolding computes over stopped andThen inTurn offersOf offers offerOf answerNumber batchChecks batched batchOf findBatch batch holding growing tripling batches
 batches-found = refl
 
 pub many-events : (manyEvents 65535 ≡ none) × (manyEvents 65536 ≡ some 16)

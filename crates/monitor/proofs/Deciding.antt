@@ -2,15 +2,15 @@
 -- Assumes nothing.
 use Prim.Native.Nat.{ℕ, _+_, _-_, _≤_, _<_}
 use mathlib.Core.Path.{_≡_, refl, sym, ap, _∙_}
-use mathlib.Core.Bool.{true, false}
+use mathlib.Core.Bool.{Bool, true, false, not, cond, _||_}
 use mathlib.Core.Option.{Option, none, some}
 use mathlib.Core.List.{List, [], _∷_, _++_, append-nil}
 use native.Mathlib.Omega.{arith}
-use lib.Dec.{eqb, leb, ltb}
+use lib.Dec.{eqb, ltb}
 use lib.ListN as ListN
 use lib.ListN.{length, drop, replicate, length-append, length-replicate}
 use lib.Seq.{paste, take-all, drop-length}
-use borrow.Author.Tests.{lt-ltb, le-ltb, le-leb, lt-leb, eq-eqb, ne-eqb}
+use borrow.Author.Tests.{le-leb, lt-leb, eq-eqb, ne-eqb, eqb-false, not-true}
 use Rattle.rewriting.specs.Lists.{below}
 use Rattle.rewriting.specs.Rules.{RuleSet}
 use Rattle.rewriting.proofs.Ranges.{ranges}
@@ -26,7 +26,7 @@ use Rattle.monitor.specs.Run.{Run, noCounts, fits, run}
 use Rattle.monitor.specs.Areas.{Monitor, headOf, areaOf, monitorOf, stateOf}
 use Rattle.monitor.specs.Calls.{sized, freshOf, freshened, lentChecks, callOf, Call, Offer, GoOn, Outcome, fuelCheck, verdictCheck, isNone, callChecks, fuelOf, offered, refusalOf, outcome, decided}
 use Rattle.monitor.specs.Play.{eventsOf}
-use Rattle.monitor.specs.Lent.{lent, Passed}
+use Rattle.monitor.specs.Lent.{lent, Passed, appended, oneMore, callWith}
 use Rattle.monitor.proofs.Legal.{Legal, legal-more}
 use Rattle.monitor.proofs.Areas.{state-back}
 use Rattle.monitor.proofs.AreaWrites.{area-append}
@@ -39,47 +39,45 @@ pub is-refused : (set : RuleSet) (capacity : ℕ) (m : Monitor) (c : Call) (chec
 unfolding decided outcome
 is-refused set capacity m c checks n e = rw e
 
--- Offer refuses 12, 13, 14 and 15, in this order.
+-- An offer refuses 12, 13, 14 and 15, in this order, and a go-on 13 and 14.
 module _ (set : RuleSet) (capacity : ℕ) (head : Head) (event fuel : ℕ) where
-  pub no-event : set .events ≤ event → refusal (callChecks set capacity head (Offer event fuel)) ≡ some 12
-  unfolding callChecks refusal
-  no-event h = rw (le-ltb event (set .events) h)
+  pub refuses-event : (offering : Bool) → (not offering || ltb event (set .events)) ≡ false
+      → refusal (callChecks set capacity head (callWith offering event fuel)) ≡ some 12
+  unfolding callChecks refusal callWith
+  refuses-event true h = rw h
+  refuses-event false h = let z : _≡_ {A = ℕ} 0 1 = cc in absurd (omega arith)
 
-  module _ (is-event : event < set .events) where
-    pub offer-fuel : 65535 < fuel → refusal (callChecks set capacity head (Offer event fuel)) ≡ some 13
-    unfolding callChecks refusal fuelCheck
-    offer-fuel h = rw (lt-ltb event (set .events) is-event, lt-leb fuel 65535 h)
+  pub refuses-fuel : (offering : Bool) → (not offering || ltb event (set .events)) ≡ true → 65535 < fuel
+      → refusal (callChecks set capacity head (callWith offering event fuel)) ≡ some 13
+  unfolding callChecks refusal fuelCheck callWith
+  refuses-fuel true h f = rw (h, lt-leb fuel 65535 f)
+  refuses-fuel false h f = rw (lt-leb fuel 65535 f)
 
-    module _ (taken : fuel ≤ 65535) where
-      pub offer-verdict : (v : ℕ) → head .verdict ≡ Standing.Verdict v → refusal (callChecks set capacity head (Offer event fuel)) ≡ some 14
-      unfolding callChecks refusal fuelCheck verdictCheck isNone
-      offer-verdict v h = rw (lt-ltb event (set .events) is-event, le-leb fuel 65535 taken, h)
+  module _ (taken : fuel ≤ 65535) where
+    pub refuses-verdict : (offering : Bool) → (not offering || ltb event (set .events)) ≡ true → (v : ℕ) → head .verdict ≡ Standing.Verdict v
+        → refusal (callChecks set capacity head (callWith offering event fuel)) ≡ some 14
+    unfolding callChecks refusal fuelCheck verdictCheck isNone callWith
+    refuses-verdict true h v e = rw (h, le-leb fuel 65535 taken, e)
+    refuses-verdict false h v e = rw (le-leb fuel 65535 taken, e)
 
-      pub no-room : head .verdict ≡ Standing.None → head .settled + head .waiting ≡ capacity
-          → refusal (callChecks set capacity head (Offer event fuel)) ≡ some 15
-      unfolding callChecks refusal fuelCheck verdictCheck isNone
-      no-room v h =
-          rw (lt-ltb event (set .events) is-event, le-leb fuel 65535 taken, v, eq-eqb (head .settled + head .waiting) capacity h)
+    pub refuses-room : (offering : Bool) → (not offering || ltb event (set .events)) ≡ true → head .verdict ≡ Standing.None
+        → (not offering || not (eqb (head .settled + head .waiting) capacity)) ≡ false
+        → refusal (callChecks set capacity head (callWith offering event fuel)) ≡ some 15
+    unfolding callChecks refusal fuelCheck verdictCheck isNone callWith
+    refuses-room true h v r = rw (h, le-leb fuel 65535 taken, v, r)
+    refuses-room false h v r = let z : _≡_ {A = ℕ} 0 1 = cc in absurd (omega arith)
 
-      pub offer-taken : head .verdict ≡ Standing.None → (head .settled + head .waiting ≡ capacity → ⊥)
-          → refusal (callChecks set capacity head (Offer event fuel)) ≡ none
-      unfolding callChecks refusal fuelCheck verdictCheck isNone
-      offer-taken v h =
-          rw (lt-ltb event (set .events) is-event, le-leb fuel 65535 taken, v, ne-eqb (head .settled + head .waiting) capacity h)
+    pub refuses-none : (offering : Bool) → (not offering || ltb event (set .events)) ≡ true → head .verdict ≡ Standing.None
+        → (not offering || not (eqb (head .settled + head .waiting) capacity)) ≡ true
+        → refusal (callChecks set capacity head (callWith offering event fuel)) ≡ none
+    unfolding callChecks refusal fuelCheck verdictCheck isNone callWith
+    refuses-none true h v r = rw (h, le-leb fuel 65535 taken, v, r)
+    refuses-none false h v r = rw (le-leb fuel 65535 taken, v)
 
--- Go on refuses 13 and 14.
-module _ (set : RuleSet) (capacity : ℕ) (head : Head) (fuel : ℕ) where
-  pub go-on-fuel : 65535 < fuel → refusal (callChecks set capacity head (GoOn fuel)) ≡ some 13
-  unfolding callChecks refusal fuelCheck
-  go-on-fuel h = rw (lt-leb fuel 65535 h)
-
-  pub go-on-verdict : fuel ≤ 65535 → (v : ℕ) → head .verdict ≡ Standing.Verdict v → refusal (callChecks set capacity head (GoOn fuel)) ≡ some 14
-  unfolding callChecks refusal fuelCheck verdictCheck isNone
-  go-on-verdict taken v h = rw (le-leb fuel 65535 taken, h)
-
-  pub go-on-taken : fuel ≤ 65535 → head .verdict ≡ Standing.None → refusal (callChecks set capacity head (GoOn fuel)) ≡ none
-  unfolding callChecks refusal fuelCheck verdictCheck isNone
-  go-on-taken taken v = rw (le-leb fuel 65535 taken, v)
+-- there is room for the event of an offer
+pub room-left : (offering : Bool) (capacity n : ℕ) → (not offering || not (eqb n capacity)) ≡ true → offering ≡ true → n ≡ capacity → ⊥
+room-left true capacity n h e = eqb-false n capacity (not-true (eqb n capacity) h)
+room-left false capacity n h e = let z : _≡_ {A = ℕ} 0 1 = cc in absurd (omega arith)
 
 -- the call runs
 pub is-run : (set : RuleSet) (capacity : ℕ) (m m′ : Monitor) (c : Call) (checks : List Check) (s : State) (o : Outcome)
@@ -88,17 +86,14 @@ pub is-run : (set : RuleSet) (capacity : ℕ) (m m′ : Monitor) (c : Call) (che
 unfolding decided outcome
 is-run set capacity m m′ c checks s o e f g = rw e (g ∙ rw f)
 
--- "the event becomes the last waiting symbol": those before it are moved to the left
-abbrev pub appended : ℕ → ℕ → ℕ → List ℕ → List ℕ
-appended capacity event from bytes = ListN.set (paste bytes (from - 1) (drop from bytes) (capacity - from)) (capacity - 1) event
-
+-- "the event becomes the last waiting symbol"
 module _ (capacity : ℕ) (image table : List ℕ) (m : Monitor) (ok : Passed capacity image table m) (event fuel from : ℕ)
     (v : m .head .verdict ≡ Standing.None) (room : m .head .settled + m .head .waiting ≡ capacity → ⊥) (place : from ≡ capacity - m .head .waiting) where
   facts : Held (read image) capacity m
   facts = held capacity image table m ok
 
   -- the areas then hold the offered state, ..
-  is-offered : lent (record { settled = m .head .settled; waiting = m .head .waiting + 1; verdict = Standing.None; rule = m .head .rule }) (appended capacity event from (m .bytes)) (m .words)
+  is-offered : lent (oneMore (m .head)) (appended capacity event from (m .bytes)) (m .words)
       ≡ monitorOf (read image .rules) capacity (offered (stateOf m) (Offer event fuel))
   unfolding offered stateOf
   is-offered =
@@ -111,13 +106,13 @@ module _ (capacity : ℕ) (image table : List ℕ) (m : Monitor) (ok : Passed ca
       (facts .words-are)
       ∙ ap (λ (x : Standing). monitorOf (read image .rules) capacity (record { settled = s .settled; waiting = s .waiting ++ event ∷ []; verdict = x; rule = s .rule })) (sym v)
 
-  pub offered-state : stateOf (lent (record { settled = m .head .settled; waiting = m .head .waiting + 1; verdict = Standing.None; rule = m .head .rule }) (appended capacity event from (m .bytes)) (m .words))
+  pub offered-state : stateOf (lent (oneMore (m .head)) (appended capacity event from (m .bytes)) (m .words))
       ≡ offered (stateOf m) (Offer event fuel)
   offered-state = rw is-offered (state-back (read image .rules) capacity (offered (stateOf m) (Offer event fuel)))
 
   -- .. and pass their checks
   pub offered-passes : refusal (callChecks (read image) capacity (m .head) (Offer event fuel)) ≡ none
-      → Passed capacity image table (lent (record { settled = m .head .settled; waiting = m .head .waiting + 1; verdict = Standing.None; rule = m .head .rule }) (appended capacity event from (m .bytes)) (m .words))
+      → Passed capacity image table (lent (oneMore (m .head)) (appended capacity event from (m .bytes)) (m .words))
   unfolding monitorOf fits
   offered-passes e =
       holding-passes capacity image table good (passed-table capacity image table m ok) _
@@ -138,6 +133,24 @@ module _ (capacity : ℕ) (image table : List ℕ) (m : Monitor) (ok : Passed ca
       accepted =
           accepted-event (read image) (ranges (read image) (valid-in-range image good)) capacity (stateOf m) (Offer event fuel)
           (rw head e) (le-leb _ _ (facts .room))
+
+-- The same of a call that is an offer or a go-on.
+module _ (capacity : ℕ) (image table : List ℕ) (m : Monitor) (ok : Passed capacity image table m) (event fuel : ℕ) (v : m .head .verdict ≡ Standing.None) where
+  pub call-state : (offering : Bool) → (offering ≡ true → m .head .settled + m .head .waiting ≡ capacity → ⊥)
+      → stateOf
+      (lent (cond offering (oneMore (m .head)) (m .head)) (cond offering (appended capacity event (capacity - m .head .waiting) (m .bytes)) (m .bytes)) (m .words))
+      ≡ offered (stateOf m) (callWith offering event fuel)
+  unfolding callWith offered
+  call-state true room = offered-state capacity image table m ok event fuel (capacity - m .head .waiting) v (room refl) refl
+  call-state false room = refl
+
+  pub call-passes : (offering : Bool) → (offering ≡ true → m .head .settled + m .head .waiting ≡ capacity → ⊥)
+      → refusal (callChecks (read image) capacity (m .head) (callWith offering event fuel)) ≡ none
+      → Passed capacity image table
+      (lent (cond offering (oneMore (m .head)) (m .head)) (cond offering (appended capacity event (capacity - m .head .waiting) (m .bytes)) (m .bytes)) (m .words))
+  unfolding callWith
+  call-passes true room e = offered-passes capacity image table m ok event fuel (capacity - m .head .waiting) v (room refl) refl e
+  call-passes false room e = ok
 
 -- A call that what is lent refuses.
 pub lent-refused : (capacity : ℕ) (image table : List ℕ) (m : Monitor) (c : Call) (n : ℕ) → refusal (lentChecks capacity image table m) ≡ some n

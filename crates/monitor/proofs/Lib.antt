@@ -13,6 +13,7 @@ pub mod Stepping
 pub mod Looking
 pub mod Running
 pub mod Deciding
+pub mod Single
 pub mod Calls
 pub mod Logs
 pub mod CallTheorem

@@ -1,26 +1,27 @@
--- The offers of a batch one by one: what is so after k of them, and what the batch is where they end.
+-- Calls one by one: what is so after k of them, and what they come to where they end.
 -- Assumes nothing.
 use Prim.Native.Nat.{ℕ, suc, _+_, _*_, _≤_, _<_}
 use mathlib.Core.Path.{_≡_, refl, sym, ap, _∙_}
+use mathlib.Core.Bool.{Bool, true, false}
 use mathlib.Core.Option.{none}
 use mathlib.Core.List.{List, [], _∷_, _++_, append-nil}
 use native.Mathlib.Omega.{arith}
 use native.Mathlib.Nat.{suc-mul, mul-le-mul}
 use native.Mathlib.Numerals.{add-one}
 use lib.Dec.{eqb}
-use lib.ListN.{length, getD, set, take, drop, length-set, take-append-drop, drop-of-length-le}
+use lib.ListN.{length, getD, set, take, drop, length-set, take-append-drop, drop-of-length-le, length-map}
 use lib.Seq.{length-take-le, append-snoc, drop-cons, drop-drop, drop-set-lt, take-suc-set}
 use borrow.Author.Tests.{eqb-true}
-use Rattle.rewriting.proofs.Lists.{and-left, and-right}
+use Rattle.rewriting.proofs.Lists.{and-left, and-right, getD-map}
 use Rattle.image.specs.Image.{read}
 use Rattle.table.specs.Compile.{over}
 use Rattle.monitor.specs.declared.Answer.{Answer}
 use Rattle.monitor.specs.declared.Counts.{Counts}
 use Rattle.monitor.specs.Run.{noCounts, plus}
 use Rattle.monitor.specs.Areas.{Monitor}
-use Rattle.monitor.specs.Calls.{Call, Offer, Outcome, sized, callChecks, decided, fuelOf, callOf, offerOf, refusedBy, answerNumber}
-use Rattle.monitor.specs.Batch.{Offers, stopped, andThen, offers, batched}
-use Rattle.monitor.specs.Lent.{lent, Passed}
+use Rattle.monitor.specs.Calls.{Call, GoOn, Outcome, sized, callChecks, decided, fuelOf, callOf, refusedBy, answerNumber}
+use Rattle.monitor.specs.Batch.{Offers, stopped, andThen, inTurn, batched}
+use Rattle.monitor.specs.Lent.{lent, Passed, callWith, callsWith}
 use Rattle.monitor.specs.Promise.{Ended}
 use Rattle.monitor.proofs.Stepping.{passed-sized}
 use Rattle.monitor.proofs.Sums.{none-plus, plus-none, plus-assoc}
@@ -28,7 +29,7 @@ use Rattle.monitor.proofs.Calls.{holding-passes, replies, next}
 use Rattle.monitor.proofs.CallTheorem.{call-theorem}
 use Rattle.monitor.proofs.AnswerNumbers.{Lent, passed-lent, answer-number-below}
 
--- the offers b behind accepted ones with these answers and counts
+-- the calls b behind accepted ones with these answers and counts
 unfoldable pub behind : List ℕ → Counts → Offers → Offers
 behind a c b =
     record { stop = b .stop; answers = a ++ b .answers; counts = plus c (b .counts); monitor = b .monitor }
@@ -76,25 +77,25 @@ passed-next capacity image table m c p =
     holding-passes capacity image table (l .good) (l .right) (callOf capacity image table m c .monitor)
     (next capacity image table (l .good) (l .right) m (l .holding) c .after)
 
--- k events of a batch on m have been offered and accepted: the monitor is n now, the answer bytes are b, the sums c.
-pub record Offering (capacity : ℕ) (image table : List ℕ) (m : Monitor) (events : List ℕ) (fuel : ℕ) (answers : List ℕ) (n : Monitor) (b : List ℕ) (c : Counts) (k : ℕ) : Type 0 where
-  pub few : k ≤ length events
+-- k calls on m have been made and accepted: the monitor is n now, the answer bytes are b, the sums c.
+pub record Offering (capacity : ℕ) (image table : List ℕ) (m : Monitor) (calls : List Call) (answers : List ℕ) (n : Monitor) (b : List ℕ) (c : Counts) (k : ℕ) : Type 0 where
+  pub few : k ≤ length calls
   pub passed : Passed capacity image table n
   pub bytes : length (n .bytes) ≡ capacity
   pub words : length (n .words) ≡ length (m .words)
   pub size : length b ≡ length answers
   pub later : drop k b ≡ drop k answers
-  pub whole : offers capacity image table m events fuel
-      ≡ behind (take k b) c (offers capacity image table n (drop k events) fuel)
-  pub steps : c .steps ≤ k * 65535
+  pub whole : inTurn capacity image table m calls
+      ≡ behind (take k b) c (inTurn capacity image table n (drop k calls))
+  pub steps : c .steps ≤ k * 4294967295
   pub rewrites : c .rewrites ≤ c .steps
   pub put : c .put ≤ 8 * c .rewrites
 
-pub offering-first : (capacity : ℕ) (image table : List ℕ) (m : Monitor) (events : List ℕ) (fuel : ℕ) (answers : List ℕ)
-    → Passed capacity image table m → Offering capacity image table m events fuel answers m answers noCounts 0
+pub offering-first : (capacity : ℕ) (image table : List ℕ) (m : Monitor) (calls : List Call) (answers : List ℕ)
+    → Passed capacity image table m → Offering capacity image table m calls answers m answers noCounts 0
 unfolding behind noCounts
-offering-first capacity image table m events fuel answers p =
-    let b : Offers = offers capacity image table m events fuel in
+offering-first capacity image table m calls answers p =
+    let b : Offers = inTurn capacity image table m calls in
     record {
       few = omega arith;
       passed = p;
@@ -111,20 +112,20 @@ offering-first capacity image table m events fuel answers p =
 
 -- the sums with those of one call more
 pub record Within (c d : Counts) : Type 0 where
-  pub steps : c .steps + d .steps ≤ 65535 * 65536
-  pub rewrites : c .rewrites + d .rewrites ≤ 65535 * 65536
-  pub put : c .put + d .put ≤ 8 * 65535 * 65536
+  pub steps : c .steps + d .steps ≤ 65536 * 4294967295
+  pub rewrites : c .rewrites + d .rewrites ≤ 65536 * 4294967295
+  pub put : c .put + d .put ≤ 8 * 65536 * 4294967295
 
-module _ {capacity : ℕ} {image table : List ℕ} {m : Monitor} {events : List ℕ} {fuel : ℕ} {answers : List ℕ} {n : Monitor} {b : List ℕ} {c : Counts} {k : ℕ} (now : Offering capacity image table m events fuel answers n b c k) where
+module _ {capacity : ℕ} {image table : List ℕ} {m : Monitor} {calls : List Call} {answers : List ℕ} {n : Monitor} {b : List ℕ} {c : Counts} {k : ℕ} (now : Offering capacity image table m calls answers n b c k) where
   -- The checks have passed, with the capacity read off the bytes.
   pub offering-passed : Passed (length (n .bytes)) image table n
   offering-passed = rw (now .bytes) (now .passed)
 
-  module _ (room : length events ≤ length answers) where
-    -- No further offer is accepted.
-    offering-end : (x : ℕ) → offers capacity image table n (drop k events) fuel ≡ stopped x n
+  module _ (room : length calls ≤ length answers) where
+    -- No further call is accepted.
+    offering-end : (x : ℕ) → inTurn capacity image table n (drop k calls) ≡ stopped x n
         → record { refused = none; stop = x; accepted = k; counts = c; answers = b; monitor = n }
-        ≡ batched none m answers (offers capacity image table m events fuel)
+        ≡ batched none m answers (inTurn capacity image table m calls)
     unfolding batched behind stopped over
     offering-end x e =
         let short : k ≤ length b = omega (arith, now .few, now .size, room) in
@@ -132,58 +133,57 @@ module _ {capacity : ℕ} {image table : List ℕ} {m : Monitor} {events : List 
         let all : _≡_ {A = List ℕ} (take k b ++ []) (take k b) = append-nil (take k b) in
         rw (now .whole, e, all, plus-none, count, ← now .later, take-append-drop)
 
-    -- All events are offered.
-    pub offering-all : length events ≤ k
-        → record { refused = none; stop = 0; accepted = length events; counts = c; answers = b; monitor = n }
-        ≡ batched none m answers (offers capacity image table m events fuel)
-    unfolding offers
+    -- All are made.
+    pub offering-all : length calls ≤ k
+        → record { refused = none; stop = 0; accepted = length calls; counts = c; answers = b; monitor = n }
+        ≡ batched none m answers (inTurn capacity image table m calls)
+    unfolding inTurn
     offering-all h =
-        let same : length events ≡ k = omega (arith, h, now .few) in
-        rw same (offering-end 0 (rw (drop-of-length-le events h)))
+        let same : length calls ≡ k = omega (arith, h, now .few) in
+        rw same (offering-end 0 (rw (drop-of-length-le calls h)))
 
-    -- The next event is offered, with the outcome o.
-    module _ {o : Outcome} (more : k < length events) (made : o ≡ decided (read image) (length (n .bytes)) n (callChecks (read image) (length (n .bytes)) (n .head) (Offer (getD events k 0) fuel)) (Offer (getD events k 0) fuel)) where
-      is : o ≡ callOf capacity image table n (Offer (getD events k 0) fuel)
+    -- The next call is made, with the outcome o.
+    module _ {o : Outcome} (more : k < length calls) (made : o ≡ decided (read image) (length (n .bytes)) n (callChecks (read image) (length (n .bytes)) (n .head) (getD calls k (GoOn 0))) (getD calls k (GoOn 0))) where
+      is : o ≡ callOf capacity image table n (getD calls k (GoOn 0))
       is =
-          passed-call capacity image table n (Offer (getD events k 0) fuel) o (now .passed)
+          passed-call capacity image table n (getD calls k (GoOn 0)) o (now .passed)
           (rw (now .bytes) at made)
 
-      done : Ended (read image .rules) capacity n (Offer (getD events k 0) fuel) o
-      done = rw is (call-theorem capacity image table n (Offer (getD events k 0) fuel))
+      done : Ended (read image .rules) capacity n (getD calls k (GoOn 0)) o
+      done = rw is (call-theorem capacity image table n (getD calls k (GoOn 0)))
 
       pub offering-number : answerNumber (o .answer) < 256
-      offering-number = rw is (answer-number-below capacity image table n (Offer (getD events k 0) fuel))
+      offering-number = rw is (answer-number-below capacity image table n (getD calls k (GoOn 0)))
 
       -- It is refused.
       pub offering-refused : (x : ℕ) → o .answer ≡ Answer.Refused x
           → record { refused = none; stop = x; accepted = k; counts = c; answers = b; monitor = lent (n .head) (o .monitor .bytes) (o .monitor .words) }
-          ≡ batched none m answers (offers capacity image table m events fuel)
-      unfolding offers offerOf andThen refusedBy
+          ≡ batched none m answers (inTurn capacity image table m calls)
+      unfolding inTurn andThen refusedBy
       offering-refused x e =
           let stays : o .monitor ≡ n = ap (λ (p : Outcome). p .monitor) (done .refused x (rw e) .1) in
-          rw stays (offering-end x (rw (drop-cons events k 0 more, ← is, e, stays)))
+          rw stays (offering-end x (rw (drop-cons calls k (GoOn 0) more, ← is, e, stays)))
 
       -- It is accepted.
-      pub offering-sums : fuel ≤ 65535 → length events ≤ 65535 → Within c (o .counts)
-      unfolding fuelOf
+      pub offering-sums : fuelOf (getD calls k (GoOn 0)) ≤ 4294967295 → length calls ≤ 65535 → Within c (o .counts)
       offering-sums h few =
-          let own : o .counts .steps ≤ fuel = done .steps in
-          let product : k * 65535 ≤ 65535 * 65535 = mul-le-mul {n₂ = 65535} {m₂ = 65535} (omega arith) (omega arith) in
+          let own : o .counts .steps ≤ fuelOf (getD calls k (GoOn 0)) = done .steps in
+          let product : k * 4294967295 ≤ 65535 * 4294967295 = mul-le-mul {n₂ = 65535} {m₂ = 4294967295} (omega arith) (omega arith) in
           record {
             steps = omega (arith, now .steps);
             rewrites = omega (arith, now .steps, now .rewrites, done .rewrites);
             put = omega (arith, now .steps, now .rewrites, now .put, done .rewrites, done .put);
           }
 
-      pub offering-next : fuel ≤ 65535 → refusedBy (o .answer) ≡ none
-          → Offering capacity image table m events fuel answers (o .monitor) (set b k (answerNumber (o .answer))) (plus c (o .counts)) (suc k)
-      unfolding offers offerOf andThen fuelOf plus
+      pub offering-next : fuelOf (getD calls k (GoOn 0)) ≤ 4294967295 → refusedBy (o .answer) ≡ none
+          → Offering capacity image table m calls answers (o .monitor) (set b k (answerNumber (o .answer))) (plus c (o .counts)) (suc k)
+      unfolding inTurn andThen plus
       offering-next h e =
           let after : Passed capacity image table (o .monitor) =
-          rw is (passed-next capacity image table n (Offer (getD events k 0) fuel) (now .passed))
+          rw is (passed-next capacity image table n (getD calls k (GoOn 0)) (now .passed))
           in
           let long : k < length b = omega (arith, more, now .size, room) in
-          let rest : Offers = offers capacity image table (o .monitor) (drop (suc k) events) fuel in
+          let rest : Offers = inTurn capacity image table (o .monitor) (drop (suc k) calls) in
           record {
             few = omega arith;
             passed = after;
@@ -200,9 +200,22 @@ module _ {capacity : ℕ} {image table : List ℕ} {m : Monitor} {events : List 
                 ∙ sym (drop-more k answers);
             whole =
                 now .whole
-                ∙ rw (drop-cons events k 0 more, ← is, e, take-suc-set b k (answerNumber (o .answer)) long)
+                ∙ rw (drop-cons calls k (GoOn 0) more, ← is, e, take-suc-set b k (answerNumber (o .answer)) long)
                 (behind-more (take k b) c (answerNumber (o .answer)) (o .counts) rest);
             steps = rw suc-mul (omega (arith, now .steps, done .steps, h));
             rewrites = omega (arith, now .rewrites, done .rewrites);
             put = omega (arith, now .put, done .put);
           }
+
+-- The call of event k, among those of all events.
+pub call-at : (offering : Bool) (events : List ℕ) (fuel k : ℕ) → k < length events
+    → getD (callsWith offering events fuel) k (GoOn 0) ≡ callWith offering (getD events k 0) fuel
+call-at offering events fuel k h = getD-map (λ event. callWith offering event fuel) events k 0 (GoOn 0) h
+
+pub fuel-with : (offering : Bool) (event fuel : ℕ) → fuelOf (callWith offering event fuel) ≡ fuel
+unfolding callWith fuelOf
+fuel-with true event fuel = refl
+fuel-with false event fuel = refl
+
+pub calls-length : (offering : Bool) (events : List ℕ) (fuel : ℕ) → length (callsWith offering events fuel) ≡ length events
+calls-length offering events fuel = length-map events (λ event. callWith offering event fuel)

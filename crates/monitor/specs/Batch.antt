@@ -10,9 +10,10 @@ use Rattle.table.specs.Compile.{over}
 use Rattle.monitor.specs.declared.Counts.{Counts}
 use Rattle.monitor.specs.Run.{noCounts, plus}
 use Rattle.monitor.specs.Areas.{Monitor}
-use Rattle.monitor.specs.Calls.{Outcome, lentChecks, fuelCheck, offerOf, refusedBy, answerNumber}
+use Rattle.monitor.specs.Calls.{Call, Outcome, lentChecks, fuelCheck, callOf, refusedBy, answerNumber}
+use Rattle.monitor.specs.Play.{offersOf}
 
--- Offers one after another: what stopped them (0: nothing did), an answer byte for each accepted, the summed counts, and
+-- Offers, or other calls, one after another: what stopped them (0: nothing did), an answer byte for each accepted, the summed counts, and
 -- the monitor that they leave.
 pub record Offers : Type 0 where
   pub stop : ℕ
@@ -20,11 +21,11 @@ pub record Offers : Type 0 where
   pub counts : Counts
   pub monitor : Monitor
 
--- no offer is accepted
+-- no call is accepted
 unfoldable pub stopped : ℕ → Monitor → Offers
 stopped n m = record { stop = n; answers = []; counts = noCounts; monitor = m }
 
--- the offer with outcome o, and then the others, unless o is a refusal
+-- the call with outcome o, and then the others, unless o is a refusal
 unfoldable pub andThen : Outcome → Option ℕ → (Monitor → Offers) → Offers
 andThen o (some n) others = stopped n (o .monitor)
 andThen o none others =
@@ -36,13 +37,17 @@ andThen o none others =
       monitor = rest .monitor;
     }
 
+-- calls one after another, up to the first that is refused
+unfoldable pub inTurn : ℕ → List ℕ → List ℕ → Monitor → List Call → Offers
+inTurn capacity image table m [] = stopped 0 m
+inTurn capacity image table m (c ∷ calls) =
+    let o : Outcome = callOf capacity image table m c in
+    andThen o (refusedBy (o .answer)) (λ m′. inTurn capacity image table m′ calls)
+
 -- "the offers one after another up to the first refused with 12, 14 or 15" (no other refusal can come:
 -- `batch-theorem`, proofs/BatchTheorem.antt)
 unfoldable pub offers : ℕ → List ℕ → List ℕ → Monitor → List ℕ → ℕ → Offers
-offers capacity image table m [] fuel = stopped 0 m
-offers capacity image table m (event ∷ events) fuel =
-    let o : Outcome = offerOf capacity image table m event fuel in
-    andThen o (refusedBy (o .answer)) (λ m′. offers capacity image table m′ events fuel)
+offers capacity image table m events fuel = inTurn capacity image table m (offersOf events fuel)
 
 -- "Batch .. refuses, in order: 7, 9, 10, 11, 13; 16, more than 65,535 events, or fewer answer bytes than events."
 unfoldable pub batchChecks : ℕ → List ℕ → List ℕ → Monitor → List ℕ → ℕ → List ℕ → List Check

@@ -1,17 +1,21 @@
 -- How the code speaks of these definitions: what it is lent, what it gives back, and what its functions read and keep.
-use Prim.Native.Nat.{ℕ, zero, suc, _+_, _*_, _<_}
+use Prim.Native.Nat.{ℕ, zero, suc, _+_, _*_, _-_, _<_}
 use mathlib.Core.Path.{_≡_}
 use mathlib.Core.Bool.{Bool, true, false, cond}
 use mathlib.Core.Option.{Option, none, some}
 use mathlib.Core.List.{List, [], _∷_, map}
-use lib.ListN.{length, getD}
+use lib.Dec.{eqb, ltb}
+use lib.ListN.{length, getD, set, drop}
+use lib.Seq.{paste}
 use Rattle.rewriting.specs.Lists.{below}
 use Rattle.rewriting.specs.Rules.{Rule, RuleSet}
 use Rattle.image.specs.Image.{read}
 use Rattle.image.specs.Places.{rightAt}
 use Rattle.image.specs.Refusals.{refusal}
 use Rattle.table.specs.States.{states, number, state, next, matching}
+use Rattle.monitor.specs.declared.Standing.{Standing}
 use Rattle.monitor.specs.declared.Head.{Head}
+use Rattle.monitor.specs.declared.Answer.{Answer}
 use Rattle.monitor.specs.declared.Refusal.{Refusal}
 use Rattle.monitor.specs.declared.Begun.{Begun}
 use Rattle.monitor.specs.declared.Called.{Called}
@@ -20,7 +24,7 @@ use Rattle.monitor.specs.declared.BatchCalled.{BatchCalled}
 use Rattle.monitor.specs.State.{State, Step, step}
 use Rattle.monitor.specs.Run.{fits}
 use Rattle.monitor.specs.Areas.{Monitor, statesAfter, monitorOf, stateOf, unmatched}
-use Rattle.monitor.specs.Calls.{Fresh, Outcome, lentChecks}
+use Rattle.monitor.specs.Calls.{Fresh, Call, Offer, GoOn, Outcome, lentChecks}
 use Rattle.monitor.specs.Batch.{Batched}
 
 -- the monitor that is lent
@@ -54,9 +58,16 @@ batchFrom r bytes words answers =
       monitor = lent (r .head) bytes words;
     }
 
--- the next state of q on symbol a, and the match word of q, in a table
+-- where the rows of a table begin, and how many words each has
+abbrev pub rowsIn : List ℕ → ℕ
+rowsIn table = 2 + getD table 0 0
+
+abbrev pub widthIn : List ℕ → ℕ
+widthIn table = getD table 1 0
+
+-- the next state of q on symbol a, and the match word of q
 abbrev pub nextIn : List ℕ → ℕ → ℕ → ℕ
-nextIn table q a = getD table (2 + getD table 0 0 + q * getD table 1 0 + a) 0
+nextIn table q a = getD table (rowsIn table + q * widthIn table + a) 0
 
 abbrev pub matchIn : List ℕ → ℕ → ℕ
 matchIn table q = getD table (2 + q) 0
@@ -107,3 +118,24 @@ tried rules capacity m t =
 abbrev pub triedFrom : Stepped → List ℕ → List ℕ → Tried
 triedFrom r bytes words =
     record { taken = r .taken; monitor = lent (r .head) bytes words; rewrites = r .rewrites; put = r .put }
+
+-- an offer of the event, or a go-on
+unfoldable pub callWith : Bool → ℕ → ℕ → Call
+callWith true event fuel = Offer event fuel
+callWith false event fuel = GoOn fuel
+
+-- one for each event
+abbrev pub callsWith : Bool → List ℕ → ℕ → List Call
+callsWith offering events fuel = map (λ event. callWith offering event fuel) events
+
+-- "the event becomes the last waiting symbol": those before it, from place `from` on, are moved to the left
+abbrev pub appended : ℕ → ℕ → ℕ → List ℕ → List ℕ
+appended capacity event from bytes = set (paste bytes (from - 1) (drop from bytes) (capacity - from)) (capacity - 1) event
+
+abbrev pub oneMore : Head → Head
+oneMore head = record { settled = head .settled; waiting = head .waiting + 1; verdict = Standing.None; rule = head .rule }
+
+-- the answer with a number, among those that `answerNumber` gives to calls that are not refused
+abbrev pub answerFrom : ℕ → Answer
+answerFrom n =
+    cond (eqb n 0) Answer.Quiet (cond (eqb n 1) Answer.Spent (cond (eqb n 2) Answer.Full (cond (ltb n 16) Answer.Quiet (Answer.Verdict (n - 16)))))

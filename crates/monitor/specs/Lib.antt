@@ -4,9 +4,9 @@ pub mod State
 pub mod Run
 pub mod Areas
 pub mod Calls
+pub mod Play
 pub mod Batch
 pub mod Lent
-pub mod Play
 pub mod Promise
 pub mod Cases
 pub mod Edges

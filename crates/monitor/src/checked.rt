@@ -1,14 +1,16 @@
 // Offer, go on and the offers of a batch, where what is lent has been checked: what is left of their refusals, and the run.
 // The module is private: what its functions ask, the check of what is lent has shown.
-ghost use Prim.Native.Nat.{_≤_, _<_};
+ghost use Prim.Native.Nat.{_+_, _-_, _≤_, _<_};
 ghost use mathlib.Core.Path.{_≡_};
+ghost use mathlib.Core.Bool.{true, not, cond, _||_};
 ghost use mathlib.Core.Option.{none};
+ghost use lib.Dec.{eqb, ltb};
 ghost use lib.ListN.{length};
-ghost use Rattle.image.specs.Image.{read};
+ghost use Rattle.image.specs.Image.{read, valid};
 ghost use Rattle.monitor.specs.declared.Refusal.{Refusal};
-ghost use Rattle.monitor.specs.Calls.{callChecks, Offer, GoOn, decided, answerNumber};
-ghost use Rattle.monitor.specs.Batch.{offers, batched};
-ghost use Rattle.monitor.specs.Lent.{lent, Passed, outcomeFrom, batchFrom, Starts};
+ghost use Rattle.monitor.specs.Calls.{callChecks, callOf, decided, answerNumber};
+ghost use Rattle.monitor.specs.Batch.{inTurn, batched};
+ghost use Rattle.monitor.specs.Lent.{lent, Passed, outcomeFrom, batchFrom, Starts, rowsIn, widthIn, appended, oneMore, callWith, callsWith, answerFrom};
 use crate::Answer;
 use crate::BatchCalled;
 use crate::Called;
@@ -32,25 +34,92 @@ fn answer_byte(answer: Answer) -> u8
     }
 }
 
+// An answer from its byte.
+fn answer_from(byte: u8) -> Answer
+    ensures { λ r. ⌜ r ≡ answerFrom byte ⌝ }
+{
+    if byte == 0 {
+        return Answer::Quiet;
+    }
+    if byte == 1 {
+        return Answer::Spent;
+    }
+    if byte == 2 {
+        return Answer::Full;
+    }
+    if byte < 16 {
+        return Answer::Quiet;
+    }
+    Answer::Verdict((byte - 16) as u64)
+}
+
+// Whether refusal 12 is not called for: the event of an offer is one.
+fn allowed(image: &[u8], offering: bool, event: u8) -> bool
+    requires { ⌜ valid (now image) ≡ true ⌝ }
+    ensures { λ r. ⌜ r ≡ (not offering || ltb event (read (now (image .entry)) .events)) ⌝ }
+{
+    if offering {
+        return (event as usize) < image::events(image);
+    }
+    true
+}
+
+// Whether refusal 15 is not called for: there is room for the event of an offer.
+fn has_room(offering: bool, settled: usize, waiting: usize, capacity: usize) -> bool
+    requires { ⌜ settled + waiting ≤ capacity ⌝ }
+    ensures { λ r. ⌜ r ≡ (not offering || not (eqb (settled + waiting) capacity)) ⌝ }
+{
+    if offering {
+        return settled + waiting != capacity;
+    }
+    true
+}
+
 impl Head {
-    // An offer, where what is lent has been checked.
-    pub fn offer_checked(
+    // The head with the event as the last waiting symbol, for an offer; for a go-on the head as it is.
+    fn taking(self, bytes: &mut [u8], offering: bool, event: u8) -> Head
+        requires room { ⌜ (offering ≡ true → self .waiting < length (now bytes)) ⌝ }
+        ensures head { λ r. ⌜ r ≡ cond offering (oneMore self) self ⌝ }
+        ensures bytes { λ r. ⌜ now (bytes .exit)
+            ≡ cond offering (appended (length (now (bytes .entry))) event (length (now (bytes .entry)) - self .waiting) (now (bytes .entry))) (now (bytes .entry)) ⌝ }
+    {
+        if !offering {
+            return self;
+        }
+        let capacity = bytes.len();
+        held::move_left(bytes, capacity - self.waiting);
+        bytes[capacity - 1] = event;
+        Head {
+            settled: self.settled,
+            waiting: self.waiting + 1,
+            verdict: Standing::None,
+            rule: self.rule,
+        }
+    }
+
+    // One call, an offer or a go-on.
+    fn called(
         self,
         image: &[u8],
         table: &[u16],
+        rows: usize,
+        width: usize,
         starts: &[u16],
         bytes: &mut [u8],
         words: &mut [u16],
+        offering: bool,
         event: u8,
         fuel: u32,
     ) -> Called
         requires lent { ⌜ Passed (length (now bytes)) (now image) (now table) (lent self (now bytes) (now words)) ⌝ }
         requires starts { ⌜ Starts (now image) (now starts) ⌝ }
+        requires rows { ⌜ rows ≡ rowsIn (now table) ⌝ }
+        requires width { ⌜ width ≡ widthIn (now table) ⌝ }
         ensures { λ r. ⌜ outcomeFrom r (now (bytes .exit)) (now (words .exit))
             ≡ decided (read (now (image .entry))) (length (now (bytes .entry))) (lent self (now (bytes .entry)) (now (words .entry)))
-            (callChecks (read (now (image .entry))) (length (now (bytes .entry))) self (Offer event fuel)) (Offer event fuel) ⌝ }
+            (callChecks (read (now (image .entry))) (length (now (bytes .entry))) self (callWith offering event fuel)) (callWith offering event fuel) ⌝ }
     {
-        if image::events(image) <= event as usize {
+        if !allowed(image, offering, event) {
             return self.refused(12);
         }
         if 65535 < fuel {
@@ -60,46 +129,12 @@ impl Head {
         match verdict {
             Standing::Verdict(_) => self.refused(14),
             Standing::None => {
-                let capacity = bytes.len();
-                if self.settled + self.waiting == capacity {
+                if !has_room(offering, self.settled, self.waiting, bytes.len()) {
                     return self.refused(15);
                 }
-                held::move_left(bytes, capacity - self.waiting);
-                bytes[capacity - 1] = event;
-                let head = Head {
-                    settled: self.settled,
-                    waiting: self.waiting + 1,
-                    verdict: Standing::None,
-                    rule: self.rule,
-                };
-                head.run(image, table, starts, bytes, words, fuel)
+                let head = self.taking(bytes, offering, event);
+                head.run(image, table, rows, width, starts, bytes, words, fuel)
             }
-        }
-    }
-
-    // A go-on, where what is lent has been checked.
-    pub fn go_on_checked(
-        self,
-        image: &[u8],
-        table: &[u16],
-        starts: &[u16],
-        bytes: &mut [u8],
-        words: &mut [u16],
-        fuel: u32,
-    ) -> Called
-        requires lent { ⌜ Passed (length (now bytes)) (now image) (now table) (lent self (now bytes) (now words)) ⌝ }
-        requires starts { ⌜ Starts (now image) (now starts) ⌝ }
-        ensures { λ r. ⌜ outcomeFrom r (now (bytes .exit)) (now (words .exit))
-            ≡ decided (read (now (image .entry))) (length (now (bytes .entry))) (lent self (now (bytes .entry)) (now (words .entry)))
-            (callChecks (read (now (image .entry))) (length (now (bytes .entry))) self (GoOn fuel)) (GoOn fuel) ⌝ }
-    {
-        if 65535 < fuel {
-            return self.refused(13);
-        }
-        let verdict = self.verdict;
-        match verdict {
-            Standing::Verdict(_) => self.refused(14),
-            Standing::None => self.run(image, table, starts, bytes, words, fuel),
         }
     }
 
@@ -121,33 +156,46 @@ impl Head {
         }
     }
 
-    // The offers of a batch, where what is lent has been checked, up to the first that is refused.
-    pub fn offers(
+    // Calls one after another, up to the first that is refused: an offer of each event or, where `offering` is false, as many goes-on.
+    pub fn in_turn(
         self,
         image: &[u8],
         table: &[u16],
         starts: &[u16],
         bytes: &mut [u8],
         words: &mut [u16],
+        offering: bool,
         events: &[u8],
         fuel: u32,
         answers: &mut [u8],
     ) -> BatchCalled
         requires lent { ⌜ Passed (length (now bytes)) (now image) (now table) (lent self (now bytes) (now words)) ⌝ }
         requires starts { ⌜ Starts (now image) (now starts) ⌝ }
-        requires fuel { ⌜ fuel ≤ 65535 ⌝ }
         requires few { ⌜ length (now events) ≤ 65535 ⌝ }
         requires room { ⌜ length (now events) ≤ length (now answers) ⌝ }
         ensures { λ r. ⌜ batchFrom r (now (bytes .exit)) (now (words .exit)) (now (answers .exit))
             ≡ batched none (lent self (now (bytes .entry)) (now (words .entry))) (now (answers .entry))
-            (offers (length (now (bytes .entry))) (now (image .entry)) (now (table .entry)) (lent self (now (bytes .entry)) (now (words .entry))) (now (events .entry)) fuel) ⌝ }
+            (inTurn (length (now (bytes .entry))) (now (image .entry)) (now (table .entry)) (lent self (now (bytes .entry)) (now (words .entry))) (callsWith offering (now (events .entry)) fuel)) ⌝ }
     {
+        let rows = 2 + held::wide(table[0]);
+        let width = held::wide(table[1]);
         let mut head = self;
         let mut steps: u64 = 0;
         let mut rewrites: u64 = 0;
         let mut put: u64 = 0;
         for k in 0..events.len() {
-            let called = head.offer_checked(image, table, starts, bytes, words, events[k], fuel);
+            let called = head.called(
+                image,
+                table,
+                rows,
+                width,
+                starts,
+                bytes,
+                words,
+                offering,
+                events[k],
+                fuel,
+            );
             let answer = called.answer;
             match answer {
                 Answer::Refused(n) => {
@@ -162,5 +210,47 @@ impl Head {
             put += called.counts.put;
         }
         head.stopped(0, events.len(), steps, rewrites, put)
+    }
+
+    // One call.
+    pub fn once(
+        self,
+        image: &[u8],
+        table: &[u16],
+        starts: &[u16],
+        bytes: &mut [u8],
+        words: &mut [u16],
+        offering: bool,
+        event: u8,
+        fuel: u32,
+    ) -> Called
+        requires lent { ⌜ Passed (length (now bytes)) (now image) (now table) (lent self (now bytes) (now words)) ⌝ }
+        requires starts { ⌜ Starts (now image) (now starts) ⌝ }
+        ensures { λ r. ⌜ outcomeFrom r (now (bytes .exit)) (now (words .exit))
+            ≡ callOf (length (now (bytes .entry))) (now (image .entry)) (now (table .entry)) (lent self (now (bytes .entry)) (now (words .entry))) (callWith offering event fuel) ⌝ }
+    {
+        let events = [event];
+        let mut answers = [0u8; 1];
+        let r = self.in_turn(
+            image,
+            table,
+            starts,
+            bytes,
+            words,
+            offering,
+            &events,
+            fuel,
+            &mut answers,
+        );
+        if r.stop != 0 {
+            return self.refused(r.stop);
+        }
+        let head = r.head;
+        let counts = r.counts;
+        Called {
+            head: head,
+            answer: answer_from(answers[0]),
+            counts: counts,
+        }
     }
 }

@@ -26,6 +26,14 @@ pub fn next_state(table: &[u16], q: usize, a: usize) -> usize
     wide(table[2 + n + q * s + a])
 }
 
+// The same, where the rows are known to begin at `rows` and to have `width` words each: a step does not look them up again.
+pub fn next_at(table: &[u16], rows: usize, width: usize, q: usize, a: usize) -> usize
+    requires { ⌜ rows + q * width + a < length (now table) ⌝ }
+    ensures { λ r. ⌜ r ≡ getD (now (table .entry)) (rows + q * width + a) 0 ⌝ }
+{
+    wide(table[rows + q * width + a])
+}
+
 // The match word of state q.
 pub fn match_word(table: &[u16], q: usize) -> usize
     requires { ⌜ 2 + q < length (now table) ⌝ }
@@ -45,24 +53,16 @@ pub fn word_before(words: &[u16], n: usize) -> usize
     wide(words[n - 1])
 }
 
-// Sets bytes from .. to to 0.
-pub fn clear_bytes(bytes: &mut [u8], from: usize, to: usize)
+// Sets bytes and words from .. to to 0. Few are taken off at a time, so one loop for both is faster than two.
+pub fn clear(bytes: &mut [u8], words: &mut [u16], from: usize, to: usize)
     requires order { ⌜ from ≤ to ⌝ }
-    requires inside { ⌜ to ≤ length (now bytes) ⌝ }
-    ensures { λ _. ⌜ now (bytes .exit) ≡ paste (now (bytes .entry)) from (replicate (to - from) 0) (to - from) ⌝ }
+    requires bytes { ⌜ to ≤ length (now bytes) ⌝ }
+    requires words { ⌜ to ≤ length (now words) ⌝ }
+    ensures bytes { λ _. ⌜ now (bytes .exit) ≡ paste (now (bytes .entry)) from (replicate (to - from) 0) (to - from) ⌝ }
+    ensures words { λ _. ⌜ now (words .exit) ≡ paste (now (words .entry)) from (replicate (to - from) 0) (to - from) ⌝ }
 {
     for i in from..to {
         bytes[i] = 0;
-    }
-}
-
-// Sets words from .. to to 0.
-pub fn clear_words(words: &mut [u16], from: usize, to: usize)
-    requires order { ⌜ from ≤ to ⌝ }
-    requires inside { ⌜ to ≤ length (now words) ⌝ }
-    ensures { λ _. ⌜ now (words .exit) ≡ paste (now (words .entry)) from (replicate (to - from) 0) (to - from) ⌝ }
-{
-    for i in from..to {
         words[i] = 0;
     }
 }
@@ -78,8 +78,7 @@ pub fn take_off(bytes: &mut [u8], words: &mut [u16], first: usize, kept: usize, 
     ensures words { λ _. ⌜ now (words .exit) ≡ paste (now (words .entry)) kept (replicate (settled - kept) 0) (settled - kept) ⌝ }
 {
     bytes[first] = 0;
-    clear_bytes(bytes, kept, settled);
-    clear_words(words, kept, settled);
+    clear(bytes, words, kept, settled);
 }
 
 // Copies n symbols of the image, from `start` on, into the bytes from `to` on.

@@ -115,8 +115,7 @@ pub fn fresh(bytes: &mut [u8], words: &mut [u16]) -> Begun
             refusal: Refusal::Number(10),
         };
     }
-    held::clear_bytes(bytes, 0, CAPACITY);
-    held::clear_words(words, 0, CAPACITY);
+    held::clear(bytes, words, 0, CAPACITY);
     Begun {
         head: empty(),
         refusal: Refusal::None,
@@ -197,7 +196,7 @@ impl Head {
         }
         let mut starts = [0u16; 64];
         held::index(image, &mut starts);
-        self.offer_checked(image, table, &starts, bytes, words, event, fuel)
+        self.once(image, table, &starts, bytes, words, true, event, fuel)
     }
 
     // The call runs on.
@@ -218,7 +217,7 @@ impl Head {
         }
         let mut starts = [0u16; 64];
         held::index(image, &mut starts);
-        self.go_on_checked(image, table, &starts, bytes, words, fuel)
+        self.once(image, table, &starts, bytes, words, false, 0, fuel)
     }
 
     // The offers of all events, up to the first that is refused, with the dear checks made once.
@@ -251,6 +250,16 @@ impl Head {
         }
         let mut starts = [0u16; 64];
         held::index(image, &mut starts);
-        self.offers(image, table, &starts, bytes, words, events, fuel, answers)
+        self.in_turn(
+            image,
+            table,
+            &starts,
+            bytes,
+            words,
+            true,
+            events,
+            fuel,
+            answers,
+        )
     }
 }

@@ -10,7 +10,7 @@ ghost use Rattle.monitor.specs.State.{settle};
 ghost use Rattle.monitor.specs.Run.{run};
 ghost use Rattle.monitor.specs.Areas.{stateOf};
 ghost use Rattle.monitor.specs.Calls.{outcome};
-ghost use Rattle.monitor.specs.Lent.{lent, Passed, Starts, Matches, stepOf, tried, triedFrom, outcomeFrom};
+ghost use Rattle.monitor.specs.Lent.{lent, Passed, Starts, Matches, rowsIn, widthIn, stepOf, tried, triedFrom, outcomeFrom};
 use crate::Answer;
 use crate::Called;
 use crate::Counts;
@@ -103,12 +103,16 @@ impl Head {
         self,
         image: &[u8],
         table: &[u16],
+        rows: usize,
+        width: usize,
         starts: &[u16],
         bytes: &mut [u8],
         words: &mut [u16],
     ) -> Stepped
         requires lent { ⌜ Passed (length (now bytes)) (now image) (now table) (lent self (now bytes) (now words)) ⌝ }
         requires starts { ⌜ Starts (now image) (now starts) ⌝ }
+        requires rows { ⌜ rows ≡ rowsIn (now table) ⌝ }
+        requires width { ⌜ width ≡ widthIn (now table) ⌝ }
         requires waiting { ⌜ 0 < self .waiting ⌝ }
         requires active { ⌜ self .verdict ≡ Standing.None ⌝ }
         ensures { λ r. ⌜ triedFrom r (now (bytes .exit)) (now (words .exit))
@@ -119,7 +123,7 @@ impl Head {
         let first = bytes.len() - self.waiting;
         let symbol = bytes[first];
         let q = held::word_before(words, settled);
-        let next = held::next_state(table, q, symbol as usize);
+        let next = held::next_at(table, rows, width, q, symbol as usize);
         let matched = held::match_word(table, next);
         if matched != 0 {
             return self.rewrite(image, table, starts, bytes, words, matched - 1);
@@ -145,6 +149,8 @@ impl Head {
         self,
         image: &[u8],
         table: &[u16],
+        rows: usize,
+        width: usize,
         starts: &[u16],
         bytes: &mut [u8],
         words: &mut [u16],
@@ -152,6 +158,8 @@ impl Head {
     ) -> Called
         requires lent { ⌜ Passed (length (now bytes)) (now image) (now table) (lent self (now bytes) (now words)) ⌝ }
         requires starts { ⌜ Starts (now image) (now starts) ⌝ }
+        requires rows { ⌜ rows ≡ rowsIn (now table) ⌝ }
+        requires width { ⌜ width ≡ widthIn (now table) ⌝ }
         ensures { λ r. ⌜ outcomeFrom r (now (bytes .exit)) (now (words .exit))
             ≡ outcome (read (now (image .entry))) (length (now (bytes .entry))) (lent self (now (bytes .entry)) (now (words .entry))) none
             (run (read (now (image .entry)) .rules) (length (now (bytes .entry))) fuel (stateOf (lent self (now (bytes .entry)) (now (words .entry))))) ⌝ }
@@ -174,7 +182,7 @@ impl Head {
             if left == 0 {
                 return head.ended(Answer::Spent, fuel, rewrites, put);
             }
-            let stepped = head.step(image, table, starts, bytes, words);
+            let stepped = head.step(image, table, rows, width, starts, bytes, words);
             if !stepped.taken {
                 return head.ended(Answer::Full, fuel - left, rewrites, put);
             }

@@ -21,11 +21,8 @@ returns-2 : tie.Need-returns-2
 unfolding refusedAs
 returns-2 c = rw (c .empty2 .ensures) (other-length documentCapacity _ _ (other-words documentCapacity (c .before .before .before .before .before .args .bytes .now) (c .before .before .before .before .before .args .words .now) (c .before .before .if1 .left) (c .before .if2 .taken)))
 
-clear-bytes-requires : tie.Need-clear-bytes-requires
-clear-bytes-requires c κs = search needs
-
-clear-words-requires : tie.Need-clear-words-requires
-clear-words-requires c κs = search needs
+clear-requires : tie.Need-clear-requires
+clear-requires c κs = search needs
 
 empty-requires-3 : tie.Need-empty-requires-3
 empty-requires-3 c κs = search needs
@@ -38,7 +35,7 @@ same-length-2 c = search needs
 
 returns-3 : tie.Need-returns-3
 unfolding refusedAs
-returns-3 c = rw (c .empty3 .ensures) (cleared documentCapacity (c .before .before .before .before .before .before .before .before .before .before .before .before .before .args .bytes .now) (c .before .before .before .before .before .before .before .before .before .before .before .before .before .args .words .now) _ _ (c .before .before .before .before .before .before .before .before .before .before .if1 .left) (c .before .before .before .before .before .before .before .before .before .if2 .left) (c .before .before .before .before .before .before .before .clear-bytes .ensures) (c .before .before .before .clear-words .ensures))
+returns-3 c = rw (c .empty3 .ensures) (cleared documentCapacity (c .before .before .before .before .before .before .before .before .before .before .before .before .args .bytes .now) (c .before .before .before .before .before .before .before .before .before .before .before .before .args .words .now) _ _ (c .before .before .before .before .before .before .before .before .before .if1 .left) (c .before .before .before .before .before .before .before .before .if2 .left) (c .before .before .before .before .before .clear .ensures .0) (c .before .before .before .before .before .clear .ensures .1))
 
 pub fresh-spec : {M : Type 1} → statement M
 fresh-spec =
@@ -48,8 +45,7 @@ fresh-spec =
     returns
     empty-requires-2
     returns-2
-    clear-bytes-requires
-    clear-words-requires
+    clear-requires
     empty-requires-3
     same-length
     same-length-2

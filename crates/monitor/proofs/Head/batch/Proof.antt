@@ -1,13 +1,20 @@
--- `Head::batch` meets its contract, by the numbers of its checks and what `offers` gives back.
+-- `monitor::Head::batch` meets its contract: refused by the first of its checks that fails, or the offers one after another.
 -- Assumes nothing.
 use mathlib.Core.Path.{_∙_}
 use borrow.Author.Needs.{needs}
-use Rattle.monitor.specs.Lent.{refusedAs}
+use Rattle.monitor.specs.Areas.{documentCapacity, Monitor}
+use Rattle.monitor.specs.Lent.{lent, refusedAs, callWith}
+use Rattle.monitor.specs.Play.{offersOf}
+use Rattle.monitor.specs.Batch.{offers}
 use Rattle.monitor.proofs.LentRefusal.{lent-none, lent-some}
 use Rattle.monitor.proofs.Offering.{passed-sizes}
 use Rattle.monitor.proofs.BatchChecks.{passed-image, batch-lent-refused, batch-fuel-refused, batch-many-refused, batch-room-refused, batch-taken}
 use Rattle.monitor.proofs.Head.batch.Statement.{statement}
 use Rattle.monitor.proofs.Head.batch.Tie as tie
+
+-- what is lent
+abbrev given : tie.Start → Monitor
+given s = lent (s .args .self) (s .args .bytes .now) (s .args .words .now)
 
 refusal-requires : tie.Need-refusal-requires
 refusal-requires c κs = search needs
@@ -23,9 +30,7 @@ same-length-2 c = search needs
 
 returns : tie.Need-returns
 unfolding refusedAs
-returns c =
-    rw (c .batch-refused .ensures)
-    (batch-lent-refused _ _ _ _ _ _ _ _ (lent-some _ _ _ _ (c .before .before .refusal .ensures) (c .before .if1 .taken)))
+returns c = rw (c .batch-refused .ensures) (batch-lent-refused documentCapacity (c .before .before .before .before .before .before .before .before .before .before .before .args .image .now) (c .before .before .before .before .before .before .before .before .before .before .before .args .table .now) (given (c .before .before .before .before .before .before .before .before .before .before .before)) (c .before .before .before .before .before .before .before .before .before .before .before .args .events .now) (c .before .before .before .before .before .before .before .before .before .before .before .args .fuel) (c .before .before .before .before .before .before .before .before .before .before .before .args .answers .now) _ (lent-some documentCapacity (c .before .before .before .before .before .before .before .before .before .before .before .args .image .now) (c .before .before .before .before .before .before .before .before .before .before .before .args .table .now) (given (c .before .before .before .before .before .before .before .before .before .before .before)) (c .before .before .refusal .ensures) (c .before .if1 .taken)))
 
 batch-refused-requires-2 : tie.Need-batch-refused-requires-2
 batch-refused-requires-2 c κs = search needs
@@ -38,10 +43,7 @@ same-length-4 c = search needs
 
 returns-2 : tie.Need-returns-2
 unfolding refusedAs
-returns-2 c =
-    let checked = c .before .before in
-    let passed = lent-none _ _ _ _ (checked .before .refusal .ensures) (checked .if1 .left) in
-    rw (c .batch-refused2 .ensures) (batch-fuel-refused _ _ _ _ _ _ _ passed (c .before .if2 .taken))
+returns-2 c = rw (c .batch-refused2 .ensures) (batch-fuel-refused documentCapacity (c .before .before .before .before .before .before .before .before .before .before .before .before .args .image .now) (c .before .before .before .before .before .before .before .before .before .before .before .before .args .table .now) (given (c .before .before .before .before .before .before .before .before .before .before .before .before)) (c .before .before .before .before .before .before .before .before .before .before .before .before .args .events .now) (c .before .before .before .before .before .before .before .before .before .before .before .before .args .fuel) (c .before .before .before .before .before .before .before .before .before .before .before .before .args .answers .now) (lent-none documentCapacity (c .before .before .before .before .before .before .before .before .before .before .before .before .args .image .now) (c .before .before .before .before .before .before .before .before .before .before .before .before .args .table .now) (given (c .before .before .before .before .before .before .before .before .before .before .before .before)) (c .before .before .before .refusal .ensures) (c .before .before .if1 .left)) (c .before .if2 .taken))
 
 batch-refused-requires-3 : tie.Need-batch-refused-requires-3
 batch-refused-requires-3 c κs = search needs
@@ -54,11 +56,7 @@ same-length-6 c = search needs
 
 returns-3 : tie.Need-returns-3
 unfolding refusedAs
-returns-3 c =
-    let checked = c .before .before .before in
-    let passed = lent-none _ _ _ _ (checked .before .refusal .ensures) (checked .if1 .left) in
-    rw (c .batch-refused3 .ensures)
-    (batch-many-refused _ _ _ _ _ _ _ passed (c .before .before .if2 .left) (c .before .if3 .taken))
+returns-3 c = rw (c .batch-refused3 .ensures) (batch-many-refused documentCapacity (c .before .before .before .before .before .before .before .before .before .before .before .before .before .args .image .now) (c .before .before .before .before .before .before .before .before .before .before .before .before .before .args .table .now) (given (c .before .before .before .before .before .before .before .before .before .before .before .before .before)) (c .before .before .before .before .before .before .before .before .before .before .before .before .before .args .events .now) (c .before .before .before .before .before .before .before .before .before .before .before .before .before .args .fuel) (c .before .before .before .before .before .before .before .before .before .before .before .before .before .args .answers .now) (lent-none documentCapacity (c .before .before .before .before .before .before .before .before .before .before .before .before .before .args .image .now) (c .before .before .before .before .before .before .before .before .before .before .before .before .before .args .table .now) (given (c .before .before .before .before .before .before .before .before .before .before .before .before .before)) (c .before .before .before .before .refusal .ensures) (c .before .before .before .if1 .left)) (c .before .before .if2 .left) (c .before .if3 .taken))
 
 batch-refused-requires-4 : tie.Need-batch-refused-requires-4
 batch-refused-requires-4 c κs = search needs
@@ -71,30 +69,19 @@ same-length-8 c = search needs
 
 returns-4 : tie.Need-returns-4
 unfolding refusedAs
-returns-4 c =
-    let checked = c .before .before .before .before in
-    let passed = lent-none _ _ _ _ (checked .before .refusal .ensures) (checked .if1 .left) in
-    rw (c .batch-refused4 .ensures)
-    (batch-room-refused _ _ _ _ _ _ _ passed (c .before .before .before .if2 .left) (c .before .before .if3 .left) (c .before .if4 .taken))
+returns-4 c = rw (c .batch-refused4 .ensures) (batch-room-refused documentCapacity (c .before .before .before .before .before .before .before .before .before .before .before .before .before .before .args .image .now) (c .before .before .before .before .before .before .before .before .before .before .before .before .before .before .args .table .now) (given (c .before .before .before .before .before .before .before .before .before .before .before .before .before .before)) (c .before .before .before .before .before .before .before .before .before .before .before .before .before .before .args .events .now) (c .before .before .before .before .before .before .before .before .before .before .before .before .before .before .args .fuel) (c .before .before .before .before .before .before .before .before .before .before .before .before .before .before .args .answers .now) (lent-none documentCapacity (c .before .before .before .before .before .before .before .before .before .before .before .before .before .before .args .image .now) (c .before .before .before .before .before .before .before .before .before .before .before .before .before .before .args .table .now) (given (c .before .before .before .before .before .before .before .before .before .before .before .before .before .before)) (c .before .before .before .before .before .refusal .ensures) (c .before .before .before .before .if1 .left)) (c .before .before .before .if2 .left) (c .before .before .if3 .left) (c .before .if4 .taken))
 
 slice-aggregate-index : tie.Need-slice-aggregate-index
 slice-aggregate-index c = search needs
 
 index-requires : tie.Need-index-requires
-index-requires c κs =
-    let checked = c .before .before .before .before in
-    passed-image _ _ _ _ (lent-none _ _ _ _ (checked .before .refusal .ensures) (checked .if1 .left))
+index-requires c κs = passed-image documentCapacity (c .before .before .before .before .before .before .before .before .before .before .before .before .before .before .args .image .now) (c .before .before .before .before .before .before .before .before .before .before .before .before .before .before .args .table .now) (given (c .before .before .before .before .before .before .before .before .before .before .before .before .before .before)) (lent-none documentCapacity (c .before .before .before .before .before .before .before .before .before .before .before .before .before .before .args .image .now) (c .before .before .before .before .before .before .before .before .before .before .before .before .before .before .args .table .now) (given (c .before .before .before .before .before .before .before .before .before .before .before .before .before .before)) (c .before .before .before .before .before .refusal .ensures) (c .before .before .before .before .if1 .left))
 
-slice-aggregate-offers : tie.Need-slice-aggregate-offers
-slice-aggregate-offers c = search needs
+slice-aggregate-in-turn : tie.Need-slice-aggregate-in-turn
+slice-aggregate-in-turn c = search needs
 
-offers-requires : tie.Need-offers-requires
-offers-requires c κs =
-    let indexed = c .before .before .before .before .before in
-    let tested = indexed .before .before in
-    let checked = tested .before .before .before in
-    let passed = lent-none _ _ _ _ (checked .before .refusal .ensures) (checked .if1 .left) in
-    (rw (passed-sizes _ _ _ _ passed .0) passed, (indexed .index .ensures, (tested .before .before .if2 .left, (tested .before .if3 .left, tested .if4 .left))))
+in-turn-requires : tie.Need-in-turn-requires
+in-turn-requires c κs = (rw (passed-sizes documentCapacity (c .before .before .before .before .before .before .before .before .before .before .before .before .before .before .before .before .before .before .before .before .args .image .now) (c .before .before .before .before .before .before .before .before .before .before .before .before .before .before .before .before .before .before .before .before .args .table .now) (given (c .before .before .before .before .before .before .before .before .before .before .before .before .before .before .before .before .before .before .before .before)) (lent-none documentCapacity (c .before .before .before .before .before .before .before .before .before .before .before .before .before .before .before .before .before .before .before .before .args .image .now) (c .before .before .before .before .before .before .before .before .before .before .before .before .before .before .before .before .before .before .before .before .args .table .now) (given (c .before .before .before .before .before .before .before .before .before .before .before .before .before .before .before .before .before .before .before .before)) (c .before .before .before .before .before .before .before .before .before .before .before .refusal .ensures) (c .before .before .before .before .before .before .before .before .before .before .if1 .left)) .0) (lent-none documentCapacity (c .before .before .before .before .before .before .before .before .before .before .before .before .before .before .before .before .before .before .before .before .args .image .now) (c .before .before .before .before .before .before .before .before .before .before .before .before .before .before .before .before .before .before .before .before .args .table .now) (given (c .before .before .before .before .before .before .before .before .before .before .before .before .before .before .before .before .before .before .before .before)) (c .before .before .before .before .before .before .before .before .before .before .before .refusal .ensures) (c .before .before .before .before .before .before .before .before .before .before .if1 .left)), (c .before .before .before .before .before .index .ensures, (c .before .before .before .before .before .before .before .before .if3 .left, c .before .before .before .before .before .before .before .if4 .left)))
 
 same-length-9 : tie.Need-same-length-9
 same-length-9 c = search needs
@@ -106,13 +93,8 @@ same-length-11 : tie.Need-same-length-11
 same-length-11 c = search needs
 
 returns-5 : tie.Need-returns-5
-returns-5 c =
-    let made = c .before .before .before .before .before .before in
-    let tested = made .before .before .before .before .before .before .before .before in
-    let checked = tested .before .before .before in
-    let passed = lent-none _ _ _ _ (checked .before .refusal .ensures) (checked .if1 .left) in
-    rw (passed-sizes _ _ _ _ passed .0) at (made .offers .ensures)
-    ∙ batch-taken _ _ _ _ _ _ _ passed (tested .before .before .if2 .left) (tested .before .if3 .left) (tested .if4 .left)
+unfolding offers offersOf callWith
+returns-5 c = rw (passed-sizes documentCapacity (c .before .before .before .before .before .before .before .before .before .before .before .before .before .before .before .before .before .before .before .before .before .before .before .before .before .before .before .args .image .now) (c .before .before .before .before .before .before .before .before .before .before .before .before .before .before .before .before .before .before .before .before .before .before .before .before .before .before .before .args .table .now) (given (c .before .before .before .before .before .before .before .before .before .before .before .before .before .before .before .before .before .before .before .before .before .before .before .before .before .before .before)) (lent-none documentCapacity (c .before .before .before .before .before .before .before .before .before .before .before .before .before .before .before .before .before .before .before .before .before .before .before .before .before .before .before .args .image .now) (c .before .before .before .before .before .before .before .before .before .before .before .before .before .before .before .before .before .before .before .before .before .before .before .before .before .before .before .args .table .now) (given (c .before .before .before .before .before .before .before .before .before .before .before .before .before .before .before .before .before .before .before .before .before .before .before .before .before .before .before)) (c .before .before .before .before .before .before .before .before .before .before .before .before .before .before .before .before .before .before .refusal .ensures) (c .before .before .before .before .before .before .before .before .before .before .before .before .before .before .before .before .before .if1 .left)) .0) at (c .before .before .before .before .before .before .in-turn .ensures) ∙ batch-taken documentCapacity (c .before .before .before .before .before .before .before .before .before .before .before .before .before .before .before .before .before .before .before .before .before .before .before .before .before .before .before .args .image .now) (c .before .before .before .before .before .before .before .before .before .before .before .before .before .before .before .before .before .before .before .before .before .before .before .before .before .before .before .args .table .now) (given (c .before .before .before .before .before .before .before .before .before .before .before .before .before .before .before .before .before .before .before .before .before .before .before .before .before .before .before)) (c .before .before .before .before .before .before .before .before .before .before .before .before .before .before .before .before .before .before .before .before .before .before .before .before .before .before .before .args .events .now) (c .before .before .before .before .before .before .before .before .before .before .before .before .before .before .before .before .before .before .before .before .before .before .before .before .before .before .before .args .fuel) (c .before .before .before .before .before .before .before .before .before .before .before .before .before .before .before .before .before .before .before .before .before .before .before .before .before .before .before .args .answers .now) (lent-none documentCapacity (c .before .before .before .before .before .before .before .before .before .before .before .before .before .before .before .before .before .before .before .before .before .before .before .before .before .before .before .args .image .now) (c .before .before .before .before .before .before .before .before .before .before .before .before .before .before .before .before .before .before .before .before .before .before .before .before .before .before .before .args .table .now) (given (c .before .before .before .before .before .before .before .before .before .before .before .before .before .before .before .before .before .before .before .before .before .before .before .before .before .before .before)) (c .before .before .before .before .before .before .before .before .before .before .before .before .before .before .before .before .before .before .refusal .ensures) (c .before .before .before .before .before .before .before .before .before .before .before .before .before .before .before .before .before .if1 .left)) (c .before .before .before .before .before .before .before .before .before .before .before .before .before .before .before .before .if2 .left) (c .before .before .before .before .before .before .before .before .before .before .before .before .before .before .before .if3 .left) (c .before .before .before .before .before .before .before .before .before .before .before .before .before .before .if4 .left)
 
 pub batch-spec : {M : Type 1} → statement M
 batch-spec =
@@ -137,8 +119,8 @@ batch-spec =
     returns-4
     slice-aggregate-index
     index-requires
-    slice-aggregate-offers
-    offers-requires
+    slice-aggregate-in-turn
+    in-turn-requires
     same-length-9
     same-length-10
     same-length-11

@@ -10,10 +10,10 @@ use Rattle.monitor.proofs.Head.run.Statement.{statement}
 use Rattle.monitor.proofs.Head.run.Tie as tie
 
 abbrev Inv-loop : tie.InvT-loop
-Inv-loop image table starts bytes₀ words₀ fuel head₀ left₀ rewrites₀ put₀ bytes words head left rewrites put = Running image table bytes₀ words₀ fuel head₀ bytes words head left rewrites put
+Inv-loop image table rows width starts bytes₀ words₀ fuel head₀ left₀ rewrites₀ put₀ bytes words head left rewrites put = Running image table bytes₀ words₀ fuel head₀ bytes words head left rewrites put
 
 abbrev μ-loop : tie.MeasureT-loop
-μ-loop image table starts bytes₀ words₀ fuel head₀ left₀ rewrites₀ put₀ bytes words head left rewrites put = left
+μ-loop image table rows width starts bytes₀ words₀ fuel head₀ left₀ rewrites₀ put₀ bytes words head left rewrites put = left
 
 loop-holds : tie.Need-loop-holds Inv-loop μ-loop
 loop-holds c = running-first (c .before .before .before .before .before .args .image .now) (c .before .before .before .before .before .args .table .now) (c .before .before .before .before .before .args .bytes .now) (c .before .before .before .before .before .args .words .now) (c .before .before .before .before .before .args .fuel) (c .before .before .before .before .before .args .self) (c .before .before .before .before .before .pre .0)
@@ -67,7 +67,7 @@ returns-3 : tie.Need-returns-3 Inv-loop μ-loop
 returns-3 c = rw (c .ended3 .ensures) (spent-ends (c .before .before .before .before .before .before .loop .inv) (c .before .before .before .before .enum-told .given .1) (c .before .before .if1 .left) (c .before .if2 .taken))
 
 step-requires : tie.Need-step-requires Inv-loop μ-loop
-step-requires c κs = (running-asks (c .before .before .before .before .before .before .before .loop .inv), (c .before .before .before .before .before .before .before .before .before .before .before .before .before .pre .1, (omega (arith, c .before .before .before .if1 .left), c .before .before .before .before .before .enum-told .given .1)))
+step-requires c κs = (running-asks (c .before .before .before .before .before .before .before .loop .inv), (c .before .before .before .before .before .before .before .before .before .before .before .before .before .pre .1 .0, (c .before .before .before .before .before .before .before .before .before .before .before .before .before .pre .1 .1 .0, (c .before .before .before .before .before .before .before .before .before .before .before .before .before .pre .1 .1 .1, (omega (arith, c .before .before .before .if1 .left), c .before .before .before .before .before .enum-told .given .1)))))
 
 sub-ended-3 : tie.Need-sub-ended-3 Inv-loop μ-loop
 sub-ended-3 c = omega (arith, c .before .before .before .before .before .before .before .before .before .before .before .before .before .before .loop .inv .fuel-left)
@@ -76,28 +76,28 @@ ended-requires-4 : tie.Need-ended-requires-4 Inv-loop μ-loop
 ended-requires-4 c κs = search needs
 
 same-length-7 : tie.Need-same-length-7 Inv-loop μ-loop
-same-length-7 c = c .before .before .before .before .before .before .before .step .kept .1 .1 .1 .1 .0 ∙ c .before .before .before .before .before .before .before .before .before .before .before .before .before .before .before .loop .inv .bytes-kept
+same-length-7 c = c .before .before .before .before .before .before .before .step .kept .1 .1 .1 .1 .1 .1 .0 ∙ c .before .before .before .before .before .before .before .before .before .before .before .before .before .before .before .loop .inv .bytes-kept
 
 same-length-8 : tie.Need-same-length-8 Inv-loop μ-loop
-same-length-8 c = c .before .before .before .before .before .before .before .step .kept .1 .1 .1 .1 .1 .0 ∙ c .before .before .before .before .before .before .before .before .before .before .before .before .before .before .before .loop .inv .words-kept
+same-length-8 c = c .before .before .before .before .before .before .before .step .kept .1 .1 .1 .1 .1 .1 .1 .0 ∙ c .before .before .before .before .before .before .before .before .before .before .before .before .before .before .before .loop .inv .words-kept
 
 returns-4 : tie.Need-returns-4 Inv-loop μ-loop
-returns-4 c = rw (c .ended4 .ensures) (full-ends (c .before .before .before .before .before .before .before .before .before .before .before .before .before .before .before .loop .inv) (c .before .before .before .before .before .before .before .before .before .before .before .before .before .enum-told .given .1) (c .before .before .before .before .before .before .before .before .before .before .before .if1 .left) (c .before .before .before .before .before .before .before .before .before .before .if2 .left) (triedFrom (c .before .before .before .before .before .before .before .step .result) (c .before .before .before .before .before .before .before .step .last .1 .1 .1 .1 .0) (c .before .before .before .before .before .before .before .step .last .1 .1 .1 .1 .1 .0)) (not-true _ (c .before .if3 .taken)) (c .before .before .before .before .before .before .before .step .ensures))
+returns-4 c = rw (c .ended4 .ensures) (full-ends (c .before .before .before .before .before .before .before .before .before .before .before .before .before .before .before .loop .inv) (c .before .before .before .before .before .before .before .before .before .before .before .before .before .enum-told .given .1) (c .before .before .before .before .before .before .before .before .before .before .before .if1 .left) (c .before .before .before .before .before .before .before .before .before .before .if2 .left) (triedFrom (c .before .before .before .before .before .before .before .step .result) (c .before .before .before .before .before .before .before .step .last .1 .1 .1 .1 .1 .1 .0) (c .before .before .before .before .before .before .before .step .last .1 .1 .1 .1 .1 .1 .1 .0)) (not-true _ (c .before .if3 .taken)) (c .before .before .before .before .before .before .before .step .ensures))
 
 sub-left : tie.Need-sub-left Inv-loop μ-loop
 sub-left c = omega (arith, c .before .before .before .before .before .before .before .before .before .before .if2 .left)
 
 add-rewrites : tie.Need-add-rewrites Inv-loop μ-loop
-add-rewrites c = omega (arith, running-next (c .before .before .before .before .before .before .before .before .before .before .before .before .before .before .before .before .loop .inv) (c .before .before .before .before .before .before .before .before .before .before .before .before .before .before .enum-told .given .1) (c .before .before .before .before .before .before .before .before .before .before .before .before .if1 .left) (c .before .before .before .before .before .before .before .before .before .before .before .if2 .left) (triedFrom (c .before .before .before .before .before .before .before .before .step .result) (c .before .before .before .before .before .before .before .before .step .last .1 .1 .1 .1 .0) (c .before .before .before .before .before .before .before .before .step .last .1 .1 .1 .1 .1 .0)) (not-false _ (c .before .before .if3 .left)) (c .before .before .before .before .before .before .before .before .step .ensures) (c .before .before .before .before .before .before .before .before .step .kept .1 .1 .1 .1 .0) (c .before .before .before .before .before .before .before .before .step .kept .1 .1 .1 .1 .1 .0) .few-rewrites, c .before .before .before .before .before .before .before .before .before .before .before .before .before .before .before .before .before .before .before .before .before .before .fits .fuel)
+add-rewrites c = omega (arith, running-next (c .before .before .before .before .before .before .before .before .before .before .before .before .before .before .before .before .loop .inv) (c .before .before .before .before .before .before .before .before .before .before .before .before .before .before .enum-told .given .1) (c .before .before .before .before .before .before .before .before .before .before .before .before .if1 .left) (c .before .before .before .before .before .before .before .before .before .before .before .if2 .left) (triedFrom (c .before .before .before .before .before .before .before .before .step .result) (c .before .before .before .before .before .before .before .before .step .last .1 .1 .1 .1 .1 .1 .0) (c .before .before .before .before .before .before .before .before .step .last .1 .1 .1 .1 .1 .1 .1 .0)) (not-false _ (c .before .before .if3 .left)) (c .before .before .before .before .before .before .before .before .step .ensures) (c .before .before .before .before .before .before .before .before .step .kept .1 .1 .1 .1 .1 .1 .0) (c .before .before .before .before .before .before .before .before .step .kept .1 .1 .1 .1 .1 .1 .1 .0) .few-rewrites, c .before .before .before .before .before .before .before .before .before .before .before .before .before .before .before .before .before .before .before .before .before .before .fits .fuel)
 
 add-put : tie.Need-add-put Inv-loop μ-loop
-add-put c = omega (arith, running-next (c .before .before .before .before .before .before .before .before .before .before .before .before .before .before .before .before .before .loop .inv) (c .before .before .before .before .before .before .before .before .before .before .before .before .before .before .before .enum-told .given .1) (c .before .before .before .before .before .before .before .before .before .before .before .before .before .if1 .left) (c .before .before .before .before .before .before .before .before .before .before .before .before .if2 .left) (triedFrom (c .before .before .before .before .before .before .before .before .before .step .result) (c .before .before .before .before .before .before .before .before .before .step .last .1 .1 .1 .1 .0) (c .before .before .before .before .before .before .before .before .before .step .last .1 .1 .1 .1 .1 .0)) (not-false _ (c .before .before .before .if3 .left)) (c .before .before .before .before .before .before .before .before .before .step .ensures) (c .before .before .before .before .before .before .before .before .before .step .kept .1 .1 .1 .1 .0) (c .before .before .before .before .before .before .before .before .before .step .kept .1 .1 .1 .1 .1 .0) .few-rewrites, running-next (c .before .before .before .before .before .before .before .before .before .before .before .before .before .before .before .before .before .loop .inv) (c .before .before .before .before .before .before .before .before .before .before .before .before .before .before .before .enum-told .given .1) (c .before .before .before .before .before .before .before .before .before .before .before .before .before .if1 .left) (c .before .before .before .before .before .before .before .before .before .before .before .before .if2 .left) (triedFrom (c .before .before .before .before .before .before .before .before .before .step .result) (c .before .before .before .before .before .before .before .before .before .step .last .1 .1 .1 .1 .0) (c .before .before .before .before .before .before .before .before .before .step .last .1 .1 .1 .1 .1 .0)) (not-false _ (c .before .before .before .if3 .left)) (c .before .before .before .before .before .before .before .before .before .step .ensures) (c .before .before .before .before .before .before .before .before .before .step .kept .1 .1 .1 .1 .0) (c .before .before .before .before .before .before .before .before .before .step .kept .1 .1 .1 .1 .1 .0) .few-put, c .before .before .before .before .before .before .before .before .before .before .before .before .before .before .before .before .before .before .before .before .before .before .before .fits .fuel)
+add-put c = omega (arith, running-next (c .before .before .before .before .before .before .before .before .before .before .before .before .before .before .before .before .before .loop .inv) (c .before .before .before .before .before .before .before .before .before .before .before .before .before .before .before .enum-told .given .1) (c .before .before .before .before .before .before .before .before .before .before .before .before .before .if1 .left) (c .before .before .before .before .before .before .before .before .before .before .before .before .if2 .left) (triedFrom (c .before .before .before .before .before .before .before .before .before .step .result) (c .before .before .before .before .before .before .before .before .before .step .last .1 .1 .1 .1 .1 .1 .0) (c .before .before .before .before .before .before .before .before .before .step .last .1 .1 .1 .1 .1 .1 .1 .0)) (not-false _ (c .before .before .before .if3 .left)) (c .before .before .before .before .before .before .before .before .before .step .ensures) (c .before .before .before .before .before .before .before .before .before .step .kept .1 .1 .1 .1 .1 .1 .0) (c .before .before .before .before .before .before .before .before .before .step .kept .1 .1 .1 .1 .1 .1 .1 .0) .few-rewrites, running-next (c .before .before .before .before .before .before .before .before .before .before .before .before .before .before .before .before .before .loop .inv) (c .before .before .before .before .before .before .before .before .before .before .before .before .before .before .before .enum-told .given .1) (c .before .before .before .before .before .before .before .before .before .before .before .before .before .if1 .left) (c .before .before .before .before .before .before .before .before .before .before .before .before .if2 .left) (triedFrom (c .before .before .before .before .before .before .before .before .before .step .result) (c .before .before .before .before .before .before .before .before .before .step .last .1 .1 .1 .1 .1 .1 .0) (c .before .before .before .before .before .before .before .before .before .step .last .1 .1 .1 .1 .1 .1 .1 .0)) (not-false _ (c .before .before .before .if3 .left)) (c .before .before .before .before .before .before .before .before .before .step .ensures) (c .before .before .before .before .before .before .before .before .before .step .kept .1 .1 .1 .1 .1 .1 .0) (c .before .before .before .before .before .before .before .before .before .step .kept .1 .1 .1 .1 .1 .1 .1 .0) .few-put, c .before .before .before .before .before .before .before .before .before .before .before .before .before .before .before .before .before .before .before .before .before .before .before .fits .fuel)
 
 loop-less : tie.Need-loop-less Inv-loop μ-loop
 loop-less c = search needs
 
 loop-again : tie.Need-loop-again Inv-loop μ-loop
-loop-again c = running-next (c .before .before .before .before .before .before .before .before .before .before .before .before .before .before .before .before .before .loop .inv) (c .before .before .before .before .before .before .before .before .before .before .before .before .before .before .before .enum-told .given .1) (c .before .before .before .before .before .before .before .before .before .before .before .before .before .if1 .left) (c .before .before .before .before .before .before .before .before .before .before .before .before .if2 .left) (triedFrom (c .before .before .before .before .before .before .before .before .before .step .result) (c .before .before .before .before .before .before .before .before .before .step .last .1 .1 .1 .1 .0) (c .before .before .before .before .before .before .before .before .before .step .last .1 .1 .1 .1 .1 .0)) (not-false _ (c .before .before .before .if3 .left)) (c .before .before .before .before .before .before .before .before .before .step .ensures) (c .before .before .before .before .before .before .before .before .before .step .kept .1 .1 .1 .1 .0) (c .before .before .before .before .before .before .before .before .before .step .kept .1 .1 .1 .1 .1 .0)
+loop-again c = running-next (c .before .before .before .before .before .before .before .before .before .before .before .before .before .before .before .before .before .loop .inv) (c .before .before .before .before .before .before .before .before .before .before .before .before .before .before .before .enum-told .given .1) (c .before .before .before .before .before .before .before .before .before .before .before .before .before .if1 .left) (c .before .before .before .before .before .before .before .before .before .before .before .before .if2 .left) (triedFrom (c .before .before .before .before .before .before .before .before .before .step .result) (c .before .before .before .before .before .before .before .before .before .step .last .1 .1 .1 .1 .1 .1 .0) (c .before .before .before .before .before .before .before .before .before .step .last .1 .1 .1 .1 .1 .1 .1 .0)) (not-false _ (c .before .before .before .if3 .left)) (c .before .before .before .before .before .before .before .before .before .step .ensures) (c .before .before .before .before .before .before .before .before .before .step .kept .1 .1 .1 .1 .1 .1 .0) (c .before .before .before .before .before .before .before .before .before .step .kept .1 .1 .1 .1 .1 .1 .1 .0)
 
 pub run-spec : {M : Type 1} → statement M
 run-spec =

@@ -23,35 +23,35 @@ facts s = held (length (s .args .bytes .now)) (s .args .image .now) (s .args .ta
 
 -- a symbol waits
 one : (s : tie.Start) → (a : ℕ) × (q : List ℕ) × (stateOf (given s) .waiting ≡ a ∷ q)
-one s = waits (read (s .args .image .now)) (length (s .args .bytes .now)) (given s) (facts s) (s .pre .1 .1 .0)
+one s = waits (read (s .args .image .now)) (length (s .args .bytes .now)) (given s) (facts s) (s .pre .1 .1 .1 .1 .0)
 
 symbol : (s : tie.Start) → getD (s .args .bytes .now) (length (s .args .bytes .now) - s .args .self .waiting) 0 ≡ one s .0
 symbol s =
     symbol-is (length (s .args .bytes .now)) (s .args .image .now) (s .args .table .now) (given s) (s .pre .0) (one s .0) (one s .1) (one s .2) _ refl
 
 sub-first : tie.Need-sub-first
-sub-first c = omega (arith, facts (c .before .before .before .before .before .before), c .before .before .before .before .before .before .pre .1 .1 .0)
+sub-first c = omega (arith, facts (c .before .before .before .before .before .before), c .before .before .before .before .before .before .pre .1 .1 .1 .1 .0)
 
 slice-read-symbol : tie.Need-slice-read-symbol
-slice-read-symbol c = omega (arith, facts (c .before .before .before .before .before .before .before), c .before .before .before .before .before .before .before .pre .1 .1 .0)
+slice-read-symbol c = omega (arith, facts (c .before .before .before .before .before .before .before), c .before .before .before .before .before .before .before .pre .1 .1 .1 .1 .0)
 
 word-before-requires : tie.Need-word-before-requires
-word-before-requires c κs = omega (arith, facts (c .before .before .before .before .before .before .before .before), c .before .before .before .before .before .before .before .before .pre .1 .1 .0)
+word-before-requires c κs = omega (arith, facts (c .before .before .before .before .before .before .before .before), c .before .before .before .before .before .before .before .before .pre .1 .1 .1 .1 .0)
 
-cast-next-state : tie.Need-cast-next-state
-cast-next-state c = omega (arith, symbol (c .before .before .before .before .before .before .before .before .before), symbol-small (length (c .before .before .before .before .before .before .before .before .before .args .bytes .now)) (c .before .before .before .before .before .before .before .before .before .args .image .now) (c .before .before .before .before .before .before .before .before .before .args .table .now) (given (c .before .before .before .before .before .before .before .before .before)) (c .before .before .before .before .before .before .before .before .before .pre .0) (one (c .before .before .before .before .before .before .before .before .before) .0) (one (c .before .before .before .before .before .before .before .before .before) .1) (one (c .before .before .before .before .before .before .before .before .before) .2))
+cast-next-at : tie.Need-cast-next-at
+cast-next-at c = omega (arith, symbol (c .before .before .before .before .before .before .before .before .before), symbol-small (length (c .before .before .before .before .before .before .before .before .before .args .bytes .now)) (c .before .before .before .before .before .before .before .before .before .args .image .now) (c .before .before .before .before .before .before .before .before .before .args .table .now) (given (c .before .before .before .before .before .before .before .before .before)) (c .before .before .before .before .before .before .before .before .before .pre .0) (one (c .before .before .before .before .before .before .before .before .before) .0) (one (c .before .before .before .before .before .before .before .before .before) .1) (one (c .before .before .before .before .before .before .before .before .before) .2))
 
-next-state-requires : tie.Need-next-state-requires
-next-state-requires c κs = next-asks (length (c .before .before .before .before .before .before .before .before .before .args .bytes .now)) (c .before .before .before .before .before .before .before .before .before .args .image .now) (c .before .before .before .before .before .before .before .before .before .args .table .now) (given (c .before .before .before .before .before .before .before .before .before)) (c .before .before .before .before .before .before .before .before .before .pre .0) (one (c .before .before .before .before .before .before .before .before .before) .0) (one (c .before .before .before .before .before .before .before .before .before) .1) (one (c .before .before .before .before .before .before .before .before .before) .2) _ _ (c .word-before .ensures) (symbol (c .before .before .before .before .before .before .before .before .before))
+next-at-requires : tie.Need-next-at-requires
+next-at-requires c κs = rw (c .before .before .before .before .before .before .before .before .before .pre .1 .1 .0, c .before .before .before .before .before .before .before .before .before .pre .1 .1 .1 .0) (next-asks (length (c .before .before .before .before .before .before .before .before .before .args .bytes .now)) (c .before .before .before .before .before .before .before .before .before .args .image .now) (c .before .before .before .before .before .before .before .before .before .args .table .now) (given (c .before .before .before .before .before .before .before .before .before)) (c .before .before .before .before .before .before .before .before .before .pre .0) (one (c .before .before .before .before .before .before .before .before .before) .0) (one (c .before .before .before .before .before .before .before .before .before) .1) (one (c .before .before .before .before .before .before .before .before .before) .2) _ _ (c .word-before .ensures) (symbol (c .before .before .before .before .before .before .before .before .before)) .1)
 
 match-word-requires : tie.Need-match-word-requires
-match-word-requires c κs = match-asks (length (c .before .before .before .before .before .before .before .before .before .before .args .bytes .now)) (c .before .before .before .before .before .before .before .before .before .before .args .image .now) (c .before .before .before .before .before .before .before .before .before .before .args .table .now) (given (c .before .before .before .before .before .before .before .before .before .before)) (c .before .before .before .before .before .before .before .before .before .before .pre .0) (one (c .before .before .before .before .before .before .before .before .before .before) .0) (one (c .before .before .before .before .before .before .before .before .before .before) .1) (one (c .before .before .before .before .before .before .before .before .before .before) .2) _ (next-is (length (c .before .before .before .before .before .before .before .before .before .before .args .bytes .now)) (c .before .before .before .before .before .before .before .before .before .before .args .image .now) (c .before .before .before .before .before .before .before .before .before .before .args .table .now) (given (c .before .before .before .before .before .before .before .before .before .before)) (c .before .before .before .before .before .before .before .before .before .before .pre .0) (one (c .before .before .before .before .before .before .before .before .before .before) .0) (one (c .before .before .before .before .before .before .before .before .before .before) .1) (one (c .before .before .before .before .before .before .before .before .before .before) .2) _ _ _ (c .before .word-before .ensures) (symbol (c .before .before .before .before .before .before .before .before .before .before)) (c .next-state .ensures))
+match-word-requires c κs = match-asks (length (c .before .before .before .before .before .before .before .before .before .before .args .bytes .now)) (c .before .before .before .before .before .before .before .before .before .before .args .image .now) (c .before .before .before .before .before .before .before .before .before .before .args .table .now) (given (c .before .before .before .before .before .before .before .before .before .before)) (c .before .before .before .before .before .before .before .before .before .before .pre .0) (one (c .before .before .before .before .before .before .before .before .before .before) .0) (one (c .before .before .before .before .before .before .before .before .before .before) .1) (one (c .before .before .before .before .before .before .before .before .before .before) .2) _ (next-is (length (c .before .before .before .before .before .before .before .before .before .before .args .bytes .now)) (c .before .before .before .before .before .before .before .before .before .before .args .image .now) (c .before .before .before .before .before .before .before .before .before .before .args .table .now) (given (c .before .before .before .before .before .before .before .before .before .before)) (c .before .before .before .before .before .before .before .before .before .before .pre .0) (one (c .before .before .before .before .before .before .before .before .before .before) .0) (one (c .before .before .before .before .before .before .before .before .before .before) .1) (one (c .before .before .before .before .before .before .before .before .before .before) .2) _ _ _ (c .before .word-before .ensures) (symbol (c .before .before .before .before .before .before .before .before .before .before)) (rw (c .before .before .before .before .before .before .before .before .before .before .pre .1 .1 .0, c .before .before .before .before .before .before .before .before .before .before .pre .1 .1 .1 .0) at (c .next-at .ensures)))
 
 sub-rewrite : tie.Need-sub-rewrite
 sub-rewrite c = search needs
 
 rewrite-requires : tie.Need-rewrite-requires
-rewrite-requires c κs = (c .before .before .before .before .before .before .before .before .before .before .before .before .before .before .pre .0, (c .before .before .before .before .before .before .before .before .before .before .before .before .before .before .pre .1 .0, (one (c .before .before .before .before .before .before .before .before .before .before .before .before .before .before) .0, one (c .before .before .before .before .before .before .before .before .before .before .before .before .before .before) .1, one (c .before .before .before .before .before .before .before .before .before .before .before .before .before .before) .2, some-match _ _ (match-is (length (c .before .before .before .before .before .before .before .before .before .before .before .before .before .before .args .bytes .now)) (c .before .before .before .before .before .before .before .before .before .before .before .before .before .before .args .image .now) (c .before .before .before .before .before .before .before .before .before .before .before .before .before .before .args .table .now) (given (c .before .before .before .before .before .before .before .before .before .before .before .before .before .before)) (c .before .before .before .before .before .before .before .before .before .before .before .before .before .before .pre .0) (one (c .before .before .before .before .before .before .before .before .before .before .before .before .before .before) .0) (one (c .before .before .before .before .before .before .before .before .before .before .before .before .before .before) .1) (one (c .before .before .before .before .before .before .before .before .before .before .before .before .before .before) .2) _ (next-is (length (c .before .before .before .before .before .before .before .before .before .before .before .before .before .before .args .bytes .now)) (c .before .before .before .before .before .before .before .before .before .before .before .before .before .before .args .image .now) (c .before .before .before .before .before .before .before .before .before .before .before .before .before .before .args .table .now) (given (c .before .before .before .before .before .before .before .before .before .before .before .before .before .before)) (c .before .before .before .before .before .before .before .before .before .before .before .before .before .before .pre .0) (one (c .before .before .before .before .before .before .before .before .before .before .before .before .before .before) .0) (one (c .before .before .before .before .before .before .before .before .before .before .before .before .before .before) .1) (one (c .before .before .before .before .before .before .before .before .before .before .before .before .before .before) .2) _ _ _ (c .before .before .before .before .before .word-before .ensures) (symbol (c .before .before .before .before .before .before .before .before .before .before .before .before .before .before)) (c .before .before .before .before .next-state .ensures)) _ (c .before .before .before .match-word .ensures)) (c .before .before .if1 .taken))))
+rewrite-requires c κs = (c .before .before .before .before .before .before .before .before .before .before .before .before .before .before .pre .0, (c .before .before .before .before .before .before .before .before .before .before .before .before .before .before .pre .1 .0, (one (c .before .before .before .before .before .before .before .before .before .before .before .before .before .before) .0, one (c .before .before .before .before .before .before .before .before .before .before .before .before .before .before) .1, one (c .before .before .before .before .before .before .before .before .before .before .before .before .before .before) .2, some-match _ _ (match-is (length (c .before .before .before .before .before .before .before .before .before .before .before .before .before .before .args .bytes .now)) (c .before .before .before .before .before .before .before .before .before .before .before .before .before .before .args .image .now) (c .before .before .before .before .before .before .before .before .before .before .before .before .before .before .args .table .now) (given (c .before .before .before .before .before .before .before .before .before .before .before .before .before .before)) (c .before .before .before .before .before .before .before .before .before .before .before .before .before .before .pre .0) (one (c .before .before .before .before .before .before .before .before .before .before .before .before .before .before) .0) (one (c .before .before .before .before .before .before .before .before .before .before .before .before .before .before) .1) (one (c .before .before .before .before .before .before .before .before .before .before .before .before .before .before) .2) _ (next-is (length (c .before .before .before .before .before .before .before .before .before .before .before .before .before .before .args .bytes .now)) (c .before .before .before .before .before .before .before .before .before .before .before .before .before .before .args .image .now) (c .before .before .before .before .before .before .before .before .before .before .before .before .before .before .args .table .now) (given (c .before .before .before .before .before .before .before .before .before .before .before .before .before .before)) (c .before .before .before .before .before .before .before .before .before .before .before .before .before .before .pre .0) (one (c .before .before .before .before .before .before .before .before .before .before .before .before .before .before) .0) (one (c .before .before .before .before .before .before .before .before .before .before .before .before .before .before) .1) (one (c .before .before .before .before .before .before .before .before .before .before .before .before .before .before) .2) _ _ _ (c .before .before .before .before .before .word-before .ensures) (symbol (c .before .before .before .before .before .before .before .before .before .before .before .before .before .before)) (rw (c .before .before .before .before .before .before .before .before .before .before .before .before .before .before .pre .1 .1 .0, c .before .before .before .before .before .before .before .before .before .before .before .before .before .before .pre .1 .1 .1 .0) at (c .before .before .before .before .next-at .ensures))) _ (c .before .before .before .match-word .ensures)) (c .before .before .if1 .taken))))
 
 same-length : tie.Need-same-length
 same-length c = search needs
@@ -63,25 +63,25 @@ returns : tie.Need-returns
 returns c = search needs
 
 slice-write-bytes : tie.Need-slice-write-bytes
-slice-write-bytes c = omega (arith, facts (c .before .before .before .before .before .before .before .before .before .before .before .before), c .before .before .before .before .before .before .before .before .before .before .before .before .pre .1 .1 .0)
+slice-write-bytes c = omega (arith, facts (c .before .before .before .before .before .before .before .before .before .before .before .before), c .before .before .before .before .before .before .before .before .before .before .before .before .pre .1 .1 .1 .1 .0)
 
 slice-write-bytes-2 : tie.Need-slice-write-bytes-2
-slice-write-bytes-2 c = rw length-set (omega (arith, facts (c .before .before .before .before .before .before .before .before .before .before .before .before), c .before .before .before .before .before .before .before .before .before .before .before .before .pre .1 .1 .0))
+slice-write-bytes-2 c = rw length-set (omega (arith, facts (c .before .before .before .before .before .before .before .before .before .before .before .before), c .before .before .before .before .before .before .before .before .before .before .before .before .pre .1 .1 .1 .1 .0))
 
 cast-words : tie.Need-cast-words
-cast-words c = omega (arith, next-small (length (c .before .before .before .before .before .before .before .before .before .before .before .before .args .bytes .now)) (c .before .before .before .before .before .before .before .before .before .before .before .before .args .image .now) (c .before .before .before .before .before .before .before .before .before .before .before .before .args .table .now) (given (c .before .before .before .before .before .before .before .before .before .before .before .before)) (c .before .before .before .before .before .before .before .before .before .before .before .before .pre .0) (one (c .before .before .before .before .before .before .before .before .before .before .before .before) .0) (one (c .before .before .before .before .before .before .before .before .before .before .before .before) .1) (one (c .before .before .before .before .before .before .before .before .before .before .before .before) .2) _ (next-is (length (c .before .before .before .before .before .before .before .before .before .before .before .before .args .bytes .now)) (c .before .before .before .before .before .before .before .before .before .before .before .before .args .image .now) (c .before .before .before .before .before .before .before .before .before .before .before .before .args .table .now) (given (c .before .before .before .before .before .before .before .before .before .before .before .before)) (c .before .before .before .before .before .before .before .before .before .before .before .before .pre .0) (one (c .before .before .before .before .before .before .before .before .before .before .before .before) .0) (one (c .before .before .before .before .before .before .before .before .before .before .before .before) .1) (one (c .before .before .before .before .before .before .before .before .before .before .before .before) .2) _ _ _ (c .before .before .before .word-before .ensures) (symbol (c .before .before .before .before .before .before .before .before .before .before .before .before)) (c .before .before .next-state .ensures)))
+cast-words c = omega (arith, next-small (length (c .before .before .before .before .before .before .before .before .before .before .before .before .args .bytes .now)) (c .before .before .before .before .before .before .before .before .before .before .before .before .args .image .now) (c .before .before .before .before .before .before .before .before .before .before .before .before .args .table .now) (given (c .before .before .before .before .before .before .before .before .before .before .before .before)) (c .before .before .before .before .before .before .before .before .before .before .before .before .pre .0) (one (c .before .before .before .before .before .before .before .before .before .before .before .before) .0) (one (c .before .before .before .before .before .before .before .before .before .before .before .before) .1) (one (c .before .before .before .before .before .before .before .before .before .before .before .before) .2) _ (next-is (length (c .before .before .before .before .before .before .before .before .before .before .before .before .args .bytes .now)) (c .before .before .before .before .before .before .before .before .before .before .before .before .args .image .now) (c .before .before .before .before .before .before .before .before .before .before .before .before .args .table .now) (given (c .before .before .before .before .before .before .before .before .before .before .before .before)) (c .before .before .before .before .before .before .before .before .before .before .before .before .pre .0) (one (c .before .before .before .before .before .before .before .before .before .before .before .before) .0) (one (c .before .before .before .before .before .before .before .before .before .before .before .before) .1) (one (c .before .before .before .before .before .before .before .before .before .before .before .before) .2) _ _ _ (c .before .before .before .word-before .ensures) (symbol (c .before .before .before .before .before .before .before .before .before .before .before .before)) (rw (c .before .before .before .before .before .before .before .before .before .before .before .before .pre .1 .1 .0, c .before .before .before .before .before .before .before .before .before .before .before .before .pre .1 .1 .1 .0) at (c .before .before .next-at .ensures))))
 
 mul-words : tie.Need-mul-words
-mul-words c = omega (arith, facts (c .before .before .before .before .before .before .before .before .before .before .before .before), c .before .before .before .before .before .before .before .before .before .before .before .before .pre .1 .1 .0)
+mul-words c = omega (arith, facts (c .before .before .before .before .before .before .before .before .before .before .before .before), c .before .before .before .before .before .before .before .before .before .before .before .before .pre .1 .1 .1 .1 .0)
 
 slice-write-words : tie.Need-slice-write-words
-slice-write-words c = omega (arith, facts (c .before .before .before .before .before .before .before .before .before .before .before .before), c .before .before .before .before .before .before .before .before .before .before .before .before .pre .1 .1 .0)
+slice-write-words c = omega (arith, facts (c .before .before .before .before .before .before .before .before .before .before .before .before), c .before .before .before .before .before .before .before .before .before .before .before .before .pre .1 .1 .1 .1 .0)
 
-add-t13 : tie.Need-add-t13
-add-t13 c = omega (arith, facts (c .before .before .before .before .before .before .before .before .before .before .before .before), c .before .before .before .before .before .before .before .before .before .before .before .before .pre .1 .1 .0)
+add-t15 : tie.Need-add-t15
+add-t15 c = omega (arith, facts (c .before .before .before .before .before .before .before .before .before .before .before .before), c .before .before .before .before .before .before .before .before .before .before .before .before .pre .1 .1 .1 .1 .0)
 
-sub-t28 : tie.Need-sub-t28
-sub-t28 c = search needs
+sub-t30 : tie.Need-sub-t30
+sub-t30 c = search needs
 
 same-length-3 : tie.Need-same-length-3
 same-length-3 c = search needs
@@ -93,7 +93,7 @@ returns-2 : tie.Need-returns-2
 returns-2 c =
     rw (symbol (c .before .before .before .before .before .before .before .before .before .before .before .before .before))
     (settled-step (read (c .before .before .before .before .before .before .before .before .before .before .before .before .before .args .image .now)) (length (c .before .before .before .before .before .before .before .before .before .before .before .before .before .args .bytes .now)) (given (c .before .before .before .before .before .before .before .before .before .before .before .before .before)) (facts (c .before .before .before .before .before .before .before .before .before .before .before .before .before)) (one (c .before .before .before .before .before .before .before .before .before .before .before .before .before) .0) (one (c .before .before .before .before .before .before .before .before .before .before .before .before .before) .1) (one (c .before .before .before .before .before .before .before .before .before .before .before .before .before) .2)
-    (no-match _ _ (match-is (length (c .before .before .before .before .before .before .before .before .before .before .before .before .before .args .bytes .now)) (c .before .before .before .before .before .before .before .before .before .before .before .before .before .args .image .now) (c .before .before .before .before .before .before .before .before .before .before .before .before .before .args .table .now) (given (c .before .before .before .before .before .before .before .before .before .before .before .before .before)) (c .before .before .before .before .before .before .before .before .before .before .before .before .before .pre .0) (one (c .before .before .before .before .before .before .before .before .before .before .before .before .before) .0) (one (c .before .before .before .before .before .before .before .before .before .before .before .before .before) .1) (one (c .before .before .before .before .before .before .before .before .before .before .before .before .before) .2) _ (next-is (length (c .before .before .before .before .before .before .before .before .before .before .before .before .before .args .bytes .now)) (c .before .before .before .before .before .before .before .before .before .before .before .before .before .args .image .now) (c .before .before .before .before .before .before .before .before .before .before .before .before .before .args .table .now) (given (c .before .before .before .before .before .before .before .before .before .before .before .before .before)) (c .before .before .before .before .before .before .before .before .before .before .before .before .before .pre .0) (one (c .before .before .before .before .before .before .before .before .before .before .before .before .before) .0) (one (c .before .before .before .before .before .before .before .before .before .before .before .before .before) .1) (one (c .before .before .before .before .before .before .before .before .before .before .before .before .before) .2) _ _ _ (c .before .before .before .before .word-before .ensures) (symbol (c .before .before .before .before .before .before .before .before .before .before .before .before .before)) (c .before .before .before .next-state .ensures)) _ (c .before .before .match-word .ensures)) (c .before .if1 .left)) _ _ refl (next-is (length (c .before .before .before .before .before .before .before .before .before .before .before .before .before .args .bytes .now)) (c .before .before .before .before .before .before .before .before .before .before .before .before .before .args .image .now) (c .before .before .before .before .before .before .before .before .before .before .before .before .before .args .table .now) (given (c .before .before .before .before .before .before .before .before .before .before .before .before .before)) (c .before .before .before .before .before .before .before .before .before .before .before .before .before .pre .0) (one (c .before .before .before .before .before .before .before .before .before .before .before .before .before) .0) (one (c .before .before .before .before .before .before .before .before .before .before .before .before .before) .1) (one (c .before .before .before .before .before .before .before .before .before .before .before .before .before) .2) _ _ _ (c .before .before .before .before .word-before .ensures) (symbol (c .before .before .before .before .before .before .before .before .before .before .before .before .before)) (c .before .before .before .next-state .ensures)))
+    (no-match _ _ (match-is (length (c .before .before .before .before .before .before .before .before .before .before .before .before .before .args .bytes .now)) (c .before .before .before .before .before .before .before .before .before .before .before .before .before .args .image .now) (c .before .before .before .before .before .before .before .before .before .before .before .before .before .args .table .now) (given (c .before .before .before .before .before .before .before .before .before .before .before .before .before)) (c .before .before .before .before .before .before .before .before .before .before .before .before .before .pre .0) (one (c .before .before .before .before .before .before .before .before .before .before .before .before .before) .0) (one (c .before .before .before .before .before .before .before .before .before .before .before .before .before) .1) (one (c .before .before .before .before .before .before .before .before .before .before .before .before .before) .2) _ (next-is (length (c .before .before .before .before .before .before .before .before .before .before .before .before .before .args .bytes .now)) (c .before .before .before .before .before .before .before .before .before .before .before .before .before .args .image .now) (c .before .before .before .before .before .before .before .before .before .before .before .before .before .args .table .now) (given (c .before .before .before .before .before .before .before .before .before .before .before .before .before)) (c .before .before .before .before .before .before .before .before .before .before .before .before .before .pre .0) (one (c .before .before .before .before .before .before .before .before .before .before .before .before .before) .0) (one (c .before .before .before .before .before .before .before .before .before .before .before .before .before) .1) (one (c .before .before .before .before .before .before .before .before .before .before .before .before .before) .2) _ _ _ (c .before .before .before .before .word-before .ensures) (symbol (c .before .before .before .before .before .before .before .before .before .before .before .before .before)) (rw (c .before .before .before .before .before .before .before .before .before .before .before .before .before .pre .1 .1 .0, c .before .before .before .before .before .before .before .before .before .before .before .before .before .pre .1 .1 .1 .0) at (c .before .before .before .next-at .ensures))) _ (c .before .before .match-word .ensures)) (c .before .if1 .left)) _ _ refl (next-is (length (c .before .before .before .before .before .before .before .before .before .before .before .before .before .args .bytes .now)) (c .before .before .before .before .before .before .before .before .before .before .before .before .before .args .image .now) (c .before .before .before .before .before .before .before .before .before .before .before .before .before .args .table .now) (given (c .before .before .before .before .before .before .before .before .before .before .before .before .before)) (c .before .before .before .before .before .before .before .before .before .before .before .before .before .pre .0) (one (c .before .before .before .before .before .before .before .before .before .before .before .before .before) .0) (one (c .before .before .before .before .before .before .before .before .before .before .before .before .before) .1) (one (c .before .before .before .before .before .before .before .before .before .before .before .before .before) .2) _ _ _ (c .before .before .before .before .word-before .ensures) (symbol (c .before .before .before .before .before .before .before .before .before .before .before .before .before)) (rw (c .before .before .before .before .before .before .before .before .before .before .before .before .before .pre .1 .1 .0, c .before .before .before .before .before .before .before .before .before .before .before .before .before .pre .1 .1 .1 .0) at (c .before .before .before .next-at .ensures))))
 
 pub step-spec : {M : Type 1} → statement M
 step-spec =
@@ -102,8 +102,8 @@ step-spec =
     sub-first
     slice-read-symbol
     word-before-requires
-    cast-next-state
-    next-state-requires
+    cast-next-at
+    next-at-requires
     match-word-requires
     sub-rewrite
     rewrite-requires
@@ -115,8 +115,8 @@ step-spec =
     cast-words
     mul-words
     slice-write-words
-    add-t13
-    sub-t28
+    add-t15
+    sub-t30
     same-length-3
     same-length-4
     returns-2)

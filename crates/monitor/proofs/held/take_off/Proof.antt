@@ -9,14 +9,11 @@ use Rattle.monitor.proofs.held.take_off.Tie as tie
 slice-write-bytes : tie.Need-slice-write-bytes
 slice-write-bytes c = search needs
 
-clear-bytes-requires : tie.Need-clear-bytes-requires
-clear-bytes-requires c κs = search needs
-
-clear-words-requires : tie.Need-clear-words-requires
-clear-words-requires c κs = search needs
+clear-requires : tie.Need-clear-requires
+clear-requires c κs = search needs
 
 same-length : tie.Need-same-length
-same-length c = c .before .before .before .before .before .before .clear-bytes .kept .0 ∙ length-set (c .before .before .before .before .before .before .before .before .before .before .args .bytes .now) (c .before .before .before .before .before .before .before .before .before .before .args .first) 0
+same-length c = c .before .before .before .before .clear .kept .0 ∙ length-set (c .before .before .before .before .before .before .before .before .before .args .bytes .now) (c .before .before .before .before .before .before .before .before .before .args .first) 0
 
 same-length-2 : tie.Need-same-length-2
 same-length-2 c = search needs
@@ -26,11 +23,4 @@ returns c = search needs
 
 pub take-off-spec : {M : Type 1} → statement M
 take-off-spec =
-    tie.close
-    (tie.spec
-    slice-write-bytes
-    clear-bytes-requires
-    clear-words-requires
-    same-length
-    same-length-2
-    returns)
+    tie.close (tie.spec slice-write-bytes clear-requires same-length same-length-2 returns)
