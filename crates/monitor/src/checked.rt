@@ -76,6 +76,28 @@ fn has_room(offering: bool, settled: usize, waiting: usize, capacity: usize) -> 
 }
 
 impl Head {
+    // The same head, put together anew. The loop over calls keeps a head in registers where it is put together from its
+    // fields; a head that is copied whole goes through memory, with the unused bytes beside its verdict.
+    fn anew(self) -> Head
+        ensures { λ r. ⌜ r ≡ self ⌝ }
+    {
+        let verdict = self.verdict;
+        match verdict {
+            Standing::None => Head {
+                settled: self.settled,
+                waiting: self.waiting,
+                verdict: Standing::None,
+                rule: self.rule,
+            },
+            Standing::Verdict(v) => Head {
+                settled: self.settled,
+                waiting: self.waiting,
+                verdict: Standing::Verdict(v),
+                rule: self.rule,
+            },
+        }
+    }
+
     // The head with the event as the last waiting symbol, for an offer; for a go-on the head as it is.
     fn taking(self, bytes: &mut [u8], offering: bool, event: u8) -> Head
         requires room { ⌜ (offering ≡ true → self .waiting < length (now bytes)) ⌝ }
@@ -179,7 +201,7 @@ impl Head {
     {
         let rows = 2 + held::wide(table[0]);
         let width = held::wide(table[1]);
-        let mut head = self;
+        let mut head = self.anew();
         let mut steps: u64 = 0;
         let mut rewrites: u64 = 0;
         let mut put: u64 = 0;
@@ -204,7 +226,8 @@ impl Head {
                 _ => {}
             }
             answers[k] = answer_byte(answer);
-            head = called.head;
+            let after = called.head;
+            head = after.anew();
             steps += called.counts.steps;
             rewrites += called.counts.rewrites;
             put += called.counts.put;

@@ -41,15 +41,18 @@ shared-slice-read-wide-2 c = omega (arith, table-header (read (c .before .before
 wide-requires-2 : tie.Need-wide-requires-2 Inv-loop μ-loop
 wide-requires-2 c κs = search needs
 
+anew-requires : tie.Need-anew-requires Inv-loop μ-loop
+anew-requires c κs = search needs
+
 loop-holds : tie.Need-loop-holds Inv-loop μ-loop
 unfolding noCounts
-loop-holds c = offering-first _ _ _ _ (callsWith (c .before .before .before .before .before .before .before .before .before .before .before .args .offering) (c .before .before .before .before .before .before .before .before .before .before .before .args .events .now) (c .before .before .before .before .before .before .before .before .before .before .before .args .fuel)) _ (c .before .before .before .before .before .before .before .before .before .before .before .pre .0)
+loop-holds c = offering-first _ _ _ _ (callsWith (c .before .before .before .before .before .before .before .before .before .before .before .before .args .offering) (c .before .before .before .before .before .before .before .before .before .before .before .before .args .events .now) (c .before .before .before .before .before .before .before .before .before .before .before .before .args .fuel)) _ (rw (c .anew .ensures) (c .before .before .before .before .before .before .before .before .before .before .before .before .pre .0))
 
 shared-slice-read-called : tie.Need-shared-slice-read-called Inv-loop μ-loop
 shared-slice-read-called c = c .before .before .before .loop-test .taken
 
 called-requires : tie.Need-called-requires Inv-loop μ-loop
-called-requires c κs = (offering-passed (c .before .before .before .before .loop .inv), (c .before .before .before .before .before .before .before .before .before .before .before .before .before .before .before .before .pre .1 .0, (ap (λ (x : ℕ). 2 + x) (c .before .before .before .before .before .before .before .wide .ensures), c .before .before .before .before .before .wide2 .ensures)))
+called-requires c κs = (offering-passed (c .before .before .before .before .loop .inv), (c .before .before .before .before .before .before .before .before .before .before .before .before .before .before .before .before .before .pre .1 .0, (ap (λ (x : ℕ). 2 + x) (c .before .before .before .before .before .before .before .before .wide .ensures), c .before .before .before .before .before .before .wide2 .ensures)))
 
 enum-known-answer : tie.Need-enum-known-answer Inv-loop μ-loop
 enum-known-answer c = search needs
@@ -68,32 +71,35 @@ same-length-3 c = c .before .before .before .before .before .before .before .bef
 
 returns : tie.Need-returns Inv-loop μ-loop
 unfolding refusedAs
-returns c = rw (c .stopped .ensures) (offering-refused (c .before .before .before .before .before .before .before .before .before .before .before .before .before .loop .inv) (rw (calls-length (c .before .before .before .before .before .before .before .before .before .before .before .before .before .before .before .before .before .before .before .before .before .before .before .before .before .args .offering) (c .before .before .before .before .before .before .before .before .before .before .before .before .before .before .before .before .before .before .before .before .before .before .before .before .before .args .events .now) (c .before .before .before .before .before .before .before .before .before .before .before .before .before .before .before .before .before .before .before .before .before .before .before .before .before .args .fuel)) (c .before .before .before .before .before .before .before .before .before .before .before .before .before .before .before .before .before .before .before .before .before .before .before .before .before .pre .1 .1 .1)) {o = (outcomeFrom (c .before .before .before .before .before .before .before .before .called .result) (c .before .before .before .before .before .before .before .before .called .last .1 .1 .1 .1 .1 .1 .0) (c .before .before .before .before .before .before .before .before .called .last .1 .1 .1 .1 .1 .1 .1 .0))} (rw (calls-length (c .before .before .before .before .before .before .before .before .before .before .before .before .before .before .before .before .before .before .before .before .before .before .before .before .before .args .offering) (c .before .before .before .before .before .before .before .before .before .before .before .before .before .before .before .before .before .before .before .before .before .before .before .before .before .args .events .now) (c .before .before .before .before .before .before .before .before .before .before .before .before .before .before .before .before .before .before .before .before .before .before .before .before .before .args .fuel)) (c .before .before .before .before .before .before .before .before .before .before .before .before .loop-test .taken)) (rw (call-at (c .before .before .before .before .before .before .before .before .before .before .before .before .before .before .before .before .before .before .before .before .before .before .before .before .before .args .offering) (c .before .before .before .before .before .before .before .before .before .before .before .before .before .before .before .before .before .before .before .before .before .before .before .before .before .args .events .now) (c .before .before .before .before .before .before .before .before .before .before .before .before .before .before .before .before .before .before .before .before .before .before .before .before .before .args .fuel) (c .before .before .before .before .before .before .before .before .before .before .before .before .before .loop .k) (c .before .before .before .before .before .before .before .before .before .before .before .before .loop-test .taken)) (c .before .before .before .before .before .before .before .before .called .ensures)) _ (c .before .before .answer .given .1))
+returns c = rw (c .stopped .ensures, ← c .before .before .before .before .before .before .before .before .before .before .before .before .before .before .anew .ensures) (offering-refused (c .before .before .before .before .before .before .before .before .before .before .before .before .before .loop .inv) (rw (calls-length (c .before .before .before .before .before .before .before .before .before .before .before .before .before .before .before .before .before .before .before .before .before .before .before .before .before .before .args .offering) (c .before .before .before .before .before .before .before .before .before .before .before .before .before .before .before .before .before .before .before .before .before .before .before .before .before .before .args .events .now) (c .before .before .before .before .before .before .before .before .before .before .before .before .before .before .before .before .before .before .before .before .before .before .before .before .before .before .args .fuel)) (c .before .before .before .before .before .before .before .before .before .before .before .before .before .before .before .before .before .before .before .before .before .before .before .before .before .before .pre .1 .1 .1)) {o = (outcomeFrom (c .before .before .before .before .before .before .before .before .called .result) (c .before .before .before .before .before .before .before .before .called .last .1 .1 .1 .1 .1 .1 .0) (c .before .before .before .before .before .before .before .before .called .last .1 .1 .1 .1 .1 .1 .1 .0))} (rw (calls-length (c .before .before .before .before .before .before .before .before .before .before .before .before .before .before .before .before .before .before .before .before .before .before .before .before .before .before .args .offering) (c .before .before .before .before .before .before .before .before .before .before .before .before .before .before .before .before .before .before .before .before .before .before .before .before .before .before .args .events .now) (c .before .before .before .before .before .before .before .before .before .before .before .before .before .before .before .before .before .before .before .before .before .before .before .before .before .before .args .fuel)) (c .before .before .before .before .before .before .before .before .before .before .before .before .loop-test .taken)) (rw (call-at (c .before .before .before .before .before .before .before .before .before .before .before .before .before .before .before .before .before .before .before .before .before .before .before .before .before .before .args .offering) (c .before .before .before .before .before .before .before .before .before .before .before .before .before .before .before .before .before .before .before .before .before .before .before .before .before .before .args .events .now) (c .before .before .before .before .before .before .before .before .before .before .before .before .before .before .before .before .before .before .before .before .before .before .before .before .before .before .args .fuel) (c .before .before .before .before .before .before .before .before .before .before .before .before .before .loop .k) (c .before .before .before .before .before .before .before .before .before .before .before .before .loop-test .taken)) (c .before .before .before .before .before .before .before .before .called .ensures)) _ (c .before .before .answer .given .1))
 
 answer-byte-requires : tie.Need-answer-byte-requires Inv-loop μ-loop
-answer-byte-requires c κs = offering-number (c .before .before .before .before .before .before .before .before .before .before .loop .inv) (rw (calls-length (c .before .before .before .before .before .before .before .before .before .before .before .before .before .before .before .before .before .before .before .before .before .before .args .offering) (c .before .before .before .before .before .before .before .before .before .before .before .before .before .before .before .before .before .before .before .before .before .before .args .events .now) (c .before .before .before .before .before .before .before .before .before .before .before .before .before .before .before .before .before .before .before .before .before .before .args .fuel)) (c .before .before .before .before .before .before .before .before .before .before .before .before .before .before .before .before .before .before .before .before .before .before .pre .1 .1 .1)) {o = (outcomeFrom (c .before .before .before .before .before .called .result) (c .before .before .before .before .before .called .last .1 .1 .1 .1 .1 .1 .0) (c .before .before .before .before .before .called .last .1 .1 .1 .1 .1 .1 .1 .0))} (rw (calls-length (c .before .before .before .before .before .before .before .before .before .before .before .before .before .before .before .before .before .before .before .before .before .before .args .offering) (c .before .before .before .before .before .before .before .before .before .before .before .before .before .before .before .before .before .before .before .before .before .before .args .events .now) (c .before .before .before .before .before .before .before .before .before .before .before .before .before .before .before .before .before .before .before .before .before .before .args .fuel)) (c .before .before .before .before .before .before .before .before .before .loop-test .taken)) (rw (call-at (c .before .before .before .before .before .before .before .before .before .before .before .before .before .before .before .before .before .before .before .before .before .before .args .offering) (c .before .before .before .before .before .before .before .before .before .before .before .before .before .before .before .before .before .before .before .before .before .before .args .events .now) (c .before .before .before .before .before .before .before .before .before .before .before .before .before .before .before .before .before .before .before .before .before .before .args .fuel) (c .before .before .before .before .before .before .before .before .before .before .loop .k) (c .before .before .before .before .before .before .before .before .before .loop-test .taken)) (c .before .before .before .before .before .called .ensures))
+answer-byte-requires c κs = offering-number (c .before .before .before .before .before .before .before .before .before .before .loop .inv) (rw (calls-length (c .before .before .before .before .before .before .before .before .before .before .before .before .before .before .before .before .before .before .before .before .before .before .before .args .offering) (c .before .before .before .before .before .before .before .before .before .before .before .before .before .before .before .before .before .before .before .before .before .before .before .args .events .now) (c .before .before .before .before .before .before .before .before .before .before .before .before .before .before .before .before .before .before .before .before .before .before .before .args .fuel)) (c .before .before .before .before .before .before .before .before .before .before .before .before .before .before .before .before .before .before .before .before .before .before .before .pre .1 .1 .1)) {o = (outcomeFrom (c .before .before .before .before .before .called .result) (c .before .before .before .before .before .called .last .1 .1 .1 .1 .1 .1 .0) (c .before .before .before .before .before .called .last .1 .1 .1 .1 .1 .1 .1 .0))} (rw (calls-length (c .before .before .before .before .before .before .before .before .before .before .before .before .before .before .before .before .before .before .before .before .before .before .before .args .offering) (c .before .before .before .before .before .before .before .before .before .before .before .before .before .before .before .before .before .before .before .before .before .before .before .args .events .now) (c .before .before .before .before .before .before .before .before .before .before .before .before .before .before .before .before .before .before .before .before .before .before .before .args .fuel)) (c .before .before .before .before .before .before .before .before .before .loop-test .taken)) (rw (call-at (c .before .before .before .before .before .before .before .before .before .before .before .before .before .before .before .before .before .before .before .before .before .before .before .args .offering) (c .before .before .before .before .before .before .before .before .before .before .before .before .before .before .before .before .before .before .before .before .before .before .before .args .events .now) (c .before .before .before .before .before .before .before .before .before .before .before .before .before .before .before .before .before .before .before .before .before .before .before .args .fuel) (c .before .before .before .before .before .before .before .before .before .before .loop .k) (c .before .before .before .before .before .before .before .before .before .loop-test .taken)) (c .before .before .before .before .before .called .ensures))
 
 slice-write-answers : tie.Need-slice-write-answers Inv-loop μ-loop
-slice-write-answers c = omega (arith, c .before .before .before .before .before .before .before .before .before .before .loop-test .taken, c .before .before .before .before .before .before .before .before .before .before .before .loop .inv .size, c .before .before .before .before .before .before .before .before .before .before .before .before .before .before .before .before .before .before .before .before .before .before .before .pre .1 .1 .1)
+slice-write-answers c = omega (arith, c .before .before .before .before .before .before .before .before .before .before .loop-test .taken, c .before .before .before .before .before .before .before .before .before .before .before .loop .inv .size, c .before .before .before .before .before .before .before .before .before .before .before .before .before .before .before .before .before .before .before .before .before .before .before .before .pre .1 .1 .1)
+
+anew-requires-2 : tie.Need-anew-requires-2 Inv-loop μ-loop
+anew-requires-2 c κs = search needs
 
 add-steps : tie.Need-add-steps Inv-loop μ-loop
-add-steps c = omega (arith, offering-sums (c .before .before .before .before .before .before .before .before .before .before .before .before .before .loop .inv) (rw (calls-length (c .before .before .before .before .before .before .before .before .before .before .before .before .before .before .before .before .before .before .before .before .before .before .before .before .before .args .offering) (c .before .before .before .before .before .before .before .before .before .before .before .before .before .before .before .before .before .before .before .before .before .before .before .before .before .args .events .now) (c .before .before .before .before .before .before .before .before .before .before .before .before .before .before .before .before .before .before .before .before .before .before .before .before .before .args .fuel)) (c .before .before .before .before .before .before .before .before .before .before .before .before .before .before .before .before .before .before .before .before .before .before .before .before .before .pre .1 .1 .1)) {o = (outcomeFrom (c .before .before .before .before .before .before .before .before .called .result) (c .before .before .before .before .before .before .before .before .called .last .1 .1 .1 .1 .1 .1 .0) (c .before .before .before .before .before .before .before .before .called .last .1 .1 .1 .1 .1 .1 .1 .0))} (rw (calls-length (c .before .before .before .before .before .before .before .before .before .before .before .before .before .before .before .before .before .before .before .before .before .before .before .before .before .args .offering) (c .before .before .before .before .before .before .before .before .before .before .before .before .before .before .before .before .before .before .before .before .before .before .before .before .before .args .events .now) (c .before .before .before .before .before .before .before .before .before .before .before .before .before .before .before .before .before .before .before .before .before .before .before .before .before .args .fuel)) (c .before .before .before .before .before .before .before .before .before .before .before .before .loop-test .taken)) (rw (call-at (c .before .before .before .before .before .before .before .before .before .before .before .before .before .before .before .before .before .before .before .before .before .before .before .before .before .args .offering) (c .before .before .before .before .before .before .before .before .before .before .before .before .before .before .before .before .before .before .before .before .before .before .before .before .before .args .events .now) (c .before .before .before .before .before .before .before .before .before .before .before .before .before .before .before .before .before .before .before .before .before .before .before .before .before .args .fuel) (c .before .before .before .before .before .before .before .before .before .before .before .before .before .loop .k) (c .before .before .before .before .before .before .before .before .before .before .before .before .loop-test .taken)) (c .before .before .before .before .before .before .before .before .called .ensures)) (rw ((call-at (c .before .before .before .before .before .before .before .before .before .before .before .before .before .before .before .before .before .before .before .before .before .before .before .before .before .args .offering) (c .before .before .before .before .before .before .before .before .before .before .before .before .before .before .before .before .before .before .before .before .before .before .before .before .before .args .events .now) (c .before .before .before .before .before .before .before .before .before .before .before .before .before .before .before .before .before .before .before .before .before .before .before .before .before .args .fuel) (c .before .before .before .before .before .before .before .before .before .before .before .before .before .loop .k) (c .before .before .before .before .before .before .before .before .before .before .before .before .loop-test .taken)), fuel-with (c .before .before .before .before .before .before .before .before .before .before .before .before .before .before .before .before .before .before .before .before .before .before .before .before .before .args .offering) (getD (c .before .before .before .before .before .before .before .before .before .before .before .before .before .before .before .before .before .before .before .before .before .before .before .before .before .args .events .now) (c .before .before .before .before .before .before .before .before .before .before .before .before .before .loop .k) 0) (c .before .before .before .before .before .before .before .before .before .before .before .before .before .before .before .before .before .before .before .before .before .before .before .before .before .args .fuel)) (omega (arith, c .before .before .before .before .before .before .before .before .before .before .before .before .before .before .before .before .before .before .before .before .before .before .before .before .before .fits .fuel))) (rw (calls-length (c .before .before .before .before .before .before .before .before .before .before .before .before .before .before .before .before .before .before .before .before .before .before .before .before .before .args .offering) (c .before .before .before .before .before .before .before .before .before .before .before .before .before .before .before .before .before .before .before .before .before .before .before .before .before .args .events .now) (c .before .before .before .before .before .before .before .before .before .before .before .before .before .before .before .before .before .before .before .before .before .before .before .before .before .args .fuel)) (c .before .before .before .before .before .before .before .before .before .before .before .before .before .before .before .before .before .before .before .before .before .before .before .before .before .pre .1 .1 .0)) .steps)
+add-steps c = omega (arith, offering-sums (c .before .before .before .before .before .before .before .before .before .before .before .before .before .before .loop .inv) (rw (calls-length (c .before .before .before .before .before .before .before .before .before .before .before .before .before .before .before .before .before .before .before .before .before .before .before .before .before .before .before .args .offering) (c .before .before .before .before .before .before .before .before .before .before .before .before .before .before .before .before .before .before .before .before .before .before .before .before .before .before .before .args .events .now) (c .before .before .before .before .before .before .before .before .before .before .before .before .before .before .before .before .before .before .before .before .before .before .before .before .before .before .before .args .fuel)) (c .before .before .before .before .before .before .before .before .before .before .before .before .before .before .before .before .before .before .before .before .before .before .before .before .before .before .before .pre .1 .1 .1)) {o = (outcomeFrom (c .before .before .before .before .before .before .before .before .before .called .result) (c .before .before .before .before .before .before .before .before .before .called .last .1 .1 .1 .1 .1 .1 .0) (c .before .before .before .before .before .before .before .before .before .called .last .1 .1 .1 .1 .1 .1 .1 .0))} (rw (calls-length (c .before .before .before .before .before .before .before .before .before .before .before .before .before .before .before .before .before .before .before .before .before .before .before .before .before .before .before .args .offering) (c .before .before .before .before .before .before .before .before .before .before .before .before .before .before .before .before .before .before .before .before .before .before .before .before .before .before .before .args .events .now) (c .before .before .before .before .before .before .before .before .before .before .before .before .before .before .before .before .before .before .before .before .before .before .before .before .before .before .before .args .fuel)) (c .before .before .before .before .before .before .before .before .before .before .before .before .before .loop-test .taken)) (rw (call-at (c .before .before .before .before .before .before .before .before .before .before .before .before .before .before .before .before .before .before .before .before .before .before .before .before .before .before .before .args .offering) (c .before .before .before .before .before .before .before .before .before .before .before .before .before .before .before .before .before .before .before .before .before .before .before .before .before .before .before .args .events .now) (c .before .before .before .before .before .before .before .before .before .before .before .before .before .before .before .before .before .before .before .before .before .before .before .before .before .before .before .args .fuel) (c .before .before .before .before .before .before .before .before .before .before .before .before .before .before .loop .k) (c .before .before .before .before .before .before .before .before .before .before .before .before .before .loop-test .taken)) (c .before .before .before .before .before .before .before .before .before .called .ensures)) (rw ((call-at (c .before .before .before .before .before .before .before .before .before .before .before .before .before .before .before .before .before .before .before .before .before .before .before .before .before .before .before .args .offering) (c .before .before .before .before .before .before .before .before .before .before .before .before .before .before .before .before .before .before .before .before .before .before .before .before .before .before .before .args .events .now) (c .before .before .before .before .before .before .before .before .before .before .before .before .before .before .before .before .before .before .before .before .before .before .before .before .before .before .before .args .fuel) (c .before .before .before .before .before .before .before .before .before .before .before .before .before .before .loop .k) (c .before .before .before .before .before .before .before .before .before .before .before .before .before .loop-test .taken)), fuel-with (c .before .before .before .before .before .before .before .before .before .before .before .before .before .before .before .before .before .before .before .before .before .before .before .before .before .before .before .args .offering) (getD (c .before .before .before .before .before .before .before .before .before .before .before .before .before .before .before .before .before .before .before .before .before .before .before .before .before .before .before .args .events .now) (c .before .before .before .before .before .before .before .before .before .before .before .before .before .before .loop .k) 0) (c .before .before .before .before .before .before .before .before .before .before .before .before .before .before .before .before .before .before .before .before .before .before .before .before .before .before .before .args .fuel)) (omega (arith, c .before .before .before .before .before .before .before .before .before .before .before .before .before .before .before .before .before .before .before .before .before .before .before .before .before .before .before .fits .fuel))) (rw (calls-length (c .before .before .before .before .before .before .before .before .before .before .before .before .before .before .before .before .before .before .before .before .before .before .before .before .before .before .before .args .offering) (c .before .before .before .before .before .before .before .before .before .before .before .before .before .before .before .before .before .before .before .before .before .before .before .before .before .before .before .args .events .now) (c .before .before .before .before .before .before .before .before .before .before .before .before .before .before .before .before .before .before .before .before .before .before .before .before .before .before .before .args .fuel)) (c .before .before .before .before .before .before .before .before .before .before .before .before .before .before .before .before .before .before .before .before .before .before .before .before .before .before .before .pre .1 .1 .0)) .steps)
 
 add-rewrites : tie.Need-add-rewrites Inv-loop μ-loop
-add-rewrites c = omega (arith, offering-sums (c .before .before .before .before .before .before .before .before .before .before .before .before .before .before .loop .inv) (rw (calls-length (c .before .before .before .before .before .before .before .before .before .before .before .before .before .before .before .before .before .before .before .before .before .before .before .before .before .before .args .offering) (c .before .before .before .before .before .before .before .before .before .before .before .before .before .before .before .before .before .before .before .before .before .before .before .before .before .before .args .events .now) (c .before .before .before .before .before .before .before .before .before .before .before .before .before .before .before .before .before .before .before .before .before .before .before .before .before .before .args .fuel)) (c .before .before .before .before .before .before .before .before .before .before .before .before .before .before .before .before .before .before .before .before .before .before .before .before .before .before .pre .1 .1 .1)) {o = (outcomeFrom (c .before .before .before .before .before .before .before .before .before .called .result) (c .before .before .before .before .before .before .before .before .before .called .last .1 .1 .1 .1 .1 .1 .0) (c .before .before .before .before .before .before .before .before .before .called .last .1 .1 .1 .1 .1 .1 .1 .0))} (rw (calls-length (c .before .before .before .before .before .before .before .before .before .before .before .before .before .before .before .before .before .before .before .before .before .before .before .before .before .before .args .offering) (c .before .before .before .before .before .before .before .before .before .before .before .before .before .before .before .before .before .before .before .before .before .before .before .before .before .before .args .events .now) (c .before .before .before .before .before .before .before .before .before .before .before .before .before .before .before .before .before .before .before .before .before .before .before .before .before .before .args .fuel)) (c .before .before .before .before .before .before .before .before .before .before .before .before .before .loop-test .taken)) (rw (call-at (c .before .before .before .before .before .before .before .before .before .before .before .before .before .before .before .before .before .before .before .before .before .before .before .before .before .before .args .offering) (c .before .before .before .before .before .before .before .before .before .before .before .before .before .before .before .before .before .before .before .before .before .before .before .before .before .before .args .events .now) (c .before .before .before .before .before .before .before .before .before .before .before .before .before .before .before .before .before .before .before .before .before .before .before .before .before .before .args .fuel) (c .before .before .before .before .before .before .before .before .before .before .before .before .before .before .loop .k) (c .before .before .before .before .before .before .before .before .before .before .before .before .before .loop-test .taken)) (c .before .before .before .before .before .before .before .before .before .called .ensures)) (rw ((call-at (c .before .before .before .before .before .before .before .before .before .before .before .before .before .before .before .before .before .before .before .before .before .before .before .before .before .before .args .offering) (c .before .before .before .before .before .before .before .before .before .before .before .before .before .before .before .before .before .before .before .before .before .before .before .before .before .before .args .events .now) (c .before .before .before .before .before .before .before .before .before .before .before .before .before .before .before .before .before .before .before .before .before .before .before .before .before .before .args .fuel) (c .before .before .before .before .before .before .before .before .before .before .before .before .before .before .loop .k) (c .before .before .before .before .before .before .before .before .before .before .before .before .before .loop-test .taken)), fuel-with (c .before .before .before .before .before .before .before .before .before .before .before .before .before .before .before .before .before .before .before .before .before .before .before .before .before .before .args .offering) (getD (c .before .before .before .before .before .before .before .before .before .before .before .before .before .before .before .before .before .before .before .before .before .before .before .before .before .before .args .events .now) (c .before .before .before .before .before .before .before .before .before .before .before .before .before .before .loop .k) 0) (c .before .before .before .before .before .before .before .before .before .before .before .before .before .before .before .before .before .before .before .before .before .before .before .before .before .before .args .fuel)) (omega (arith, c .before .before .before .before .before .before .before .before .before .before .before .before .before .before .before .before .before .before .before .before .before .before .before .before .before .before .fits .fuel))) (rw (calls-length (c .before .before .before .before .before .before .before .before .before .before .before .before .before .before .before .before .before .before .before .before .before .before .before .before .before .before .args .offering) (c .before .before .before .before .before .before .before .before .before .before .before .before .before .before .before .before .before .before .before .before .before .before .before .before .before .before .args .events .now) (c .before .before .before .before .before .before .before .before .before .before .before .before .before .before .before .before .before .before .before .before .before .before .before .before .before .before .args .fuel)) (c .before .before .before .before .before .before .before .before .before .before .before .before .before .before .before .before .before .before .before .before .before .before .before .before .before .before .pre .1 .1 .0)) .rewrites)
+add-rewrites c = omega (arith, offering-sums (c .before .before .before .before .before .before .before .before .before .before .before .before .before .before .before .loop .inv) (rw (calls-length (c .before .before .before .before .before .before .before .before .before .before .before .before .before .before .before .before .before .before .before .before .before .before .before .before .before .before .before .before .args .offering) (c .before .before .before .before .before .before .before .before .before .before .before .before .before .before .before .before .before .before .before .before .before .before .before .before .before .before .before .before .args .events .now) (c .before .before .before .before .before .before .before .before .before .before .before .before .before .before .before .before .before .before .before .before .before .before .before .before .before .before .before .before .args .fuel)) (c .before .before .before .before .before .before .before .before .before .before .before .before .before .before .before .before .before .before .before .before .before .before .before .before .before .before .before .before .pre .1 .1 .1)) {o = (outcomeFrom (c .before .before .before .before .before .before .before .before .before .before .called .result) (c .before .before .before .before .before .before .before .before .before .before .called .last .1 .1 .1 .1 .1 .1 .0) (c .before .before .before .before .before .before .before .before .before .before .called .last .1 .1 .1 .1 .1 .1 .1 .0))} (rw (calls-length (c .before .before .before .before .before .before .before .before .before .before .before .before .before .before .before .before .before .before .before .before .before .before .before .before .before .before .before .before .args .offering) (c .before .before .before .before .before .before .before .before .before .before .before .before .before .before .before .before .before .before .before .before .before .before .before .before .before .before .before .before .args .events .now) (c .before .before .before .before .before .before .before .before .before .before .before .before .before .before .before .before .before .before .before .before .before .before .before .before .before .before .before .before .args .fuel)) (c .before .before .before .before .before .before .before .before .before .before .before .before .before .before .loop-test .taken)) (rw (call-at (c .before .before .before .before .before .before .before .before .before .before .before .before .before .before .before .before .before .before .before .before .before .before .before .before .before .before .before .before .args .offering) (c .before .before .before .before .before .before .before .before .before .before .before .before .before .before .before .before .before .before .before .before .before .before .before .before .before .before .before .before .args .events .now) (c .before .before .before .before .before .before .before .before .before .before .before .before .before .before .before .before .before .before .before .before .before .before .before .before .before .before .before .before .args .fuel) (c .before .before .before .before .before .before .before .before .before .before .before .before .before .before .before .loop .k) (c .before .before .before .before .before .before .before .before .before .before .before .before .before .before .loop-test .taken)) (c .before .before .before .before .before .before .before .before .before .before .called .ensures)) (rw ((call-at (c .before .before .before .before .before .before .before .before .before .before .before .before .before .before .before .before .before .before .before .before .before .before .before .before .before .before .before .before .args .offering) (c .before .before .before .before .before .before .before .before .before .before .before .before .before .before .before .before .before .before .before .before .before .before .before .before .before .before .before .before .args .events .now) (c .before .before .before .before .before .before .before .before .before .before .before .before .before .before .before .before .before .before .before .before .before .before .before .before .before .before .before .before .args .fuel) (c .before .before .before .before .before .before .before .before .before .before .before .before .before .before .before .loop .k) (c .before .before .before .before .before .before .before .before .before .before .before .before .before .before .loop-test .taken)), fuel-with (c .before .before .before .before .before .before .before .before .before .before .before .before .before .before .before .before .before .before .before .before .before .before .before .before .before .before .before .before .args .offering) (getD (c .before .before .before .before .before .before .before .before .before .before .before .before .before .before .before .before .before .before .before .before .before .before .before .before .before .before .before .before .args .events .now) (c .before .before .before .before .before .before .before .before .before .before .before .before .before .before .before .loop .k) 0) (c .before .before .before .before .before .before .before .before .before .before .before .before .before .before .before .before .before .before .before .before .before .before .before .before .before .before .before .before .args .fuel)) (omega (arith, c .before .before .before .before .before .before .before .before .before .before .before .before .before .before .before .before .before .before .before .before .before .before .before .before .before .before .before .before .fits .fuel))) (rw (calls-length (c .before .before .before .before .before .before .before .before .before .before .before .before .before .before .before .before .before .before .before .before .before .before .before .before .before .before .before .before .args .offering) (c .before .before .before .before .before .before .before .before .before .before .before .before .before .before .before .before .before .before .before .before .before .before .before .before .before .before .before .before .args .events .now) (c .before .before .before .before .before .before .before .before .before .before .before .before .before .before .before .before .before .before .before .before .before .before .before .before .before .before .before .before .args .fuel)) (c .before .before .before .before .before .before .before .before .before .before .before .before .before .before .before .before .before .before .before .before .before .before .before .before .before .before .before .before .pre .1 .1 .0)) .rewrites)
 
 add-put : tie.Need-add-put Inv-loop μ-loop
-add-put c = omega (arith, offering-sums (c .before .before .before .before .before .before .before .before .before .before .before .before .before .before .before .loop .inv) (rw (calls-length (c .before .before .before .before .before .before .before .before .before .before .before .before .before .before .before .before .before .before .before .before .before .before .before .before .before .before .before .args .offering) (c .before .before .before .before .before .before .before .before .before .before .before .before .before .before .before .before .before .before .before .before .before .before .before .before .before .before .before .args .events .now) (c .before .before .before .before .before .before .before .before .before .before .before .before .before .before .before .before .before .before .before .before .before .before .before .before .before .before .before .args .fuel)) (c .before .before .before .before .before .before .before .before .before .before .before .before .before .before .before .before .before .before .before .before .before .before .before .before .before .before .before .pre .1 .1 .1)) {o = (outcomeFrom (c .before .before .before .before .before .before .before .before .before .before .called .result) (c .before .before .before .before .before .before .before .before .before .before .called .last .1 .1 .1 .1 .1 .1 .0) (c .before .before .before .before .before .before .before .before .before .before .called .last .1 .1 .1 .1 .1 .1 .1 .0))} (rw (calls-length (c .before .before .before .before .before .before .before .before .before .before .before .before .before .before .before .before .before .before .before .before .before .before .before .before .before .before .before .args .offering) (c .before .before .before .before .before .before .before .before .before .before .before .before .before .before .before .before .before .before .before .before .before .before .before .before .before .before .before .args .events .now) (c .before .before .before .before .before .before .before .before .before .before .before .before .before .before .before .before .before .before .before .before .before .before .before .before .before .before .before .args .fuel)) (c .before .before .before .before .before .before .before .before .before .before .before .before .before .before .loop-test .taken)) (rw (call-at (c .before .before .before .before .before .before .before .before .before .before .before .before .before .before .before .before .before .before .before .before .before .before .before .before .before .before .before .args .offering) (c .before .before .before .before .before .before .before .before .before .before .before .before .before .before .before .before .before .before .before .before .before .before .before .before .before .before .before .args .events .now) (c .before .before .before .before .before .before .before .before .before .before .before .before .before .before .before .before .before .before .before .before .before .before .before .before .before .before .before .args .fuel) (c .before .before .before .before .before .before .before .before .before .before .before .before .before .before .before .loop .k) (c .before .before .before .before .before .before .before .before .before .before .before .before .before .before .loop-test .taken)) (c .before .before .before .before .before .before .before .before .before .before .called .ensures)) (rw ((call-at (c .before .before .before .before .before .before .before .before .before .before .before .before .before .before .before .before .before .before .before .before .before .before .before .before .before .before .before .args .offering) (c .before .before .before .before .before .before .before .before .before .before .before .before .before .before .before .before .before .before .before .before .before .before .before .before .before .before .before .args .events .now) (c .before .before .before .before .before .before .before .before .before .before .before .before .before .before .before .before .before .before .before .before .before .before .before .before .before .before .before .args .fuel) (c .before .before .before .before .before .before .before .before .before .before .before .before .before .before .before .loop .k) (c .before .before .before .before .before .before .before .before .before .before .before .before .before .before .loop-test .taken)), fuel-with (c .before .before .before .before .before .before .before .before .before .before .before .before .before .before .before .before .before .before .before .before .before .before .before .before .before .before .before .args .offering) (getD (c .before .before .before .before .before .before .before .before .before .before .before .before .before .before .before .before .before .before .before .before .before .before .before .before .before .before .before .args .events .now) (c .before .before .before .before .before .before .before .before .before .before .before .before .before .before .before .loop .k) 0) (c .before .before .before .before .before .before .before .before .before .before .before .before .before .before .before .before .before .before .before .before .before .before .before .before .before .before .before .args .fuel)) (omega (arith, c .before .before .before .before .before .before .before .before .before .before .before .before .before .before .before .before .before .before .before .before .before .before .before .before .before .before .before .fits .fuel))) (rw (calls-length (c .before .before .before .before .before .before .before .before .before .before .before .before .before .before .before .before .before .before .before .before .before .before .before .before .before .before .before .args .offering) (c .before .before .before .before .before .before .before .before .before .before .before .before .before .before .before .before .before .before .before .before .before .before .before .before .before .before .before .args .events .now) (c .before .before .before .before .before .before .before .before .before .before .before .before .before .before .before .before .before .before .before .before .before .before .before .before .before .before .before .args .fuel)) (c .before .before .before .before .before .before .before .before .before .before .before .before .before .before .before .before .before .before .before .before .before .before .before .before .before .before .before .pre .1 .1 .0)) .put)
+add-put c = omega (arith, offering-sums (c .before .before .before .before .before .before .before .before .before .before .before .before .before .before .before .before .loop .inv) (rw (calls-length (c .before .before .before .before .before .before .before .before .before .before .before .before .before .before .before .before .before .before .before .before .before .before .before .before .before .before .before .before .before .args .offering) (c .before .before .before .before .before .before .before .before .before .before .before .before .before .before .before .before .before .before .before .before .before .before .before .before .before .before .before .before .before .args .events .now) (c .before .before .before .before .before .before .before .before .before .before .before .before .before .before .before .before .before .before .before .before .before .before .before .before .before .before .before .before .before .args .fuel)) (c .before .before .before .before .before .before .before .before .before .before .before .before .before .before .before .before .before .before .before .before .before .before .before .before .before .before .before .before .before .pre .1 .1 .1)) {o = (outcomeFrom (c .before .before .before .before .before .before .before .before .before .before .before .called .result) (c .before .before .before .before .before .before .before .before .before .before .before .called .last .1 .1 .1 .1 .1 .1 .0) (c .before .before .before .before .before .before .before .before .before .before .before .called .last .1 .1 .1 .1 .1 .1 .1 .0))} (rw (calls-length (c .before .before .before .before .before .before .before .before .before .before .before .before .before .before .before .before .before .before .before .before .before .before .before .before .before .before .before .before .before .args .offering) (c .before .before .before .before .before .before .before .before .before .before .before .before .before .before .before .before .before .before .before .before .before .before .before .before .before .before .before .before .before .args .events .now) (c .before .before .before .before .before .before .before .before .before .before .before .before .before .before .before .before .before .before .before .before .before .before .before .before .before .before .before .before .before .args .fuel)) (c .before .before .before .before .before .before .before .before .before .before .before .before .before .before .before .loop-test .taken)) (rw (call-at (c .before .before .before .before .before .before .before .before .before .before .before .before .before .before .before .before .before .before .before .before .before .before .before .before .before .before .before .before .before .args .offering) (c .before .before .before .before .before .before .before .before .before .before .before .before .before .before .before .before .before .before .before .before .before .before .before .before .before .before .before .before .before .args .events .now) (c .before .before .before .before .before .before .before .before .before .before .before .before .before .before .before .before .before .before .before .before .before .before .before .before .before .before .before .before .before .args .fuel) (c .before .before .before .before .before .before .before .before .before .before .before .before .before .before .before .before .loop .k) (c .before .before .before .before .before .before .before .before .before .before .before .before .before .before .before .loop-test .taken)) (c .before .before .before .before .before .before .before .before .before .before .before .called .ensures)) (rw ((call-at (c .before .before .before .before .before .before .before .before .before .before .before .before .before .before .before .before .before .before .before .before .before .before .before .before .before .before .before .before .before .args .offering) (c .before .before .before .before .before .before .before .before .before .before .before .before .before .before .before .before .before .before .before .before .before .before .before .before .before .before .before .before .before .args .events .now) (c .before .before .before .before .before .before .before .before .before .before .before .before .before .before .before .before .before .before .before .before .before .before .before .before .before .before .before .before .before .args .fuel) (c .before .before .before .before .before .before .before .before .before .before .before .before .before .before .before .before .loop .k) (c .before .before .before .before .before .before .before .before .before .before .before .before .before .before .before .loop-test .taken)), fuel-with (c .before .before .before .before .before .before .before .before .before .before .before .before .before .before .before .before .before .before .before .before .before .before .before .before .before .before .before .before .before .args .offering) (getD (c .before .before .before .before .before .before .before .before .before .before .before .before .before .before .before .before .before .before .before .before .before .before .before .before .before .before .before .before .before .args .events .now) (c .before .before .before .before .before .before .before .before .before .before .before .before .before .before .before .before .loop .k) 0) (c .before .before .before .before .before .before .before .before .before .before .before .before .before .before .before .before .before .before .before .before .before .before .before .before .before .before .before .before .before .args .fuel)) (omega (arith, c .before .before .before .before .before .before .before .before .before .before .before .before .before .before .before .before .before .before .before .before .before .before .before .before .before .before .before .before .before .fits .fuel))) (rw (calls-length (c .before .before .before .before .before .before .before .before .before .before .before .before .before .before .before .before .before .before .before .before .before .before .before .before .before .before .before .before .before .args .offering) (c .before .before .before .before .before .before .before .before .before .before .before .before .before .before .before .before .before .before .before .before .before .before .before .before .before .before .before .before .before .args .events .now) (c .before .before .before .before .before .before .before .before .before .before .before .before .before .before .before .before .before .before .before .before .before .before .before .before .before .before .before .before .before .args .fuel)) (c .before .before .before .before .before .before .before .before .before .before .before .before .before .before .before .before .before .before .before .before .before .before .before .before .before .before .before .before .before .pre .1 .1 .0)) .put)
 
 add-k : tie.Need-add-k Inv-loop μ-loop
-add-k c = omega (arith, c .before .before .before .before .before .before .before .before .before .before .before .before .before .before .loop-test .taken, c .before .before .before .before .before .before .before .before .before .before .before .before .before .before .before .before .before .before .before .before .before .before .before .before .before .before .before .pre .1 .1 .0)
+add-k c = omega (arith, c .before .before .before .before .before .before .before .before .before .before .before .before .before .before .before .loop-test .taken, c .before .before .before .before .before .before .before .before .before .before .before .before .before .before .before .before .before .before .before .before .before .before .before .before .before .before .before .before .before .pre .1 .1 .0)
 
 loop-less : tie.Need-loop-less Inv-loop μ-loop
-loop-less c = omega (arith, c .before .before .before .before .before .before .before .before .before .before .before .before .before .before .loop-test .taken)
+loop-less c = omega (arith, c .before .before .before .before .before .before .before .before .before .before .before .before .before .before .before .loop-test .taken)
 
 loop-again : tie.Need-loop-again Inv-loop μ-loop
 unfolding plus
-loop-again c = rw (add-one, c .before .before .before .before .answer-byte .ensures) (offering-next (c .before .before .before .before .before .before .before .before .before .before .before .before .before .before .before .loop .inv) (rw (calls-length (c .before .before .before .before .before .before .before .before .before .before .before .before .before .before .before .before .before .before .before .before .before .before .before .before .before .before .before .args .offering) (c .before .before .before .before .before .before .before .before .before .before .before .before .before .before .before .before .before .before .before .before .before .before .before .before .before .before .before .args .events .now) (c .before .before .before .before .before .before .before .before .before .before .before .before .before .before .before .before .before .before .before .before .before .before .before .before .before .before .before .args .fuel)) (c .before .before .before .before .before .before .before .before .before .before .before .before .before .before .before .before .before .before .before .before .before .before .before .before .before .before .before .pre .1 .1 .1)) {o = (outcomeFrom (c .before .before .before .before .before .before .before .before .before .before .called .result) (c .before .before .before .before .before .before .before .before .before .before .called .last .1 .1 .1 .1 .1 .1 .0) (c .before .before .before .before .before .before .before .before .before .before .called .last .1 .1 .1 .1 .1 .1 .1 .0))} (rw (calls-length (c .before .before .before .before .before .before .before .before .before .before .before .before .before .before .before .before .before .before .before .before .before .before .before .before .before .before .before .args .offering) (c .before .before .before .before .before .before .before .before .before .before .before .before .before .before .before .before .before .before .before .before .before .before .before .before .before .before .before .args .events .now) (c .before .before .before .before .before .before .before .before .before .before .before .before .before .before .before .before .before .before .before .before .before .before .before .before .before .before .before .args .fuel)) (c .before .before .before .before .before .before .before .before .before .before .before .before .before .before .loop-test .taken)) (rw (call-at (c .before .before .before .before .before .before .before .before .before .before .before .before .before .before .before .before .before .before .before .before .before .before .before .before .before .before .before .args .offering) (c .before .before .before .before .before .before .before .before .before .before .before .before .before .before .before .before .before .before .before .before .before .before .before .before .before .before .before .args .events .now) (c .before .before .before .before .before .before .before .before .before .before .before .before .before .before .before .before .before .before .before .before .before .before .before .before .before .before .before .args .fuel) (c .before .before .before .before .before .before .before .before .before .before .before .before .before .before .before .loop .k) (c .before .before .before .before .before .before .before .before .before .before .before .before .before .before .loop-test .taken)) (c .before .before .before .before .before .before .before .before .before .before .called .ensures)) (rw ((call-at (c .before .before .before .before .before .before .before .before .before .before .before .before .before .before .before .before .before .before .before .before .before .before .before .before .before .before .before .args .offering) (c .before .before .before .before .before .before .before .before .before .before .before .before .before .before .before .before .before .before .before .before .before .before .before .before .before .before .before .args .events .now) (c .before .before .before .before .before .before .before .before .before .before .before .before .before .before .before .before .before .before .before .before .before .before .before .before .before .before .before .args .fuel) (c .before .before .before .before .before .before .before .before .before .before .before .before .before .before .before .loop .k) (c .before .before .before .before .before .before .before .before .before .before .before .before .before .before .loop-test .taken)), fuel-with (c .before .before .before .before .before .before .before .before .before .before .before .before .before .before .before .before .before .before .before .before .before .before .before .before .before .before .before .args .offering) (getD (c .before .before .before .before .before .before .before .before .before .before .before .before .before .before .before .before .before .before .before .before .before .before .before .before .before .before .before .args .events .now) (c .before .before .before .before .before .before .before .before .before .before .before .before .before .before .before .loop .k) 0) (c .before .before .before .before .before .before .before .before .before .before .before .before .before .before .before .before .before .before .before .before .before .before .before .before .before .before .before .args .fuel)) (omega (arith, c .before .before .before .before .before .before .before .before .before .before .before .before .before .before .before .before .before .before .before .before .before .before .before .before .before .before .before .fits .fuel))) (accepted _ (c .before .before .before .before .before .match .keys2)))
+loop-again c = rw (add-one, c .before .before .before .before .before .answer-byte .ensures, c .before .before .before .anew2 .ensures) (offering-next (c .before .before .before .before .before .before .before .before .before .before .before .before .before .before .before .before .loop .inv) (rw (calls-length (c .before .before .before .before .before .before .before .before .before .before .before .before .before .before .before .before .before .before .before .before .before .before .before .before .before .before .before .before .before .args .offering) (c .before .before .before .before .before .before .before .before .before .before .before .before .before .before .before .before .before .before .before .before .before .before .before .before .before .before .before .before .before .args .events .now) (c .before .before .before .before .before .before .before .before .before .before .before .before .before .before .before .before .before .before .before .before .before .before .before .before .before .before .before .before .before .args .fuel)) (c .before .before .before .before .before .before .before .before .before .before .before .before .before .before .before .before .before .before .before .before .before .before .before .before .before .before .before .before .before .pre .1 .1 .1)) {o = (outcomeFrom (c .before .before .before .before .before .before .before .before .before .before .before .called .result) (c .before .before .before .before .before .before .before .before .before .before .before .called .last .1 .1 .1 .1 .1 .1 .0) (c .before .before .before .before .before .before .before .before .before .before .before .called .last .1 .1 .1 .1 .1 .1 .1 .0))} (rw (calls-length (c .before .before .before .before .before .before .before .before .before .before .before .before .before .before .before .before .before .before .before .before .before .before .before .before .before .before .before .before .before .args .offering) (c .before .before .before .before .before .before .before .before .before .before .before .before .before .before .before .before .before .before .before .before .before .before .before .before .before .before .before .before .before .args .events .now) (c .before .before .before .before .before .before .before .before .before .before .before .before .before .before .before .before .before .before .before .before .before .before .before .before .before .before .before .before .before .args .fuel)) (c .before .before .before .before .before .before .before .before .before .before .before .before .before .before .before .loop-test .taken)) (rw (call-at (c .before .before .before .before .before .before .before .before .before .before .before .before .before .before .before .before .before .before .before .before .before .before .before .before .before .before .before .before .before .args .offering) (c .before .before .before .before .before .before .before .before .before .before .before .before .before .before .before .before .before .before .before .before .before .before .before .before .before .before .before .before .before .args .events .now) (c .before .before .before .before .before .before .before .before .before .before .before .before .before .before .before .before .before .before .before .before .before .before .before .before .before .before .before .before .before .args .fuel) (c .before .before .before .before .before .before .before .before .before .before .before .before .before .before .before .before .loop .k) (c .before .before .before .before .before .before .before .before .before .before .before .before .before .before .before .loop-test .taken)) (c .before .before .before .before .before .before .before .before .before .before .before .called .ensures)) (rw ((call-at (c .before .before .before .before .before .before .before .before .before .before .before .before .before .before .before .before .before .before .before .before .before .before .before .before .before .before .before .before .before .args .offering) (c .before .before .before .before .before .before .before .before .before .before .before .before .before .before .before .before .before .before .before .before .before .before .before .before .before .before .before .before .before .args .events .now) (c .before .before .before .before .before .before .before .before .before .before .before .before .before .before .before .before .before .before .before .before .before .before .before .before .before .before .before .before .before .args .fuel) (c .before .before .before .before .before .before .before .before .before .before .before .before .before .before .before .before .loop .k) (c .before .before .before .before .before .before .before .before .before .before .before .before .before .before .before .loop-test .taken)), fuel-with (c .before .before .before .before .before .before .before .before .before .before .before .before .before .before .before .before .before .before .before .before .before .before .before .before .before .before .before .before .before .args .offering) (getD (c .before .before .before .before .before .before .before .before .before .before .before .before .before .before .before .before .before .before .before .before .before .before .before .before .before .before .before .before .before .args .events .now) (c .before .before .before .before .before .before .before .before .before .before .before .before .before .before .before .before .loop .k) 0) (c .before .before .before .before .before .before .before .before .before .before .before .before .before .before .before .before .before .before .before .before .before .before .before .before .before .before .before .before .before .args .fuel)) (omega (arith, c .before .before .before .before .before .before .before .before .before .before .before .before .before .before .before .before .before .before .before .before .before .before .before .before .before .before .before .before .before .fits .fuel))) (accepted _ (c .before .before .before .before .before .before .match .keys2)))
 
 stopped-requires-2 : tie.Need-stopped-requires-2 Inv-loop μ-loop
 stopped-requires-2 c κs = search needs
@@ -109,7 +115,7 @@ same-length-6 c = c .before .before .loop .inv .size
 
 returns-2 : tie.Need-returns-2 Inv-loop μ-loop
 unfolding refusedAs
-returns-2 c = rw (c .stopped2 .ensures, ← (calls-length (c .before .before .before .before .before .before .before .before .before .before .before .before .before .before .args .offering) (c .before .before .before .before .before .before .before .before .before .before .before .before .before .before .args .events .now) (c .before .before .before .before .before .before .before .before .before .before .before .before .before .before .args .fuel))) (offering-all (c .before .before .loop .inv) (rw (calls-length (c .before .before .before .before .before .before .before .before .before .before .before .before .before .before .args .offering) (c .before .before .before .before .before .before .before .before .before .before .before .before .before .before .args .events .now) (c .before .before .before .before .before .before .before .before .before .before .before .before .before .before .args .fuel)) (c .before .before .before .before .before .before .before .before .before .before .before .before .before .before .pre .1 .1 .1)) (rw (calls-length (c .before .before .before .before .before .before .before .before .before .before .before .before .before .before .args .offering) (c .before .before .before .before .before .before .before .before .before .before .before .before .before .before .args .events .now) (c .before .before .before .before .before .before .before .before .before .before .before .before .before .before .args .fuel)) (c .before .loop-test .left)))
+returns-2 c = rw (c .stopped2 .ensures, ← c .before .before .before .anew .ensures, ← (calls-length (c .before .before .before .before .before .before .before .before .before .before .before .before .before .before .before .args .offering) (c .before .before .before .before .before .before .before .before .before .before .before .before .before .before .before .args .events .now) (c .before .before .before .before .before .before .before .before .before .before .before .before .before .before .before .args .fuel))) (offering-all (c .before .before .loop .inv) (rw (calls-length (c .before .before .before .before .before .before .before .before .before .before .before .before .before .before .before .args .offering) (c .before .before .before .before .before .before .before .before .before .before .before .before .before .before .before .args .events .now) (c .before .before .before .before .before .before .before .before .before .before .before .before .before .before .before .args .fuel)) (c .before .before .before .before .before .before .before .before .before .before .before .before .before .before .before .pre .1 .1 .1)) (rw (calls-length (c .before .before .before .before .before .before .before .before .before .before .before .before .before .before .before .args .offering) (c .before .before .before .before .before .before .before .before .before .before .before .before .before .before .before .args .events .now) (c .before .before .before .before .before .before .before .before .before .before .before .before .before .before .before .args .fuel)) (c .before .loop-test .left)))
 
 pub in-turn-spec : {M : Type 1} → statement M
 in-turn-spec =
@@ -122,6 +128,7 @@ in-turn-spec =
     add-rows
     shared-slice-read-wide-2
     wide-requires-2
+    anew-requires
     loop-holds
     shared-slice-read-called
     called-requires
@@ -133,6 +140,7 @@ in-turn-spec =
     returns
     answer-byte-requires
     slice-write-answers
+    anew-requires-2
     add-steps
     add-rewrites
     add-put
