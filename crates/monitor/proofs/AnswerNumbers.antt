@@ -22,7 +22,7 @@ use Rattle.monitor.specs.declared.Standing.{Standing}
 use Rattle.monitor.specs.declared.Answer.{Answer}
 use Rattle.monitor.specs.Run.{Run, run}
 use Rattle.monitor.specs.Areas.{Monitor, headOf, monitorOf, stateOf, closesWith, standsBy}
-use Rattle.monitor.specs.Calls.{Call, Offer, Outcome, lentChecks, callChecks, fuelOf, offered, outcome, decided, callOf, offerOf, refusedBy, answerNumber}
+use Rattle.monitor.specs.Calls.{Call, Offer, Outcome, lentChecks, callChecks, fuelOf, offered, outcome, decided, callOf, refusedBy, answerNumber}
 use Rattle.monitor.specs.Play.{offersOf}
 use Rattle.monitor.specs.Batch.{stopped, andThen, inTurn, offers, batchChecks, batched, batchOf}
 use Rattle.monitor.specs.Promise.{Stopped}

@@ -3,12 +3,12 @@
 use Prim.Native.Nat.{ℕ, _+_, _-_, _≤_, _<_}
 use mathlib.Core.Path.{_≡_, refl, sym, ap, _∙_}
 use mathlib.Core.Bool.{Bool, true, false, not, cond, _||_}
-use mathlib.Core.Option.{Option, none, some}
+use mathlib.Core.Option.{none, some}
 use mathlib.Core.List.{List, [], _∷_, _++_, append-nil}
 use native.Mathlib.Omega.{arith}
 use lib.Dec.{eqb, ltb}
 use lib.ListN as ListN
-use lib.ListN.{length, drop, replicate, length-append, length-replicate}
+use lib.ListN.{length, replicate, length-append, length-replicate}
 use lib.Seq.{paste, take-all, drop-length}
 use borrow.Author.Tests.{le-leb, lt-leb, eq-eqb, ne-eqb, eqb-false, not-true}
 use Rattle.rewriting.specs.Lists.{below}
@@ -20,17 +20,16 @@ use Rattle.image.proofs.Image.{valid-in-range}
 use Rattle.image.proofs.Refusals.{refusal-append-some}
 use Rattle.monitor.specs.declared.Standing.{Standing}
 use Rattle.monitor.specs.declared.Head.{Head}
-use Rattle.monitor.specs.declared.Answer.{Answer}
 use Rattle.monitor.specs.State.{State, empty}
-use Rattle.monitor.specs.Run.{Run, noCounts, fits, run}
-use Rattle.monitor.specs.Areas.{Monitor, headOf, areaOf, monitorOf, stateOf}
-use Rattle.monitor.specs.Calls.{sized, freshOf, freshened, lentChecks, callOf, Call, Offer, GoOn, Outcome, fuelCheck, verdictCheck, isNone, callChecks, fuelOf, offered, refusalOf, outcome, decided}
+use Rattle.monitor.specs.Run.{fits, run}
+use Rattle.monitor.specs.Areas.{Monitor, headOf, monitorOf, stateOf}
+use Rattle.monitor.specs.Calls.{sized, freshOf, freshened, lentChecks, callOf, Call, Offer, Outcome, fuelCheck, verdictCheck, isNone, callChecks, fuelOf, offered, refusalOf, outcome, decided}
 use Rattle.monitor.specs.Play.{eventsOf}
 use Rattle.monitor.specs.Lent.{lent, Passed, appended, oneMore, callWith}
-use Rattle.monitor.proofs.Legal.{Legal, legal-more}
+use Rattle.monitor.proofs.Legal.{legal-more}
 use Rattle.monitor.proofs.Areas.{state-back}
 use Rattle.monitor.proofs.AreaWrites.{area-append}
-use Rattle.monitor.proofs.Calls.{Holding, accepted-event, offered-more, holding-passes}
+use Rattle.monitor.proofs.Calls.{accepted-event, offered-more, holding-passes}
 use Rattle.monitor.proofs.Stepping.{Held, held, passed-valid, passed-table, passed-written, holds-state}
 
 -- refused by its checks

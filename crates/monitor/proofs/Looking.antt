@@ -1,10 +1,9 @@
 -- What a step reads: the first waiting symbol, the word before it, and the table's words for them.
 -- Assumes nothing.
-use Prim.Native.Nat.{ℕ, zero, suc, _+_, _-_, _*_, _≤_, _<_}
-use mathlib.Core.Path.{_≡_, refl, sym, ap, _∙_}
-use mathlib.Core.Bool.{true}
+use Prim.Native.Nat.{ℕ, _+_, _-_, _*_, _≤_, _<_}
+use mathlib.Core.Path.{_≡_, refl, ap, _∙_}
 use mathlib.Core.Option.{Option, none, some}
-use mathlib.Core.List.{List, [], _∷_, _++_}
+use mathlib.Core.List.{List, _∷_}
 use native.Mathlib.Omega.{arith}
 use lib.Dec.{ltb}
 use lib.ListN.{length, getD}
@@ -18,7 +17,7 @@ use Rattle.table.specs.States.{states, number, state, next, matching}
 use Rattle.table.specs.Table.{matchWord}
 use Rattle.table.proofs.States.{state-known, next-known, next-below, few-states}
 use Rattle.monitor.specs.Areas.{Monitor, stateOf}
-use Rattle.monitor.specs.Lent.{Passed, nextIn, matchIn, wordBefore, Matches}
+use Rattle.monitor.specs.Lent.{Passed, nextIn, matchIn, wordBefore}
 use Rattle.monitor.proofs.TableWords.{table-header, next-inside, table-next-in, match-inside, table-match-in}
 use Rattle.monitor.proofs.Stepping.{Held, held, passed-valid, passed-table, word-before, first-at}
 

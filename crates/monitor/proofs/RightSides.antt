@@ -1,17 +1,17 @@
 -- Right sides as the code meets them in a valid image: how many symbols there are, where they stand, or the verdict.
 -- Assumes nothing.
 use Prim.Native.Nat.{ℕ, _+_, _≤_, _<_}
-use mathlib.Core.Path.{_≡_, refl, sym, ap, _∙_}
+use mathlib.Core.Path.{_≡_, refl, ap, _∙_}
 use mathlib.Core.Bool.{true}
 use mathlib.Core.List.{List}
 use native.Mathlib.Omega.{arith}
-use lib.ListN.{length, getD, take, drop, length-take, length-drop}
+use lib.ListN.{length, take, drop, length-drop}
 use lib.Seq.{ext-getD, getD-take, getD-drop, length-take-le}
-use Rattle.rewriting.specs.Rules.{Right, Put, Close, symbolsOf, Rule, rule}
+use Rattle.rewriting.specs.Rules.{Right, Put, Close, symbolsOf, rule}
 use Rattle.rewriting.proofs.Ranges.{length-right, ranges, rule-at}
 use Rattle.image.specs.declared.RightSide.{RightSide}
 use Rattle.image.specs.Image.{read, valid}
-use Rattle.image.specs.Places.{leftAt, rightAt, rightSideOf}
+use Rattle.image.specs.Places.{rightAt, rightSideOf}
 use Rattle.image.proofs.Image.{valid-in-range}
 use Rattle.image.proofs.Places.{left-within, body-left, right-symbol}
 

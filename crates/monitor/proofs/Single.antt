@@ -2,19 +2,18 @@
 -- Assumes nothing.
 use Prim.Native.Nat.{ℕ, _+_, _-_, _<_}
 use mathlib.Core.Path.{_≡_, refl, sym, ap, _∙_}
-use mathlib.Core.Bool.{Bool, true}
+use mathlib.Core.Bool.{true}
 use mathlib.Core.Option.{Option, none, some}
 use mathlib.Core.List.{List, [], _∷_, List·Memᴰ, List·Memᴰ·head, List·Memᴰ·tail}
 use native.Mathlib.Omega.{arith}
 use lib.Dec.{ltb}
-use lib.ListN.{length, getD}
-use borrow.Author.Tests.{ltb-true, le-ltb, lt-ltb, ne-eqb, eq-eqb}
+use lib.ListN.{getD}
+use borrow.Author.Tests.{ltb-true, le-ltb, ne-eqb}
 use Rattle.rewriting.specs.Lists.{all}
 use Rattle.rewriting.proofs.Lists.{and-left, and-right}
 use Rattle.image.specs.Image.{read}
 use Rattle.table.specs.Compile.{over}
 use Rattle.monitor.specs.declared.Answer.{Answer}
-use Rattle.monitor.specs.declared.Counts.{Counts}
 use Rattle.monitor.specs.Run.{noCounts, plus}
 use Rattle.monitor.specs.Areas.{Monitor}
 use Rattle.monitor.specs.Calls.{Call, Offer, GoOn, Outcome, callOf, refusedBy, refusalOf, answerNumber}

@@ -2,18 +2,16 @@
 -- Assumes nothing.
 use Prim.Native.Nat.{ℕ, zero, suc, _+_, _-_, _≤_, _<_}
 use mathlib.Core.Path.{_≡_, refl, sym, ap, _∙_}
-use mathlib.Core.Bool.{Bool, true, false, cond}
-use mathlib.Core.Option.{Option, none, some}
+use mathlib.Core.Bool.{true, false}
+use mathlib.Core.Option.{none, some}
 use mathlib.Core.List.{List, [], _∷_, _++_, map, append-nil}
 use native.Mathlib.Omega.{arith}
 use lib.ListN as ListN
-use lib.ListN.{length, getD, take, drop, replicate, length-append, length-take, length-map}
+use lib.ListN.{length, getD, take, replicate, length-append, length-map}
 use lib.Seq.{paste, append-snoc, take-append-le, take-all, length-take-le}
 use borrow.Author.Tests.{leb-true, le-leb, lt-leb}
 use Rattle.rewriting.specs.Lists.{prefix}
-use Rattle.rewriting.specs.Rules.{Right, Put, Close, Rule, RuleSet, rule}
-use Rattle.rewriting.specs.Occurrences.{cut, ending}
-use Rattle.rewriting.proofs.Lists.{and-left, and-right}
+use Rattle.rewriting.specs.Rules.{Put, Close, Rule, RuleSet, rule}
 use Rattle.rewriting.proofs.Scan.{EndsWith, ending-left}
 use Rattle.image.specs.Image.{read, valid}
 use Rattle.image.proofs.Refusals.{refusal-passed, refusal-rest}
@@ -22,7 +20,6 @@ use Rattle.table.specs.Table.{tableOf}
 use Rattle.table.proofs.Matching.{state-snoc, matching-next}
 use Rattle.table.proofs.States.{number-zero}
 use Rattle.monitor.specs.declared.Standing.{Standing}
-use Rattle.monitor.specs.declared.Head.{Head}
 use Rattle.monitor.specs.State.{State, Step, active, replace, settle, step}
 use Rattle.monitor.specs.Run.{fits}
 use Rattle.monitor.specs.Areas.{Monitor, headOf, areaOf, bytesOf, statesAfter, wordsOf, monitorOf, stateOf, described}

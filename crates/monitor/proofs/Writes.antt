@@ -2,11 +2,9 @@
 -- Assumes nothing.
 use Prim.Native.Nat.{ℕ, zero, suc, _+_, _-_, _≤_, _<_}
 use mathlib.Core.Path.{_≡_, refl, sym, ap, _∙_}
-use mathlib.Core.List.{List, [], _∷_, _++_}
+use mathlib.Core.List.{List}
 use native.Mathlib.Omega.{arith}
-use native.Mathlib.Numerals.{add-one}
-use native.Mathlib.Nat.{le-of-suc-le-suc, not-suc-le-zero}
-use lib.ListN.{length, getD, set, take, drop, replicate, length-replicate, length-drop}
+use lib.ListN.{length, getD, set, drop, replicate, length-replicate, length-drop}
 use lib.Seq.{paste, paste-zero, paste-suc, length-paste, drop-paste, getD-drop}
 
 -- d with the first j of n elements of s copied to it, from `at` on, is xs

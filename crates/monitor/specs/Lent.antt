@@ -23,7 +23,7 @@ use Rattle.monitor.specs.declared.Stepped.{Stepped}
 use Rattle.monitor.specs.declared.BatchCalled.{BatchCalled}
 use Rattle.monitor.specs.State.{State, Step, step}
 use Rattle.monitor.specs.Run.{fits}
-use Rattle.monitor.specs.Areas.{Monitor, statesAfter, monitorOf, stateOf, unmatched}
+use Rattle.monitor.specs.Areas.{Monitor, statesAfter, monitorOf, unmatched}
 use Rattle.monitor.specs.Calls.{Fresh, Call, Offer, GoOn, Outcome, lentChecks}
 use Rattle.monitor.specs.Batch.{Batched}
 

@@ -1,6 +1,6 @@
 -- `monitor::Head::in_turn` meets its contract: the invariant is `Offering` (proofs/Offering.antt).
 -- Assumes nothing.
-use Prim.Native.Nat.{ℕ, _+_, _-_, _≤_}
+use Prim.Native.Nat.{ℕ, _+_, _-_}
 use mathlib.Core.Path.{ap, _∙_}
 use native.Mathlib.Omega.{arith}
 use native.Mathlib.Numerals.{add-one}

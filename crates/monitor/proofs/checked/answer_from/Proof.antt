@@ -1,6 +1,5 @@
 -- `monitor::checked::answer_from` meets its contract.
 -- Assumes nothing.
-use lib.Dec.{eqb, ltb}
 use borrow.Author.Needs.{needs}
 use borrow.Author.Tests.{eq-eqb, ne-eqb, lt-ltb, le-ltb}
 use Rattle.monitor.proofs.checked.answer_from.Statement.{statement}
