@@ -23,9 +23,9 @@ use Rattle.calls.specs.Encoding.{encodes, callsIn}
 use Rattle.calls.specs.Played.{PlayEnded, playedFrom, logged, playChecks, playEnded, playOf, gaveBack, DemandThreeOf}
 
 module _ (capacity : ℕ) (image table bytes words numbers : List ℕ) where
-  -- 17
+  -- 30
   pub not-a-list : encodes numbers ≡ false
-      → record { refused = some 17; monitor = lent (headOf empty) bytes words; accepted = 0; counts = noCounts }
+      → record { refused = some 30; monitor = lent (headOf empty) bytes words; accepted = 0; counts = noCounts }
       ≡ playOf capacity image table bytes words numbers
   unfolding playOf playEnded playChecks refusal
   not-a-list e = rw e

@@ -24,6 +24,6 @@ pairs [] = true
 pairs (first ∷ []) = false
 pairs (first ∷ fuel ∷ numbers) = leb first 256 && pairs numbers
 
--- what 17 demands: the numbers are a list of calls, at most 4,294,967,295 of them, so that the sums fit 64 bits
+-- what 30 demands: the numbers are a list of calls, at most 4,294,967,295 of them, so that the sums fit 64 bits
 unfoldable pub encodes : List ℕ → Bool
 encodes numbers = leb (length numbers) 8589934590 && pairs numbers

@@ -42,9 +42,9 @@ unfoldable pub logged : Log → PlayEnded
 logged g =
     record { refused = none; monitor = g .monitor; accepted = length (g .events); counts = g .counts }
 
--- in order: 17, the numbers are no list of calls; 10, an area of another length
+-- in order: 30, the numbers are no list of calls; 10, an area of another length
 unfoldable pub playChecks : ℕ → List ℕ → List ℕ → List ℕ → List Check
-playChecks capacity bytes words numbers = (encodes numbers, 17) ∷ (sized capacity bytes words, 10) ∷ []
+playChecks capacity bytes words numbers = (encodes numbers, 30) ∷ (sized capacity bytes words, 10) ∷ []
 
 -- a refusal changes nothing lent, and has the empty head beside it
 unfoldable pub playEnded : Option ℕ → List ℕ → List ℕ → Log → PlayEnded

@@ -150,7 +150,7 @@ fn made_all(
     }
 }
 
-// The calls that the numbers are, from a fresh monitor. Refused are, in order: 17, the numbers are no list of calls; 10.
+// The calls that the numbers are, from a fresh monitor. Refused are, in order: 30, the numbers are no list of calls; 10.
 pub fn play(
     image: &[u8],
     table: &[u16],
@@ -165,7 +165,7 @@ pub fn play(
         r (now (bytes .exit)) (now (words .exit))) ⌝ }
 {
     if !is_list(numbers) {
-        return refused(17);
+        return refused(30);
     }
     let begun = monitor::fresh(bytes, words);
     let refusal = begun.refusal;

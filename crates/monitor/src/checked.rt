@@ -34,7 +34,7 @@ fn answer_byte(answer: Answer) -> u8
     }
 }
 
-// An answer from its byte.
+// An answer from its byte. No call has a byte from 3 to 15, and Quiet stands for these.
 fn answer_from(byte: u8) -> Answer
     ensures { λ r. ⌜ r ≡ answerFrom byte ⌝ }
 {
