@@ -63,6 +63,15 @@ states-after rules p (a ∷ s) zero h = state-snoc rules p a
 states-after rules p (a ∷ s) (suc i) h =
     rw (state-snoc, ← append-snoc p a (take (suc i) s)) (states-after rules (p ++ a ∷ []) s i (le-of-suc-le-suc h))
 
+-- one symbol more
+pub states-after-snoc : (rules : List Rule) (p s : List ℕ) (a : ℕ)
+    → statesAfter rules (state rules p) (s ++ a ∷ []) ≡ statesAfter rules (state rules p) s ++ next rules (state rules (p ++ s)) a ∷ []
+unfolding statesAfter
+states-after-snoc rules p [] a = rw append-nil
+states-after-snoc rules p (x ∷ s) a =
+    ap (λ (l : List (List ℕ)). next rules (state rules p) x ∷ l)
+    (rw (state-snoc rules p x, ← append-snoc p x s) (states-after-snoc rules (p ++ x ∷ []) s a))
+
 -- "word i below a is the table's state after i + 1 settled symbols"
 pub word-at : (rules : List Rule) (capacity : ℕ) (s : State) (i : ℕ) → i < length (s .settled)
     → getD (wordsOf rules capacity s) i 0 ≡ number (states rules) (state rules (take (suc i) (s .settled)))

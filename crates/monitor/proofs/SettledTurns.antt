@@ -5,15 +5,15 @@ use Prim.Native.Nat.{ℕ, zero, suc, _+_, _*_, _-_, _≤_, _<_}
 use mathlib.Core.Path.{_≡_, refl, sym, ap, _∙_}
 use mathlib.Core.Bool.{true}
 use mathlib.Core.Option.{Option, none, some}
-use mathlib.Core.List.{List, [], _∷_, _++_, append-nil, map-append}
+use mathlib.Core.List.{List, [], _∷_, _++_, map-append}
 use native.Mathlib.Numerals.{add-one}
 use native.Mathlib.Omega.{arith}
 use lib.Dec.{ltb}
 use lib.ListN.{length, getD, take}
-use lib.Seq.{take-all, take-suc, append-snoc, getD-take, length-take-le}
+use lib.Seq.{take-all, take-suc, getD-take, length-take-le}
 use borrow.Author.Tests.{ltb-true, lt-ltb}
 use Rattle.rewriting.specs.Lists.{prefix}
-use Rattle.rewriting.specs.Rules.{Rule, RuleSet}
+use Rattle.rewriting.specs.Rules.{RuleSet}
 use Rattle.rewriting.proofs.Lists.{and-both, all-append, all-at, getD-map}
 use Rattle.table.specs.States.{states, number, known, state, next, matching}
 use Rattle.table.specs.Table.{matchWord, tableOf}
@@ -21,22 +21,13 @@ use Rattle.table.proofs.Matching.{state-snoc}
 use Rattle.table.proofs.States.{number-zero, state-known, next-known}
 use Rattle.monitor.specs.Areas.{statesAfter, noMatch, unmatched}
 use Rattle.monitor.specs.Lent.{nextIn, matchIn, wordBefore, Settled}
-use Rattle.monitor.proofs.Areas.{length-states-after, states-after}
+use Rattle.monitor.proofs.Areas.{length-states-after, states-after, states-after-snoc}
 use Rattle.monitor.proofs.TableWords.{table-header, next-inside, table-next-in, match-inside, table-match-in}
 
 -- the word before word n, where n is not 0
 pub word-before : (words : List ℕ) (n : ℕ) → (n ≡ 0 → ⊥) → getD words (n - 1) 0 ≡ wordBefore words n
 word-before words zero h = absurd (h refl)
 word-before words (suc i) h = let e : suc i - 1 ≡ i = omega arith in rw e
-
--- one symbol more
-states-after-snoc : (rules : List Rule) (p s : List ℕ) (a : ℕ)
-    → statesAfter rules (state rules p) (s ++ a ∷ []) ≡ statesAfter rules (state rules p) s ++ next rules (state rules (p ++ s)) a ∷ []
-unfolding statesAfter
-states-after-snoc rules p [] a = rw append-nil
-states-after-snoc rules p (x ∷ s) a =
-    ap (λ (l : List (List ℕ)). next rules (state rules p) x ∷ l)
-    (rw (state-snoc rules p x, ← append-snoc p x s) (states-after-snoc rules (p ++ x ∷ []) s a))
 
 match-none : (m : Option ℕ) → matchWord m ≡ 0 → noMatch m ≡ true
 unfolding matchWord noMatch

@@ -4,11 +4,11 @@ use Prim.Native.Nat.{ℕ, zero, suc, _+_, _-_, _≤_, _<_}
 use mathlib.Core.Path.{_≡_, refl, sym, ap, _∙_}
 use mathlib.Core.Bool.{true, false}
 use mathlib.Core.Option.{none, some}
-use mathlib.Core.List.{List, [], _∷_, _++_, map, append-nil}
+use mathlib.Core.List.{List, [], _∷_, _++_, map, map-append}
 use native.Mathlib.Omega.{arith}
 use lib.ListN as ListN
 use lib.ListN.{length, getD, take, replicate, length-append, length-map}
-use lib.Seq.{paste, append-snoc, take-append-le, take-all, length-take-le}
+use lib.Seq.{paste, take-append-le, take-all, length-take-le}
 use borrow.Author.Tests.{leb-true, le-leb, lt-leb}
 use Rattle.rewriting.specs.Lists.{prefix}
 use Rattle.rewriting.specs.Rules.{Put, Close, Rule, RuleSet, rule}
@@ -17,7 +17,7 @@ use Rattle.image.specs.Image.{read, valid}
 use Rattle.image.proofs.Refusals.{refusal-passed, refusal-rest}
 use Rattle.table.specs.States.{states, number, state, next, matching}
 use Rattle.table.specs.Table.{tableOf}
-use Rattle.table.proofs.Matching.{state-snoc, matching-next}
+use Rattle.table.proofs.Matching.{matching-next}
 use Rattle.table.proofs.States.{number-zero}
 use Rattle.monitor.specs.declared.Standing.{Standing}
 use Rattle.monitor.specs.State.{State, Step, active, replace, settle, step}
@@ -26,7 +26,7 @@ use Rattle.monitor.specs.Areas.{Monitor, headOf, areaOf, bytesOf, states
 use Rattle.monitor.specs.Calls.{sized, lentChecks}
 use Rattle.monitor.specs.Lent.{lent, Passed, wordBefore, Matches, stepWaiting, stepOf, Tried, tried}
 use Rattle.monitor.proofs.Legal.{Legal}
-use Rattle.monitor.proofs.Areas.{length-area, length-states-after, word-at}
+use Rattle.monitor.proofs.Areas.{length-area, length-states-after, states-after-snoc, word-at}
 use Rattle.monitor.proofs.Described.{Described, is-described}
 use Rattle.monitor.proofs.AreaWrites.{area-first, area-taken, area-settled, area-cut, area-put, states-cut, map-take}
 
@@ -116,23 +116,8 @@ word-before set capacity m h = go (m .head .settled) refl
 -- one more settled symbol has one more word
 pub words-snoc : (rules : List Rule) (s : List ℕ) (a : ℕ)
     → wordsAfter rules (s ++ a ∷ []) ≡ wordsAfter rules s ++ number (states rules) (next rules (state rules s) a) ∷ []
-unfolding wordsAfter statesAfter state
-words-snoc rules s a = ap (map (number (states rules))) (after [] s) ∙ one (statesAfter rules [] s)
-  where
-    after : (p s : List ℕ) → statesAfter rules (state rules p) (s ++ a ∷ [])
-        ≡ statesAfter rules (state rules p) s ++ next rules (state rules (p ++ s)) a ∷ []
-    after p [] = ap (λ (l : List ℕ). next rules (state rules l) a ∷ []) (sym (append-nil p))
-    after p (x ∷ s) =
-        ap (λ (l : List (List ℕ)). next rules (state rules p) x ∷ l)
-        (ap (λ (v : List ℕ). statesAfter rules v (s ++ a ∷ [])) (state-snoc rules p x)
-        ∙ after (p ++ x ∷ []) s
-        ∙ ap (λ (v : List ℕ). statesAfter rules v s ++ next rules (state rules (p ++ x ∷ [] ++ s)) a ∷ []) (sym (state-snoc rules p x))
-        ∙ ap (λ (l : List ℕ). statesAfter rules (next rules (state rules p) x) s ++ next rules (state rules l) a ∷ []) (append-snoc p x s))
-
-    one : (l : List (List ℕ)) → map (number (states rules)) (l ++ next rules (state rules s) a ∷ [])
-        ≡ map (number (states rules)) l ++ number (states rules) (next rules (state rules s) a) ∷ []
-    one [] = refl
-    one (x ∷ l) = ap (λ (r : List ℕ). number (states rules) x ∷ r) (one l)
+unfolding wordsAfter state
+words-snoc rules s a = ap (map (number (states rules))) (states-after-snoc rules [] s a) ∙ map-append (number (states rules)) (statesAfter rules [] s) (next rules (state rules s) a ∷ [])
 
 -- cut
 pub words-cut : (rules : List Rule) (s : List ℕ) (k : ℕ) → take k (wordsAfter rules s) ≡ wordsAfter rules (take k s)
