@@ -113,7 +113,8 @@ fn contents_in_range(image: &[u8], rules: usize) -> bool
     left == 0
 }
 
-// Whether each symbol is below s. The largest is kept and tested once: a loop with no other way out becomes vector code.
+// Whether each symbol is below s. The largest is kept and tested once: a loop with no other way out becomes vector code. It
+// asks for an s above 0, as every image has: of no symbols the largest is taken to be 0.
 pub fn all_below(symbols: &[u8], s: u8) -> bool
     requires { ⌜ 1 ≤ s ⌝ }
     ensures { λ r. ⌜ r ≡ below s (now (symbols .entry)) ⌝ }
