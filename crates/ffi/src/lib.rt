@@ -6,11 +6,12 @@ ghost use mathlib.Core.List.{[], _∷_};
 ghost use Rattle.image.specs.Refusals.{refusalNumber};
 ghost use Rattle.table.specs.Compile.{compileOf, wordCount};
 ghost use Rattle.table.specs.Check.{checkOf};
+ghost use Rattle.text.specs.Read.{readOf};
 ghost use Rattle.monitor.specs.Areas.{documentCapacity};
 ghost use Rattle.monitor.specs.Calls.{freshOf, offerOf, goOnOf, refusedBy, answerNumber};
 ghost use Rattle.monitor.specs.Batch.{batchOf};
 ghost use Rattle.monitor.specs.Lent.{lent};
-ghost use Rattle.ffi.specs.Numbers.{compiledNumber, checkedNumber};
+ghost use Rattle.ffi.specs.Numbers.{readNumber, readWords, compiledNumber, checkedNumber};
 ghost use Rattle.ffi.specs.Heads.{standingWord, headFrom, headWords, headAfter, callWords, freshMade, callMade, batchMade};
 use monitor::Answer;
 use monitor::Called;
@@ -19,6 +20,32 @@ use monitor::Refusal;
 use monitor::Standing;
 use table::Checked;
 use table::Compiled;
+use text::Read;
+
+// read_rules: 0, or the refusal's number; in `out` the image's length and 0, beside a refusal 0 and its place.
+#[no_mangle]
+pub extern "C" fn watcher_read_rules(
+    text: &[u8],
+    image: &mut [u8],
+    names: &mut [u8],
+    out: &mut [u64; 2],
+) -> u32
+    ensures refusal { λ r. ⌜ r ≡ readNumber (readOf (now (text .entry)) (now (image .entry)) (now (names .entry)) .answer) ⌝ }
+    ensures image { λ r. ⌜ now (image .exit) ≡ readOf (now (text .entry)) (now (image .entry)) (now (names .entry)) .image ⌝ }
+    ensures names { λ r. ⌜ now (names .exit) ≡ readOf (now (text .entry)) (now (image .entry)) (now (names .entry)) .names ⌝ }
+    ensures words { λ r. ⌜ now (out .exit) ≡ readWords (readOf (now (text .entry)) (now (image .entry)) (now (names .entry)) .answer) ⌝ }
+{
+    match text::read_rules(text, image, names) {
+        Read::Image(n) => {
+            *out = [n as u64, 0];
+            0
+        }
+        Read::Refused(n, place) => {
+            *out = [0, place as u64];
+            n
+        }
+    }
+}
 
 // compile: 0, or the refusal's number; in `out` the number of words written, 0 beside a refusal.
 #[no_mangle]

@@ -11,14 +11,13 @@ use native.Mathlib.Nat.{suc-mul, mul-le-mul}
 use lib.Dec.{eqb, leb, ltb}
 use lib.ListN.{length, getD, take}
 use borrow.Author.Tests.{leb-true}
-use Rattle.rewriting.specs.Lists.{prefix}
+use Rattle.rewriting.specs.Lists.{prefix, over}
 use Rattle.rewriting.specs.Rules.{RuleSet}
 use Rattle.rewriting.proofs.Lists.{and-left}
 use Rattle.image.specs.Image.{read, valid}
 use Rattle.image.specs.Refusals.{Check, refusal}
 use Rattle.image.proofs.Refusals.{refusal-passed, refusal-rest, refusal-none-left, refusal-none-right, refusal-number}
 use Rattle.table.specs.Table.{tableOf}
-use Rattle.table.specs.Compile.{over}
 use Rattle.monitor.specs.declared.Head.{Head}
 use Rattle.monitor.specs.declared.Counts.{Counts}
 use Rattle.monitor.specs.Run.{Run, noCounts, plus, run}

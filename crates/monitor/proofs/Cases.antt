@@ -3,6 +3,7 @@
 use mathlib.Core.Path.{_≡_, refl}
 use mathlib.Core.List.{[], _∷_, map, flatMap}
 use mathlib.Core.Option.{none, some, orElse}
+use Rattle.rewriting.specs.Lists.{over}
 use Rattle.rewriting.specs.Rules.{symbolsOf, rule, rightInRange, ruleInRange, inRange}
 use Rattle.rewriting.specs.Occurrences.{lowest, tie, ending}
 use Rattle.rewriting.specs.Sample.{sample}
@@ -10,7 +11,6 @@ use Rattle.image.specs.Image.{kind, lengthOrVerdict, contents, body, imageOf, r
 use Rattle.image.specs.Refusals.{refusal}
 use Rattle.table.specs.States.{isPrefix, state, next, matching, prefixes, known, numbered, states, number}
 use Rattle.table.specs.Table.{matchWord, row, tableOf}
-use Rattle.table.specs.Compile.{over}
 use Rattle.monitor.specs.State.{empty, active, replace, settle, step}
 use Rattle.monitor.specs.Run.{noCounts, plus, countsOf, ended, counted, fits, proceed, tests, run}
 use Rattle.monitor.specs.Areas.{documentCapacity, headOf, areaOf, bytesOf, statesAfter, wordsOf, monitorOf, stateOf, noMatch, unmatched, closesWith, standsBy, holds, described}

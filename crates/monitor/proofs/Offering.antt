@@ -12,9 +12,9 @@ use lib.Dec.{eqb}
 use lib.ListN.{length, getD, set, take, drop, length-set, take-append-drop, drop-of-length-le, length-map}
 use lib.Seq.{length-take-le, append-snoc, drop-cons, drop-drop, drop-set-lt, take-suc-set}
 use borrow.Author.Tests.{eqb-true}
+use Rattle.rewriting.specs.Lists.{over}
 use Rattle.rewriting.proofs.Lists.{and-left, and-right, getD-map}
 use Rattle.image.specs.Image.{read}
-use Rattle.table.specs.Compile.{over}
 use Rattle.monitor.specs.declared.Answer.{Answer}
 use Rattle.monitor.specs.declared.Counts.{Counts}
 use Rattle.monitor.specs.Run.{noCounts, plus}

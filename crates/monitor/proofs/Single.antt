@@ -9,10 +9,9 @@ use native.Mathlib.Omega.{arith}
 use lib.Dec.{ltb}
 use lib.ListN.{getD}
 use borrow.Author.Tests.{ltb-true, le-ltb, ne-eqb}
-use Rattle.rewriting.specs.Lists.{all}
+use Rattle.rewriting.specs.Lists.{all, over}
 use Rattle.rewriting.proofs.Lists.{and-left, and-right}
 use Rattle.image.specs.Image.{read}
-use Rattle.table.specs.Compile.{over}
 use Rattle.monitor.specs.declared.Answer.{Answer}
 use Rattle.monitor.specs.Run.{noCounts, plus}
 use Rattle.monitor.specs.Areas.{Monitor}

@@ -5,8 +5,8 @@ use mathlib.Core.Option.{Option, none, some}
 use mathlib.Core.List.{List, [], _∷_, _++_}
 use lib.Dec.{leb}
 use lib.ListN.{length}
+use Rattle.rewriting.specs.Lists.{over}
 use Rattle.image.specs.Refusals.{Check, refusal}
-use Rattle.table.specs.Compile.{over}
 use Rattle.monitor.specs.declared.Counts.{Counts}
 use Rattle.monitor.specs.Run.{noCounts, plus}
 use Rattle.monitor.specs.Areas.{Monitor}

@@ -8,14 +8,13 @@ use mathlib.Core.Logic.{_↔_, _⊎_}
 use mathlib.Core.Option.{none, some}
 use mathlib.Core.List.{List, [], _∷_, _++_, map, List·Memᴰ}
 use lib.ListN.{length, getD, take, replicate}
-use Rattle.rewriting.specs.Lists.{prefix}
+use Rattle.rewriting.specs.Lists.{prefix, over}
 use Rattle.rewriting.specs.Rules.{Rule, RuleSet}
 use Rattle.rewriting.specs.Occurrences.{Occurrence, Occurs}
 use Rattle.rewriting.specs.Rewriter.{fed, rewrites}
 use Rattle.image.specs.Image.{read, valid}
 use Rattle.image.specs.Refusals.{refusal}
 use Rattle.table.specs.Table.{tableOf}
-use Rattle.table.specs.Compile.{over}
 use Rattle.monitor.specs.declared.Standing.{Standing}
 use Rattle.monitor.specs.declared.Answer.{Answer}
 use Rattle.monitor.specs.declared.Counts.{Counts}

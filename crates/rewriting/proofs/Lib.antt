@@ -1,4 +1,5 @@
 pub mod Lists
+pub mod Copying
 pub mod Ranges
 pub mod Choice
 pub mod Scan

@@ -4,14 +4,14 @@ use Prim.Native.Nat.{ℕ, zero, suc, _+_, _*_, _≤_, _<_}
 use mathlib.Core.Path.{_≡_, refl, sym, ap, _∙_}
 use mathlib.Core.Bool.{Bool, true, false, _&&_, _||_}
 use mathlib.Core.Logic.{_⊎_, inl, inr}
-use mathlib.Core.List.{List, [], _∷_, _++_, map, flatMap}
+use mathlib.Core.List.{List, [], _∷_, _++_, append-assoc, append-nil, map, flatMap}
 use native.Mathlib.Omega.{arith}
 use native.Mathlib.Nat.{le-of-suc-le-suc, not-suc-le-zero, zero-mul, suc-mul}
 use lib.Dec.{eqb, leb, ltb}
-use lib.ListN.{length, getD, drop, length-append, List·getD-append}
+use lib.ListN.{length, getD, drop, length-append, length-drop, List·getD-append}
 use lib.Seq.{getD-at, getD-append-add}
 use borrow.Author.Tests.{eqb-true, eq-eqb, leb-true, ltb-true, ltb-false, lt-ltb}
-use Rattle.rewriting.specs.Lists.{all, same, prefix, between, below, upTo}
+use Rattle.rewriting.specs.Lists.{all, same, prefix, between, below, upTo, over}
 
 pub and-left : (a b : Bool) → (a && b) ≡ true → a ≡ true
 and-left true b e = refl
@@ -156,6 +156,12 @@ module _ {A B : Type 0} (f : A → List B) where
       let on : suc i * n + a ≡ length (f x) + (i * n + a) = rw suc-mul (omega arith) in
       rw (on, getD-append-add) (getD-flatMap n h xs i a d e (le-of-suc-le-suc lt) below)
 
+module _ {A B : Type 0} (f : A → List B) where
+  pub flatMap-snoc : (xs : List A) (x : A) → flatMap f (xs ++ x ∷ []) ≡ flatMap f xs ++ f x
+  unfolding flatMap
+  flatMap-snoc [] x = append-nil (f x)
+  flatMap-snoc (y ∷ xs) x = rw (flatMap-snoc xs x) (sym (append-assoc (f y) (flatMap f xs) (f x)))
+
 pub getD-upTo : (n a d : ℕ) → a < n → getD (upTo n) a d ≡ a
 getD-upTo zero a d h = absurd (not-suc-le-zero h)
 getD-upTo (suc n) a d h = go (ltb a n) refl (getD-upTo n a d)
@@ -172,3 +178,8 @@ getD-upTo (suc n) a d h = go (ltb a n) refl (getD-upTo n a d)
 -- what stands in the beginning of a list
 pub begins-at : (s t : List ℕ) → prefix s t ≡ true → (i d : ℕ) → i < length s → getD t i d ≡ getD s i d
 begins-at s t e i d h = ap (λ (l : List ℕ). getD l i d) (prefix-rest s t e) ∙ List·getD-append s (drop (length s) t) d i h
+
+-- an area keeps its length
+pub length-over : (v area : List ℕ) → length v ≤ length area → length (over v area) ≡ length area
+unfolding over
+length-over v area h = rw (length-append, length-drop) (omega arith)

@@ -1,8 +1,9 @@
--- Tests on lists that the definitions share.
+-- Tests on lists that the definitions share, and writing into a longer area.
 use Prim.Native.Nat.{ℕ, zero, suc}
 use mathlib.Core.Bool.{Bool, true, false, _&&_, _||_}
 use mathlib.Core.List.{List, [], _∷_, _++_}
 use lib.Dec.{eqb, leb, ltb}
+use lib.ListN.{length, drop}
 
 module _ {A : Type 0} where
   -- each element passes the test
@@ -40,3 +41,8 @@ below n xs = all (λ x. ltb x n) xs
 abbrev pub upTo : ℕ → List ℕ
 upTo zero = []
 upTo (suc n) = upTo n ++ n ∷ []
+
+-- v written over the beginning of an area: "leaves those beyond, as does each operation, later ones too, that writes into
+-- a longer area"
+unfoldable pub over : List ℕ → List ℕ → List ℕ
+over v area = v ++ drop (length v) area

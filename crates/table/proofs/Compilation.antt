@@ -9,13 +9,15 @@ use native.Mathlib.Omega.{arith}
 use lib.ListN.{length, drop, length-append, length-drop}
 use lib.Seq.{take-append-seam, drop-append-seam}
 use borrow.Author.Tests.{leb-true, lt-leb, le-leb}
+use Rattle.rewriting.proofs.Lists.{length-over}
+use Rattle.rewriting.specs.Lists.{over}
 use Rattle.image.specs.Image.{read, valid}
 use Rattle.image.specs.Refusals.{Check, refusal}
 use Rattle.image.proofs.Image.{valid-in-range}
 use Rattle.image.proofs.Refusals.{refusal-passed, refusal-rest, refusal-number}
 use Rattle.table.specs.declared.Compiled.the-variants.{Words, Refused}
 use Rattle.table.specs.Table.{tableOf}
-use Rattle.table.specs.Compile.{over, compileChecks, compiled, compileOf, refusedBy, wordCount, CompileEnded, CompileCompiles}
+use Rattle.table.specs.Compile.{compileChecks, compiled, compileOf, refusedBy, wordCount, CompileEnded, CompileCompiles}
 use Rattle.table.specs.Nodes.{Built}
 use Rattle.table.proofs.Table.{length-table, table-length}
 
@@ -39,10 +41,6 @@ pub compile-accepted : (image area : List ℕ) → refusal (compileChecks image 
     → compileOf image area ≡ record { answer = Words (length (tableOf (read image))); area = over (tableOf (read image)) area }
 unfolding compileOf compiled
 compile-accepted image area e = rw e
-
-pub length-over : (v area : List ℕ) → length v ≤ length area → length (over v area) ≡ length area
-unfolding over
-length-over v area h = rw (length-append, length-drop) (omega arith)
 
 -- the checks of compile have the numbers that document 01 gives them
 check-numbers : (image area : List ℕ) → map (λ (c : Check). c .1) (compileChecks image area) ≡ 7 ∷ 8 ∷ []

@@ -5,6 +5,7 @@ use mathlib.Core.Path.{_≡_, refl}
 use mathlib.Core.Option.{some, orElse}
 use mathlib.Core.List.{List, [], _∷_, _++_, flatMap}
 use lib.ListN.{length, replicate}
+use Rattle.rewriting.specs.Lists.{over}
 use Rattle.rewriting.specs.Rules.{Put, Close, _⇒_}
 use Rattle.rewriting.specs.Occurrences.{lowest, tie, ending}
 use Rattle.rewriting.specs.Sample.{sample}
@@ -15,7 +16,7 @@ use Rattle.image.proofs.Computed.{sample-valid, longer-refused}
 use Rattle.table.specs.declared.Compiled.the-variants.{Words, Refused}
 use Rattle.table.specs.States.{isPrefix, state, next, matching, prefixes, known, numbered, states, number}
 use Rattle.table.specs.Table.{matchWord, row, tableOf}
-use Rattle.table.specs.Compile.{over, compileChecks, compiled, compileOf}
+use Rattle.table.specs.Compile.{compileChecks, compiled, compileOf}
 
 -- the six states: the empty string; lock, lock take; held, held free; take
 pub sample-states : states (sample .rules) ≡ [] ∷ (0 ∷ []) ∷ (0 ∷ 1 ∷ []) ∷ (3 ∷ []) ∷ (3 ∷ 2 ∷ []) ∷ (1 ∷ []) ∷ []

@@ -3,9 +3,10 @@ use Prim.Native.Nat.{ℕ}
 use mathlib.Core.Path.{_≡_}
 use mathlib.Core.Bool.{true}
 use mathlib.Core.Option.{Option, none, some}
-use mathlib.Core.List.{List, [], _∷_, _++_, List·Memᴰ}
+use mathlib.Core.List.{List, [], _∷_, List·Memᴰ}
 use lib.Dec.{leb}
 use lib.ListN.{length, take, drop}
+use Rattle.rewriting.specs.Lists.{over}
 use Rattle.image.specs.Image.{read, valid}
 use Rattle.image.specs.Refusals.{Check, refusal}
 use Rattle.table.specs.declared.Compiled.{Compiled}
@@ -16,10 +17,6 @@ use Rattle.table.specs.Table.{tableOf}
 pub record Compilation : Type 0 where
   pub answer : Compiled
   pub area : List ℕ
-
--- v written over the beginning of an area: "leaves those beyond"
-unfoldable pub over : List ℕ → List ℕ → List ℕ
-over v area = v ++ drop (length v) area
 
 -- "It refuses, in order: 7, the image breaks the layout or a range above; 8, the table area is shorter than the words needed."
 unfoldable pub compileChecks : List ℕ → List ℕ → List Check

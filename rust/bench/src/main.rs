@@ -5,6 +5,7 @@ Each side first does the work once, and all must agree. Then they take turns in 
 same warm buffers, another one going first from round to round. The tables show the median over the
 rounds, and the library's divided by the other's.
 
+* [`texts`]: read_rules, against [`reader`].
 * [`tables`]: compile and check_table, against [`baseline`].
 * [`monitors`]: offers and batches, against the same monitor in safe Rust ([`monitor`]) and one that
   looks through its string again after every rewrite ([`rescan`]).
@@ -19,8 +20,10 @@ cargo run --release -p bench [rounds]
 mod baseline;
 mod monitor;
 mod monitors;
+mod reader;
 mod rescan;
 mod tables;
+mod texts;
 mod timing;
 
 use std::env;
@@ -39,6 +42,8 @@ fn main() {
             }
         },
     };
+    texts::measure_all(rounds);
+    println!();
     tables::measure_all(rounds);
     println!();
     monitors::measure_all(rounds);

@@ -1,5 +1,5 @@
 /*!
-Rule images, matching tables, the plain rewriter and the monitor, computed naively.
+Rule texts, rule images, matching tables, the plain rewriter and the monitor, computed naively.
 
 This is the model that the tests compare the library with. It follows the words of document 01 one
 by one: states are strings, a next state is found by trying every suffix, a match by trying every
@@ -9,9 +9,11 @@ so that a mistake in the one is not a mistake in the other.
 * [`RuleSet`] and [`Rule`]: the rules, as strings of symbols.
 * [`encode`], [`parse`]: rule sets to images and back.
 * [`table`], [`compile`], [`check_table`]: what the library's functions must give.
+* [`reader`]: the reader of rule texts.
 * [`rewriter`]: the plain rewriter.
 * [`monitor`]: the monitor's operations.
 * [`random`]: a generator of pseudo-random numbers and of rule sets.
+* [`texts`]: a writer of rule texts.
 */
 
 #![forbid(unsafe_code)]
@@ -19,7 +21,9 @@ so that a mistake in the one is not a mistake in the other.
 
 pub mod monitor;
 pub mod random;
+pub mod reader;
 pub mod rewriter;
+pub mod texts;
 
 /// A symbol: a number below the number of symbols.
 pub type Symbol = u8;

@@ -1,6 +1,6 @@
 /*!
-A library that watches a stream of events by rewriting rules: it compiles the rules to a matching
-table and keeps the events' string rewritten while they arrive.
+A library that watches a stream of events by rewriting rules: it reads the rules from a text, compiles
+them to a matching table and keeps the events' string rewritten while they arrive.
 
 The functions here call the watcher's core, which is written in a language where each function is
 proved to meet its contract and which is linked as a static C library. This crate gives its
@@ -8,14 +8,32 @@ functions safe Rust signatures and adds nothing else.
 
 # Overview
 
-* [`Rules`] is a rule image with its table.
+* [`Rules`] is a rule image with its table, and with the [`Names`] of symbols and verdicts if it was
+  read from a text.
 * [`Monitor`] holds a string of symbols. Its [`offer`](Monitor::offer) takes an event,
   [`go_on`](Monitor::go_on) takes none, [`batch`](Monitor::batch) takes many.
 * [`Run`] and [`Batch`] are what these give: an [`Answer`] and [`Counts`].
 * [`Refusal`] is the number of the reason for which an operation did nothing.
+* [`read_rules`] writes the image and the names of a rule text into areas that the caller lends.
 * [`compile`] writes the table of a rule image into an area that the caller lends.
 * [`check_table`] says whether an area begins with the table of a rule image.
 * [`raw`] has the same operations with the parameters and the results of the C functions.
+
+# Rule texts
+
+A text is a run of tokens, separated by spaces, tabs, carriage returns or line feeds. A token is a name,
+`#` and a name, `->` or `.`; a name is a letter followed by letters, digits or `_`, at most 24 bytes in
+all.
+
+First comes `events`, one or more names, and `.`: these are the events. Then come the rules, each of them
+one or more names, `->`, and one or more names or a single `#` word, and `.`. `#epsilon` is the empty
+string; every other word is a verdict. `#fail` and `#succeed` are verdicts 0 and 1, other words get the
+next numbers in the order in which they first appear. So do names, which are the symbols. No word is
+reserved: a symbol may be called `events` or `fail`.
+
+A text has at most [`MAX_TEXT_BYTES`] bytes, 32 symbols, 64 rules, eight names on a side, and 14 verdicts
+besides fail and succeed. Of a text that is refused the place is told too: that of the first token at
+which it breaks.
 
 # Rule images
 
@@ -82,6 +100,36 @@ assert_eq!(monitor.verdict(), Some(0));
 # Ok::<(), Refusal>(())
 ```
 
+# Example: the same from a text
+
+```
+use watcher::{Answer, Monitor, Rules};
+
+let rules = Rules::read(
+    "events lock take free .
+     lock take -> held .
+     held free -> #epsilon .
+     take -> #fail .",
+)?;
+let names = rules.names();
+
+let mut monitor = Monitor::new();
+let mut said = Vec::new();
+for name in ["lock", "take", "free", "take"] {
+    let event = names.symbol(name).expect("a name of the text");
+    let run = monitor.offer(&rules, event, 1_000)?;
+    said.push(match run.answer {
+        Answer::Verdict(verdict) => names.name_of_verdict(verdict).expect("a verdict has a name"),
+        _ => match monitor.string()[..] {
+            [] => "nothing",
+            [.., last] => names.name_of_symbol(last).expect("a symbol has a name"),
+        },
+    });
+}
+assert_eq!(said, ["lock", "held", "nothing", "fail"]);
+# Ok::<(), Box<dyn std::error::Error>>(())
+```
+
 # Example: compiling two rules
 
 There are two symbols, 0 and 1. The first rule turns `0 1` into nothing, the second turns `1` into
@@ -118,7 +166,18 @@ assert_eq!(check_table(&image, &table), Ok(()));
 
 # Example: refusals
 
-A refused operation changes nothing that it was lent.
+A refused operation changes nothing that it was lent. That of a text has a place.
+
+```
+use watcher::{Refusal, Rules};
+
+let refused = Rules::read("events ring. ring -> #fail .").unwrap_err();
+assert_eq!(refused.refusal, Refusal::NO_TOKEN);
+assert_eq!(refused.place, 7);
+assert_eq!(refused.to_string(), "refused 3: not a token, at byte 7");
+```
+
+The others have none.
 
 ```
 use watcher::{check_table, compile, Refusal};
@@ -146,9 +205,11 @@ pub mod raw;
 mod refusal;
 mod rules;
 mod table;
+mod text;
 
 pub use answer::{Answer, Batch, Counts, Run};
 pub use monitor::{Monitor, MAX_EVENTS, MAX_FUEL, ROOM};
 pub use refusal::Refusal;
 pub use rules::Rules;
 pub use table::{check_table, compile, MAX_IMAGE_BYTES, MAX_TABLE_WORDS};
+pub use text::{read_rules, Names, TextRefusal, MAX_TEXT_BYTES, NAMES_BYTES};

@@ -2,9 +2,9 @@
 The C functions with safe signatures: the same parameters, the same results.
 
 Each function returns 0 or a refusal's number, and writes its other results to `out`. Programs will
-want [`compile`](crate::compile), [`check_table`](crate::check_table) and
-[`Monitor`](crate::Monitor) instead; these are for those that look at `out` beside a refusal or keep
-head and areas themselves, as the tests do.
+want [`read_rules`](crate::read_rules), [`compile`](crate::compile),
+[`check_table`](crate::check_table) and [`Monitor`](crate::Monitor) instead; these are for those that
+look at `out` beside a refusal or keep head and areas themselves, as the tests do.
 
 # Head and areas
 
@@ -23,6 +23,16 @@ any length, and refuse those that are not so.
 #![allow(clippy::too_many_arguments)]
 
 extern "C" {
+    fn watcher_read_rules(
+        text: *const u8,
+        text_len: usize,
+        image: *mut u8,
+        image_len: usize,
+        names: *mut u8,
+        names_len: usize,
+        out: *mut u64,
+    ) -> u32;
+
     fn watcher_compile(
         image: *const u8,
         image_len: usize,
@@ -99,6 +109,40 @@ extern "C" {
 // `&mut` for reads and writes. `head` and `out` go without a length, but point to arrays of the length
 // that the function reads and writes. The borrow checker keeps them apart and alive during the call.
 // The function reads and writes within these lengths only, keeps no pointer and does not unwind.
+
+/// Writes the image of a rule text into `image` and its names into `names`: returns 0, or refusal 1, 2,
+/// 3, 4, 5 or 6.
+///
+/// Afterwards `out` holds the image's length and 0; beside a refusal 0 and its place.
+///
+/// # Example
+///
+/// ```
+/// use watcher::raw;
+///
+/// let (mut image, mut names) = ([9; 1_284], [9; 1_200]);
+/// let mut out = [5; 2];
+/// assert_eq!(raw::read_rules(b"events a .", &mut image, &mut names, &mut out), 0);
+/// assert_eq!(out, [4, 0]);
+/// assert_eq!(image[..5], [1, 0, 2, 1, 9]);
+/// assert_eq!(names[..3], [1, b'a', 0]);
+/// assert_eq!(raw::read_rules(b"events a.", &mut image, &mut names, &mut out), 3);
+/// assert_eq!(out, [0, 7]);
+/// ```
+pub fn read_rules(text: &[u8], image: &mut [u8], names: &mut [u8], out: &mut [u64; 2]) -> u32 {
+    // SAFETY: as above.
+    unsafe {
+        watcher_read_rules(
+            text.as_ptr(),
+            text.len(),
+            image.as_mut_ptr(),
+            image.len(),
+            names.as_mut_ptr(),
+            names.len(),
+            out.as_mut_ptr(),
+        )
+    }
+}
 
 /// Writes the table of a rule image into `table`: returns 0, or refusal 7 or 8.
 ///

@@ -19,6 +19,26 @@ use std::fmt;
 pub struct Refusal(u32);
 
 impl Refusal {
+    /// Refusal 1: the rule text is longer than [`MAX_TEXT_BYTES`](crate::MAX_TEXT_BYTES).
+    pub const LONG_TEXT: Refusal = Refusal(1);
+
+    /// Refusal 2: the image area is shorter than [`MAX_IMAGE_BYTES`](crate::MAX_IMAGE_BYTES), or the
+    /// name area shorter than [`NAMES_BYTES`](crate::NAMES_BYTES).
+    pub const SHORT_TEXT_AREA: Refusal = Refusal(2);
+
+    /// Refusal 3: what stands there in the rule text is not a token.
+    pub const NO_TOKEN: Refusal = Refusal(3);
+
+    /// Refusal 4: the token is not allowed there, or the rule text ended too early.
+    pub const MISPLACED: Refusal = Refusal(4);
+
+    /// Refusal 5: the ninth name of a side, the 33rd symbol, the first name of rule 65 or the 15th
+    /// verdict beside fail and succeed.
+    pub const TOO_MANY: Refusal = Refusal(5);
+
+    /// Refusal 6: an event is named twice.
+    pub const EVENT_TWICE: Refusal = Refusal(6);
+
     /// Refusal 7: the rule image breaks the layout or a range.
     pub const BAD_IMAGE: Refusal = Refusal(7);
 
@@ -68,6 +88,12 @@ impl Refusal {
 impl fmt::Display for Refusal {
     fn fmt(&self, f: &mut fmt::Formatter<'_>) -> fmt::Result {
         let reason = match *self {
+            Refusal::LONG_TEXT => "the rule text is longer than 16384 bytes",
+            Refusal::SHORT_TEXT_AREA => "the image area or the name area is too short",
+            Refusal::NO_TOKEN => "not a token",
+            Refusal::MISPLACED => "the token is not allowed here, or the text ended",
+            Refusal::TOO_MANY => "too many names in a side, symbols, rules or verdicts",
+            Refusal::EVENT_TWICE => "an event is named twice",
             Refusal::BAD_IMAGE => "the rule image breaks the layout or a range",
             Refusal::SHORT_AREA => "the table area is too short",
             Refusal::OTHER_TABLE => "the table is not that of the rule image",

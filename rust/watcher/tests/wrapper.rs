@@ -2,7 +2,11 @@
 
 use reference::monitor::{self, Lent, Memory};
 use reference::random::{sample, Habit, Random};
-use watcher::{check_table, Answer, Batch, Counts, Monitor, Refusal, Rules, Run, ROOM};
+use reference::texts::{self, Naming, Spacing};
+use watcher::{
+    check_table, read_rules, Answer, Batch, Counts, Monitor, Names, Refusal, Rules, Run,
+    TextRefusal, MAX_IMAGE_BYTES, MAX_TEXT_BYTES, NAMES_BYTES, ROOM,
+};
 
 fn counts([steps, rewrites, put_back]: [u64; 3]) -> Counts {
     Counts {
@@ -40,7 +44,136 @@ fn rules_hold_image_and_table() {
         assert_eq!(rules.table(), reference::table(&set));
         assert_eq!(check_table(rules.image(), rules.table()), Ok(()));
         assert_eq!(rules, Rules::new(&image).unwrap());
+        assert_eq!(rules.names(), &Names::default());
         assert_eq!(Rules::new(&image[1..]), Err(Refusal::BAD_IMAGE));
+    }
+}
+
+#[test]
+fn rules_of_a_text() {
+    let mut random = Random::new(1_103);
+    for round in 0..300 {
+        let set = Habit::ALL[round % Habit::ALL.len()].rule_set(&mut random);
+        let naming = Naming::ALL[random.below(Naming::ALL.len())];
+        let texts::Written { text, reading } =
+            texts::write(&mut random, &set, naming, Spacing::Few);
+        let rules = Rules::read(&text).unwrap();
+        assert_eq!(rules.image(), reading.image());
+        assert_eq!(rules.table(), reference::table(&reading.set));
+        assert_eq!(rules.names().slots()[..], reading.slots());
+        assert_ne!(rules, Rules::new(&reading.image()).unwrap());
+
+        let names = rules.names();
+        for number in 0..=255 {
+            let place = usize::from(number);
+            let symbol = reading.symbols.get(place);
+            let verdict = reading.verdicts.get(place);
+            assert_eq!(
+                names.name_of_symbol(number).map(str::as_bytes),
+                symbol.map(Vec::as_slice)
+            );
+            assert_eq!(
+                names.name_of_verdict(number).map(str::as_bytes),
+                verdict.map(Vec::as_slice)
+            );
+            if let Some(name) = symbol {
+                assert_eq!(names.symbol(name), Some(number));
+                assert_eq!(names.symbol([name, &b"!"[..]].concat()), None);
+            }
+        }
+        assert_eq!(names.symbol(""), None);
+        assert_eq!(names.symbol([0; 24]), None);
+    }
+}
+
+/// A verdict is no symbol, even where 32 symbols stand before it.
+#[test]
+fn names_of_a_full_text() {
+    let symbols: Vec<String> = (0..32).map(|number| format!("s{number}")).collect();
+    let text = format!("events {} .", symbols.join(" "));
+    let rules = Rules::read(&text).unwrap();
+    let names = rules.names();
+    assert_eq!(names.symbol("s31"), Some(31));
+    assert_eq!(names.symbol("fail"), None);
+    assert_eq!(names.name_of_symbol(31), Some("s31"));
+    assert_eq!(names.name_of_symbol(32), None);
+    assert_eq!(names.name_of_verdict(1), Some("succeed"));
+    assert_eq!(names.name_of_verdict(2), None);
+    assert_eq!(names.name_of_verdict(16), None);
+    let shown = format!("{names:?}");
+    assert!(shown.contains("\"s31\"], verdicts: [\"fail\", \"succeed\"]"));
+}
+
+/// Slots that the reader does not write have no names.
+#[test]
+fn slots_that_are_not_the_readers() {
+    let mut slots = [0; NAMES_BYTES];
+    slots[..3].copy_from_slice(&[2, b'a', b'b']);
+    slots[25..28].copy_from_slice(&[25, b'a', b'b']);
+    slots[50..53].copy_from_slice(&[2, 0xff, b'b']);
+    slots[75..100].copy_from_slice(&[24; 25]);
+    let names = Names::new(slots);
+    assert_eq!(names.slots(), &slots);
+    assert_eq!(names.name_of_symbol(0), Some("ab"));
+    assert_eq!(names.name_of_symbol(1), None);
+    assert_eq!(names.name_of_symbol(2), None);
+    assert_eq!(names.name_of_symbol(3).map(str::len), Some(24));
+    assert_eq!(names.symbol("ab"), Some(0));
+    assert_eq!(Names::default().name_of_symbol(0), None);
+    assert_eq!(Names::default().name_of_verdict(0), None);
+}
+
+/// Refusals of a text have their place, and a message that names it where there is one.
+#[test]
+fn refused_texts() {
+    let refused = |refusal, place| TextRefusal { refusal, place };
+    let (image, names) = (MAX_IMAGE_BYTES, NAMES_BYTES);
+    for (text, areas, wanted, message) in [
+        (
+            " ".repeat(MAX_TEXT_BYTES + 1),
+            [image, names],
+            refused(Refusal::LONG_TEXT, 0),
+            "refused 1: the rule text is longer than 16384 bytes",
+        ),
+        (
+            "events a .".into(),
+            [image, names - 1],
+            refused(Refusal::SHORT_TEXT_AREA, 0),
+            "refused 2: the image area or the name area is too short",
+        ),
+        (
+            "events a.".into(),
+            [image, names],
+            refused(Refusal::NO_TOKEN, 7),
+            "refused 3: not a token, at byte 7",
+        ),
+        (
+            "events a ".into(),
+            [image, names],
+            refused(Refusal::MISPLACED, 9),
+            "refused 4: the token is not allowed here, or the text ended, at byte 9",
+        ),
+        (
+            "events a . a a a a a a a a a".into(),
+            [image, names],
+            refused(Refusal::TOO_MANY, 27),
+            "refused 5: too many names in a side, symbols, rules or verdicts, at byte 27",
+        ),
+        (
+            "events a a".into(),
+            [image, names],
+            refused(Refusal::EVENT_TWICE, 9),
+            "refused 6: an event is named twice, at byte 9",
+        ),
+    ] {
+        let (mut image_area, mut name_area) = (vec![7; areas[0]], vec![7; areas[1]]);
+        let found = read_rules(text.as_bytes(), &mut image_area, &mut name_area);
+        assert_eq!(found, Err(wanted));
+        assert_eq!(wanted.to_string(), message);
+        assert!(image_area.iter().chain(&name_area).all(|&byte| byte == 7));
+        if areas == [image, names] {
+            assert_eq!(Rules::read(&text), Err(wanted));
+        }
     }
 }
 
@@ -174,6 +307,12 @@ fn no_byte_for_a_verdict_above_15() {
 #[test]
 fn refusals_and_messages() {
     let all = [
+        (Refusal::LONG_TEXT, 1),
+        (Refusal::SHORT_TEXT_AREA, 2),
+        (Refusal::NO_TOKEN, 3),
+        (Refusal::MISPLACED, 4),
+        (Refusal::TOO_MANY, 5),
+        (Refusal::EVENT_TWICE, 6),
         (Refusal::BAD_IMAGE, 7),
         (Refusal::SHORT_AREA, 8),
         (Refusal::OTHER_TABLE, 9),

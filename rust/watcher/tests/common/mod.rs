@@ -5,6 +5,7 @@
 
 pub mod calls;
 pub mod list;
+pub mod texts;
 
 use reference::RuleSet;
 

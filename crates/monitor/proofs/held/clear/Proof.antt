@@ -3,7 +3,8 @@
 use Prim.Native.Nat.{_-_}
 use native.Mathlib.Omega.{arith}
 use borrow.Author.Needs.{needs}
-use Rattle.monitor.proofs.Writes.{Clearing, copying-length, clearing-first, clearing-next, clearing-last, clearing-inside}
+use Rattle.rewriting.proofs.Copying.{copying-length}
+use Rattle.monitor.proofs.Writes.{Clearing, clearing-first, clearing-next, clearing-last, clearing-inside}
 use Rattle.monitor.proofs.held.clear.Statement.{statement}
 use Rattle.monitor.proofs.held.clear.Tie as tie
 

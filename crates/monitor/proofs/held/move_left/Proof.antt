@@ -5,7 +5,8 @@ use mathlib.Core.Path.{_≡_, refl}
 use native.Mathlib.Omega.{arith}
 use lib.ListN.{length}
 use borrow.Author.Needs.{needs}
-use Rattle.monitor.proofs.Writes.{Moving, copying-length, moving-first, moving-next, moving-last}
+use Rattle.rewriting.proofs.Copying.{copying-length}
+use Rattle.monitor.proofs.Writes.{Moving, moving-first, moving-next, moving-last}
 use Rattle.monitor.proofs.held.move_left.Statement.{statement}
 use Rattle.monitor.proofs.held.move_left.Tie as tie
 

@@ -6,7 +6,8 @@ use native.Mathlib.Omega.{arith}
 use native.Mathlib.Numerals.{add-one}
 use lib.ListN.{drop}
 use borrow.Author.Needs.{needs}
-use Rattle.monitor.proofs.Writes.{Copying, copying-first, copying-length, copying-next, copying-last, source-at, source-length}
+use Rattle.rewriting.proofs.Copying.{Copying, copying-first, copying-length, copying-next, copying-last}
+use Rattle.monitor.proofs.Writes.{source-at, source-length}
 use Rattle.monitor.proofs.held.put_back.Statement.{statement}
 use Rattle.monitor.proofs.held.put_back.Tie as tie
 

@@ -1,0 +1,43 @@
+-- `text::Reader::event` meets its contract.
+-- Assumes nothing.
+use mathlib.Core.Path.{sym, _∙_}
+use borrow.Author.Needs.{needs}
+use Rattle.text.proofs.Places.{place-at}
+use Rattle.text.proofs.Slots.{name-short}
+use Rattle.text.proofs.Keeping.{place-number, symbols-number}
+use Rattle.text.proofs.Taking.{event-twice, event-33, event-new}
+use Rattle.text.proofs.Reader.event.Statement.{statement}
+use Rattle.text.proofs.Reader.event.Tie as tie
+
+number-of-requires : tie.Need-number-of-requires
+number-of-requires c κs = (c .before .before .before .pre .0, name-short _ (c .before .before .before .pre .1))
+
+same-length : tie.Need-same-length
+same-length c = search needs
+
+returns : tie.Need-returns
+returns c = λ b z d told s sound k. event-twice k (c .before .before .before .before .before .before .before .before .before .args .x .now) sound (c .before .before .before .before .before .before .before .before .before .pre .1) _ _ (place-at _ (s .place) (sym (place-number s (k .numbers)) ∙ told)) (c .before .before .before .before .before .number-of .ensures 32 (s .symbols) (k .symbol-slots) (symbols-number s (k .numbers)) (sound .few-symbols) (sound .symbols-named) (c .before .before .before .before .before .before .before .before .before .pre .1)) (c .if1 .taken)
+
+same-length-2 : tie.Need-same-length-2
+same-length-2 c = search needs
+
+returns-2 : tie.Need-returns-2
+returns-2 c = λ b z d told s sound k. event-33 k (c .before .before .before .before .before .before .before .before .before .before .before .args .x .now) sound (c .before .before .before .before .before .before .before .before .before .before .before .pre .1) _ _ (place-at _ (s .place) (sym (place-number s (k .numbers)) ∙ told)) (c .before .before .before .before .before .before .before .number-of .ensures 32 (s .symbols) (k .symbol-slots) (symbols-number s (k .numbers)) (sound .few-symbols) (sound .symbols-named) (c .before .before .before .before .before .before .before .before .before .before .before .pre .1)) (c .before .before .if1 .left) (c .if2 .taken)
+
+same-length-3 : tie.Need-same-length-3
+same-length-3 c = search needs
+
+returns-3 : tie.Need-returns-3
+returns-3 c = λ b z d told s sound k. event-new k (c .before .before .before .before .before .before .before .before .before .before .before .args .x .now) sound (c .before .before .before .before .before .before .before .before .before .before .before .pre .1) _ _ (place-at _ (s .place) (sym (place-number s (k .numbers)) ∙ told)) (c .before .before .before .before .before .before .before .number-of .ensures 32 (s .symbols) (k .symbol-slots) (symbols-number s (k .numbers)) (sound .few-symbols) (sound .symbols-named) (c .before .before .before .before .before .before .before .before .before .before .before .pre .1)) (c .before .before .if1 .left) (c .if2 .left)
+
+pub event-spec : {M : Type 1} → statement M
+event-spec =
+    tie.close
+    (tie.spec
+    number-of-requires
+    same-length
+    returns
+    same-length-2
+    returns-2
+    same-length-3
+    returns-3)

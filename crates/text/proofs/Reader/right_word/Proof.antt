@@ -1,0 +1,59 @@
+-- `text::Reader::right_word` meets its contract.
+-- Assumes nothing.
+use mathlib.Core.Path.{sym, _∙_}
+use borrow.Author.Needs.{needs}
+use Rattle.text.proofs.Places.{place-at}
+use Rattle.text.proofs.Slots.{name-short}
+use Rattle.text.proofs.Keeping.{place-number, words-number}
+use Rattle.text.proofs.Taking.{word-behind, word-epsilon, word-17, word-verdict}
+use Rattle.text.proofs.Reader.right_word.Statement.{statement}
+use Rattle.text.proofs.Reader.right_word.Tie as tie
+
+returns : tie.Need-returns
+returns c = λ a z d told s sound k. let w = place-at _ (s .place) (sym (place-number s (k .numbers)) ∙ told) in word-behind k (w .0) (w .1 .0) (w .1 .1) (c .before .before .before .before .args .x .now) (c .if1 .taken)
+
+at-requires : tie.Need-at-requires
+at-requires c κs = search needs
+
+slice-aggregate-is-same : tie.Need-slice-aggregate-is-same
+slice-aggregate-is-same c = search needs
+
+is-same-requires : tie.Need-is-same-requires
+is-same-requires c κs = search needs
+
+returns-2 : tie.Need-returns-2
+returns-2 c = λ a z d told s sound k. let w = place-at _ (s .place) (sym (place-number s (k .numbers)) ∙ told) in rw (c .before .before .before .at .ensures) (word-epsilon k (w .0) (w .1 .0) (w .1 .1) (c .before .before .before .before .before .before .before .before .args .x .now) (c .before .before .before .before .if1 .left) (sym (c .before .is-same .ensures) ∙ c .if2 .taken))
+
+number-of-requires : tie.Need-number-of-requires
+number-of-requires c κs = (c .before .before .before .before .before .before .before .before .before .pre .0, name-short _ (c .before .before .before .before .before .before .before .before .before .pre .1))
+
+same-length : tie.Need-same-length
+same-length c = search needs
+
+returns-3 : tie.Need-returns-3
+returns-3 c = λ a z d told s sound k. let w = place-at _ (s .place) (sym (place-number s (k .numbers)) ∙ told) in word-17 k (w .0) (w .1 .0) (w .1 .1) (c .before .before .before .before .before .before .before .before .before .before .before .before .before .before .args .x .now) sound (c .before .before .before .before .before .before .before .before .before .before .before .before .before .before .pre .1) (c .before .before .before .before .before .before .before .before .before .before .if1 .left) (sym (c .before .before .before .before .before .before .before .is-same .ensures) ∙ c .before .before .before .before .before .before .if2 .left) _ _ (c .before .before .before .before .number-of .ensures 16 (s .words) (k .word-slots) (words-number s (k .numbers)) (sound .few-words) (sound .words-named) (c .before .before .before .before .before .before .before .before .before .before .before .before .before .before .pre .1)) (c .if3 .taken)
+
+cast-next : tie.Need-cast-next
+cast-next c = search needs
+
+same-length-2 : tie.Need-same-length-2
+same-length-2 c = search needs
+
+returns-4 : tie.Need-returns-4
+returns-4 c = λ a z d told s sound k. let w = place-at _ (s .place) (sym (place-number s (k .numbers)) ∙ told) in rw (c .before .before .before .before .before .before .before .before .before .before .at .ensures) (word-verdict k (w .0) (w .1 .0) (w .1 .1) (c .before .before .before .before .before .before .before .before .before .before .before .before .before .before .before .args .x .now) sound (c .before .before .before .before .before .before .before .before .before .before .before .before .before .before .before .pre .1) (c .before .before .before .before .before .before .before .before .before .before .before .if1 .left) (sym (c .before .before .before .before .before .before .before .before .is-same .ensures) ∙ c .before .before .before .before .before .before .before .if2 .left) _ _ (c .before .before .before .before .before .number-of .ensures 16 (s .words) (k .word-slots) (words-number s (k .numbers)) (sound .few-words) (sound .words-named) (c .before .before .before .before .before .before .before .before .before .before .before .before .before .before .before .pre .1)) (c .before .if3 .left))
+
+pub right-word-spec : {M : Type 1} → statement M
+right-word-spec =
+    tie.close
+    (tie.spec
+    returns
+    at-requires
+    slice-aggregate-is-same
+    is-same-requires
+    returns-2
+    number-of-requires
+    same-length
+    returns-3
+    cast-next
+    same-length-2
+    returns-4)

@@ -1,0 +1,62 @@
+-- `text::Reader::side_symbol` meets its contract.
+-- Assumes nothing.
+use native.Mathlib.Omega.{arith}
+use borrow.Author.Needs.{needs}
+use Rattle.text.proofs.Slots.{name-short}
+use Rattle.text.proofs.Keeping.{symbols-number}
+use Rattle.text.proofs.Taking.{ninth, symbol-33, side-longer}
+use Rattle.text.proofs.Reader.side_symbol.Statement.{statement}
+use Rattle.text.proofs.Reader.side_symbol.Tie as tie
+
+returns : tie.Need-returns
+returns c = λ b z side to s h sound k. ninth k (c .before .before .before .before .before .args .x .now) side to (h .size) (c .if1 .taken)
+
+number-of-requires : tie.Need-number-of-requires
+number-of-requires c κs = (c .before .before .before .before .before .before .pre .0, name-short _ (c .before .before .before .before .before .before .pre .1 .0))
+
+same-length : tie.Need-same-length
+same-length c = search needs
+
+returns-2 : tie.Need-returns-2
+returns-2 c = λ b z side to s h sound k. symbol-33 k (c .before .before .before .before .before .before .before .before .before .before .before .args .x .now) side to h sound (c .before .before .before .before .before .before .before .before .before .before .before .pre .1 .0) _ _ (c .before .before .before .before .number-of .ensures 32 (s .symbols) (k .symbol-slots) (symbols-number s (k .numbers)) (sound .few-symbols) (sound .symbols-named) (c .before .before .before .before .before .before .before .before .before .before .before .pre .1 .0)) (c .before .before .before .before .before .before .if1 .left) (c .if2 .taken)
+
+cast-bodies : tie.Need-cast-bodies
+cast-bodies c = search needs
+
+slice-write-bodies : tie.Need-slice-write-bodies
+slice-write-bodies c = c .before .before .before .before .before .before .before .before .before .before .before .before .pre .1 .1 (c .before .before .before .before .before .before .before .if1 .left)
+
+at-requires : tie.Need-at-requires
+at-requires c κs = search needs
+
+add-next : tie.Need-add-next
+add-next c = omega (arith, c .before .before .before .before .before .before .before .before .before .before .before .before .before .pre .1 .1 (c .before .before .before .before .before .before .before .before .if1 .left), c .before .before .before .before .before .before .before .before .before .before .before .before .before .good .1 .1 .1 .1 .0 .0)
+
+add-next-2 : tie.Need-add-next-2
+add-next-2 c = search needs
+
+same-length-2 : tie.Need-same-length-2
+same-length-2 c = search needs
+
+same-length-3 : tie.Need-same-length-3
+same-length-3 c = search needs
+
+returns-3 : tie.Need-returns-3
+returns-3 c = λ b z side to s h sound k. rw (c .before .at .ensures) (side-longer k (c .before .before .before .before .before .before .before .before .before .before .before .before .before .before .args .x .now) side to h sound (c .before .before .before .before .before .before .before .before .before .before .before .before .before .before .pre .1 .0) _ _ (c .before .before .before .before .before .before .before .number-of .ensures 32 (s .symbols) (k .symbol-slots) (symbols-number s (k .numbers)) (sound .few-symbols) (sound .symbols-named) (c .before .before .before .before .before .before .before .before .before .before .before .before .before .before .pre .1 .0)) (c .before .before .before .before .before .before .before .before .before .if1 .left) (c .before .before .before .if2 .left) (c .before .before .before .before .before .before .before .before .before .before .before .before .before .before .pre .1 .1 (c .before .before .before .before .before .before .before .before .before .if1 .left)))
+
+pub side-symbol-spec : {M : Type 1} → statement M
+side-symbol-spec =
+    tie.close
+    (tie.spec
+    returns
+    number-of-requires
+    same-length
+    returns-2
+    cast-bodies
+    slice-write-bodies
+    at-requires
+    add-next
+    add-next-2
+    same-length-2
+    same-length-3
+    returns-3)

@@ -1,0 +1,79 @@
+-- `text::write_image` meets its contract.
+-- Assumes nothing.
+use Prim.Native.Nat.{_+_, _*_}
+use mathlib.Core.Path.{_∙_}
+use native.Mathlib.Omega.{arith}
+use lib.ListN.{length-set}
+use borrow.Author.Needs.{needs}
+use Rattle.text.proofs.Writing.{length-four, image-size, image-written}
+use Rattle.text.proofs.write_image.Statement.{statement}
+use Rattle.text.proofs.write_image.Tie as tie
+
+mul-first : tie.Need-mul-first
+mul-first c = search needs
+
+add-first : tie.Need-add-first
+add-first c = search needs
+
+cast-image : tie.Need-cast-image
+cast-image c = omega (arith, c .before .before .before .before .pre .0 .symbols)
+
+slice-write-image : tie.Need-slice-write-image
+slice-write-image c = search needs
+
+cast-image-2 : tie.Need-cast-image-2
+cast-image-2 c = search needs
+
+slice-write-image-2 : tie.Need-slice-write-image-2
+slice-write-image-2 c = rw length-set (omega (arith, c .before .before .before .before .pre .1 .1 .1))
+
+cast-image-3 : tie.Need-cast-image-3
+cast-image-3 c = search needs
+
+slice-write-image-3 : tie.Need-slice-write-image-3
+slice-write-image-3 c = rw (length-set, length-set) (omega (arith, c .before .before .before .before .before .pre .1 .1 .1))
+
+cast-image-4 : tie.Need-cast-image-4
+cast-image-4 c = search needs
+
+slice-write-image-4 : tie.Need-slice-write-image-4
+slice-write-image-4 c = rw (length-set, length-set, length-set) (omega (arith, c .before .before .before .before .before .before .pre .1 .1 .1))
+
+mul-copy : tie.Need-mul-copy
+mul-copy c = search needs
+
+copy-requires : tie.Need-copy-requires
+copy-requires c κs = (omega (arith, c .before .before .before .before .before .before .before .pre .0 .rules, c .before .before .before .before .before .before .before .pre .1 .0), rw (length-set, length-set, length-set, length-set) (omega (arith, c .before .before .before .before .before .before .before .pre .0 .rules, c .before .before .before .before .before .before .before .pre .1 .1 .1)))
+
+copy-requires-2 : tie.Need-copy-requires-2
+copy-requires-2 c κs = (omega (arith, c .before .before .before .before .before .before .before .before .before .before .before .pre .0 .bodies, c .before .before .before .before .before .before .before .before .before .before .before .pre .1 .1 .0), omega (arith, c .before .before .before .before .before .before .before .before .before .before .before .pre .0 .rules, c .before .before .before .before .before .before .before .before .before .before .before .pre .0 .bodies, c .before .before .before .copy .kept .1 .1 .0 ∙ length-four (c .before .before .before .before .before .before .before .before .before .before .before .args .image .now) _ _ _ _, c .before .before .before .before .before .before .before .before .before .before .before .pre .1 .1 .1))
+
+add-result : tie.Need-add-result
+add-result c = search needs
+
+same-length : tie.Need-same-length
+same-length c = c .before .before .copy2 .kept .1 .1 .0 ∙ c .before .before .before .before .before .before .copy .kept .1 .1 .0 ∙ length-four (c .before .before .before .before .before .before .before .before .before .before .before .before .before .before .args .image .now) _ _ _ _
+
+returns : tie.Need-returns
+returns c = λ a b s sound here k. (image-size sound here k (c .before .before .before .before .before .before .before .before .before .before .before .before .before .before .args .image .now) (c .before .before .before .before .before .before .before .before .before .before .before .before .before .before .pre .1 .1 .1), rw (c .before .before .copy2 .ensures, c .before .before .before .before .before .before .copy .ensures) (image-written sound here k (c .before .before .before .before .before .before .before .before .before .before .before .before .before .before .args .image .now) (c .before .before .before .before .before .before .before .before .before .before .before .before .before .before .pre .1 .1 .1)))
+
+pub write-image-spec : {M : Type 1} → statement M
+write-image-spec =
+    tie.close
+    (tie.spec
+    mul-first
+    add-first
+    cast-image
+    slice-write-image
+    cast-image-2
+    slice-write-image-2
+    cast-image-3
+    slice-write-image-3
+    cast-image-4
+    slice-write-image-4
+    mul-copy
+    copy-requires
+    copy-requires-2
+    add-result
+    same-length
+    returns)

@@ -1,0 +1,21 @@
+-- `text::write_names` meets its contract.
+-- Assumes nothing.
+use borrow.Author.Needs.{needs}
+use Rattle.text.proofs.Writing.{names-written}
+use Rattle.text.proofs.write_names.Statement.{statement}
+use Rattle.text.proofs.write_names.Tie as tie
+
+copy-requires : tie.Need-copy-requires
+copy-requires c κs = search needs
+
+copy-requires-2 : tie.Need-copy-requires-2
+copy-requires-2 c κs = search needs
+
+same-length : tie.Need-same-length
+same-length c = search needs
+
+returns : tie.Need-returns
+returns c = rw (c .before .before .copy2 .ensures, c .before .before .before .before .before .before .copy .ensures) (names-written (c .before .before .before .before .before .before .before .before .before .before .before .args .symbols .now) (c .before .before .before .before .before .before .before .before .before .before .before .args .words .now) (c .before .before .before .before .before .before .before .before .before .before .before .args .names .now) (c .before .before .before .before .before .before .before .before .before .before .before .pre .0) (c .before .before .before .before .before .before .before .before .before .before .before .pre .1 .0))
+
+pub write-names-spec : {M : Type 1} → statement M
+write-names-spec = tie.close (tie.spec copy-requires copy-requires-2 same-length returns)

@@ -1,0 +1,203 @@
+-- How the code keeps a reading: a struct of numbers, two areas of name slots, the contents and the bodies of the rules.
+use Prim.Native.Nat.{ℕ, _+_, _<_, _≤_}
+use mathlib.Core.Path.{_≡_}
+use mathlib.Core.Bool.{true}
+use mathlib.Core.Option.{Option, none, some}
+use mathlib.Core.List.{List, [], _∷_, _++_, flatMap}
+use lib.ListN.{length}
+use Rattle.rewriting.specs.Lists.{all, prefix}
+use Rattle.rewriting.specs.Rules.{Right, Put, Rule, _⇒_, ruleInRange}
+use Rattle.image.specs.Image as Image
+use Rattle.image.specs.Image.{kind, lengthOrVerdict, body}
+use Rattle.text.specs.declared.Kind.{Kind}
+use Rattle.text.specs.declared.Kind.the-variants as kinds
+use Rattle.text.specs.declared.Place as place
+use Rattle.text.specs.declared.Place.the-variants as places
+use Rattle.text.specs.declared.Reader.{Reader}
+use Rattle.text.specs.declared.Taken as taken-as
+use Rattle.text.specs.declared.Taken.the-variants as taken
+use Rattle.text.specs.declared.Numbered as numbered-as
+use Rattle.text.specs.declared.Found.{Found}
+use Rattle.text.specs.declared.Found.the-variants as found
+use Rattle.text.specs.declared.Finished as finished-as
+use Rattle.text.specs.declared.Finished.the-variants as finished
+use Rattle.text.specs.Tokens.{isName}
+use Rattle.text.specs.Names.{slots, Numbered, numbered}
+use Rattle.text.specs.Grammar.{
+  Place,
+  First,
+  Events,
+  Between,
+  InLeft,
+  InRight,
+  Ending,
+  Reading,
+  Taken,
+  Goes,
+  Breaks,
+  ruleSetOf,
+}
+use Rattle.text.specs.Read.{Result, Good, Bad}
+
+-- What every reading keeps. `read-sound` (proofs/Sound.antt) proves it of each that a text gives.
+
+abbrev pub EventsKnown : Reading → Type 0
+EventsKnown s = (1 ≤ s .events) × (s .events ≤ length (s .symbols))
+
+-- a rule begun: the symbols so far are in range, and there is room for it
+abbrev pub RuleBegun : Reading → Rule → Type 0
+RuleBegun s r = EventsKnown s × (length (s .rules) < 64) × (ruleInRange (ruleSetOf s) r ≡ true)
+
+abbrev pub SoundAt : Reading → Place → Type 0
+SoundAt s First = Unit {0}
+SoundAt s Events = Unit {0}
+SoundAt s Between = EventsKnown s
+SoundAt s (InLeft l) = RuleBegun s (l ⇒ Put [])
+SoundAt s (InRight l v) = RuleBegun s (l ⇒ Put v)
+SoundAt s (Ending l r) = RuleBegun s (l ⇒ r)
+
+pub record Sound (s : Reading) : Type 0 where
+  pub symbols-named : all isName (s .symbols) ≡ true
+  pub few-symbols : length (s .symbols) ≤ 32
+  pub words-named : all isName (s .words) ≡ true
+  pub some-words : 2 ≤ length (s .words)
+  pub few-words : length (s .words) ≤ 16
+  pub few-rules : length (s .rules) ≤ 64
+  pub all-rules : all (ruleInRange (ruleSetOf s)) (s .rules) ≡ true
+  pub here : SoundAt s (s .place)
+
+-- the rule that a place is in, as far as it has been read
+unfoldable pub ruleAt : Place → Rule
+ruleAt First = [] ⇒ Put []
+ruleAt Events = [] ⇒ Put []
+ruleAt Between = [] ⇒ Put []
+ruleAt (InLeft l) = l ⇒ Put []
+ruleAt (InRight l v) = l ⇒ Put v
+ruleAt (Ending l r) = l ⇒ r
+
+-- the place as the code names it
+unfoldable pub placeOf : Place → place.Place
+placeOf First = places.First
+placeOf Events = places.Events
+placeOf Between = places.Between
+placeOf (InLeft l) = places.Left
+placeOf (InRight l v) = places.Right
+placeOf (Ending l r) = places.Ending
+
+-- the length of the left side, once it is closed; and of the side that is open, or the verdict
+unfoldable pub leftOf : Place → ℕ
+leftOf First = 0
+leftOf Events = 0
+leftOf Between = 0
+leftOf (InLeft l) = 0
+leftOf (InRight l v) = length l
+leftOf (Ending l r) = length l
+
+unfoldable pub sideOf : Place → ℕ
+sideOf First = 0
+sideOf Events = 0
+sideOf Between = 0
+sideOf (InLeft l) = length l
+sideOf (InRight l v) = length v
+sideOf (Ending l r) = lengthOrVerdict r
+
+-- the bodies of the rules, and of the one begun
+abbrev pub bodiesOf : Reading → List ℕ
+bodiesOf s = flatMap body (s .rules) ++ body (ruleAt (s .place))
+
+-- the numbers that the code keeps of a reading
+unfoldable pub readerOf : Reading → Reader
+readerOf s =
+    record {
+      place = placeOf (s .place);
+      symbols = length (s .symbols);
+      words = length (s .words);
+      events = s .events;
+      rules = length (s .rules);
+      bodies = length (bodiesOf s);
+      left = leftOf (s .place);
+      side = sideOf (s .place);
+      kind = kind (ruleAt (s .place) .right);
+    }
+
+-- The code keeps the reading s: its numbers, the slots of symbols and of words, contents and bodies.
+pub record Keeps (s : Reading) (r : Reader) (symbols words contents bodies : List ℕ) : Type 0 where
+  pub numbers : r ≡ readerOf s
+  pub symbol-slots : symbols ≡ slots 32 (s .symbols)
+  pub word-slots : words ≡ slots 16 (s .words)
+  pub contents-begin : prefix (flatMap Image.contents (s .rules)) contents ≡ true
+  pub contents-size : length contents ≡ 256
+  pub bodies-begin : prefix (bodiesOf s) bodies ≡ true
+  pub bodies-size : length bodies ≡ 1024
+
+-- some reading has these numbers
+pub record Held (r : Reader) : Type 0 where
+  pub reading : Reading
+  pub sound : Sound reading
+  pub numbers : r ≡ readerOf reading
+
+-- the code's answer to a token is the definition's
+abbrev pub TakenIs : Taken → taken-as.Taken → List ℕ → List ℕ → List ℕ → List ℕ → Type 0
+TakenIs (Goes s) (taken.Goes r) symbols words contents bodies = Keeps s r symbols words contents bodies
+TakenIs (Goes s) (taken.Breaks m) symbols words contents bodies = ⊥
+TakenIs (Breaks n) (taken.Goes r) symbols words contents bodies = ⊥
+TakenIs (Breaks n) (taken.Breaks m) symbols words contents bodies = m ≡ n
+
+-- From whatever reading is kept in r and these areas, the answer and the areas then are what f makes of it.
+abbrev pub Takes :
+    (Reading → Taken) → Reader → List ℕ → List ℕ → List ℕ → List ℕ → taken-as.Taken → List ℕ → List ℕ → List ℕ → List ℕ → Type 0
+Takes f r symbols words contents bodies answer symbols′ words′ contents′ bodies′ =
+    (s : Reading) → Sound s → Keeps s r symbols words contents bodies → TakenIs (f s) answer symbols′ words′ contents′ bodies′
+
+-- A side one symbol longer: behind the place p with this side, `to` gives the place that the code calls q.
+pub record Lengthens (p : Place) (side : List ℕ) (to : List ℕ → Place) (q : place.Place) : Type 0 where
+  pub size : sideOf p ≡ length side
+  pub left : (a : ℕ) → leftOf (to (side ++ a ∷ [])) ≡ leftOf p
+  pub longer : (a : ℕ) → sideOf (to (side ++ a ∷ [])) ≡ length side + 1
+  pub kept : (a : ℕ) → kind (ruleAt (to (side ++ a ∷ [])) .right) ≡ kind (ruleAt p .right)
+  pub more : (a : ℕ) → body (ruleAt (to (side ++ a ∷ []))) ≡ body (ruleAt p) ++ a ∷ []
+  pub called : (a : ℕ) → placeOf (to (side ++ a ∷ [])) ≡ q
+
+-- both sides of the rule begun are known: the code's numbers are those of its contents
+pub record Closed (p : Place) : Type 0 where
+  pub left : leftOf p ≡ length (ruleAt p .left)
+  pub right : sideOf p ≡ lengthOrVerdict (ruleAt p .right)
+
+-- a name or a word is followed by its name
+abbrev pub Named : Kind → List ℕ → Type 0
+Named kinds.Name x = isName x ≡ true
+Named kinds.Word x = isName x ≡ true
+Named kinds.Arrow x = Unit {0}
+Named kinds.Stop x = Unit {0}
+Named kinds.None x = Unit {0}
+
+-- the code's number of a name, and the slots then, are the definition's
+abbrev pub NumberedIs : ℕ → List (List ℕ) → Option Numbered → numbered-as.Numbered → List ℕ → Type 0
+NumberedIs most names none r area = (r .number ≡ most) × (r .count ≡ length names) × (area ≡ slots most names)
+NumberedIs most names (some n) r area = (r .number ≡ n .number) × (r .count ≡ length (n .names)) × (area ≡ slots most (n .names))
+
+abbrev pub NumberedAs : ℕ → List (List ℕ) → ℕ → List ℕ → List ℕ → numbered-as.Numbered → List ℕ → Type 0
+NumberedAs most names count area x r area′ =
+    area ≡ slots most names → count ≡ length names → length names ≤ most → all isName names ≡ true → isName x ≡ true
+    → NumberedIs most names (numbered most names x) r area′
+
+-- how the reading of a text ended
+abbrev pub FinishedIs : Result → finished-as.Finished → List ℕ → List ℕ → List ℕ → List ℕ → Type 0
+FinishedIs (Good s) (finished.Good r) symbols words contents bodies =
+    Sound s × (s .place ≡ Between) × Keeps s r symbols words contents bodies
+FinishedIs (Good s) (finished.Bad m q) symbols words contents bodies = ⊥
+FinishedIs (Bad n p) (finished.Good r) symbols words contents bodies = ⊥
+FinishedIs (Bad n p) (finished.Bad m q) symbols words contents bodies = (m ≡ n) × (q ≡ p)
+
+-- the numbers of an image are bytes, and what it is made of is inside its areas
+pub record Small (r : Reader) : Type 0 where
+  pub symbols : r .symbols ≤ 32
+  pub words : r .words ≤ 16
+  pub events : r .events ≤ 32
+  pub rules : r .rules ≤ 64
+  pub bodies : r .bodies ≤ 1024
+
+-- what a lookup answers
+unfoldable pub foundAs : Found → Option ℕ
+foundAs (found.Symbol i) = some i
+foundAs found.None = none
