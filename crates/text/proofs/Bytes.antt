@@ -1,7 +1,7 @@
 -- The tests on bytes, and what a run is by its first byte and its length, by the cases that the code takes apart.
 -- Assumes nothing.
 use Prim.Native.Nat.{ℕ, zero, suc, _+_, _-_, _≤_, _<_}
-use mathlib.Core.Path.{_≡_, refl, sym, _∙_}
+use mathlib.Core.Path.{_≡_, refl, sym, ap, _∙_}
 use mathlib.Core.Bool.{Bool, true, false, cond, _&&_, _||_}
 use mathlib.Core.List.{List, [], _∷_}
 use native.Mathlib.Omega.{arith}
@@ -9,20 +9,19 @@ use native.Mathlib.Nat.{not-suc-le-zero}
 use lib.Dec.{eqb, leb}
 use lib.ListN.{length, getD, drop, length-drop}
 use lib.Seq.{drop-cons}
-use borrow.Author.Tests.{eq-eqb, ne-eqb, le-leb, lt-leb}
+use borrow.Author.Tests.{eqb-true, eq-eqb, ne-eqb, le-leb, lt-leb}
 use Rattle.rewriting.specs.Lists.{same}
 use Rattle.text.specs.declared.Kind.{Kind}
 use Rattle.text.specs.declared.Kind.the-variants as kinds
 use Rattle.text.specs.Tokens.{separator, letter, digit, nameByte}
-use Rattle.text.specs.Scanned.{namedAs, kindOf}
+use Rattle.text.specs.Scanned.{lead, namedAs, kindOf}
 
 or-false : (t : Bool) → t ≡ (t || false)
 or-false true = refl
 or-false false = refl
 
-or-falses : (t : Bool) → t ≡ (t || false || false)
-or-falses true = refl
-or-falses false = refl
+pub false-true : false ≡ true → ⊥
+false-true e = let z : _≡_ {A = ℕ} 0 1 = ap (λ (b : Bool). cond b 1 0) e in absurd (omega arith)
 
 module _ (b : ℕ) where
   pub separator-space : b ≡ 32 → true ≡ separator b
@@ -60,42 +59,42 @@ module _ (b : ℕ) where
       let g : 90 < b = omega arith in
       rw (le-leb 65 b l, lt-leb b 90 g, le-leb 97 b h)
 
-  pub name-small : 97 ≤ b → leb b 122 ≡ nameByte b
-  unfolding nameByte letter digit
-  name-small h =
-      let l : 65 ≤ b = omega arith in
-      let g : 90 < b = omega arith in
-      let d : 57 < b = omega arith in
-      let z : 48 ≤ b = omega arith in
-      let u : b ≡ 95 → ⊥ = λ (e : b ≡ 95). omega arith in
-      rw (le-leb 65 b l, lt-leb b 90 g, le-leb 97 b h, le-leb 48 b z, lt-leb b 57 d, ne-eqb b 95 u) (or-falses (leb b 122))
+  pub name-letter : letter b ≡ true → true ≡ nameByte b
+  unfolding nameByte
+  name-letter e = rw e
 
-  pub name-large : 65 ≤ b → b ≤ 90 → true ≡ nameByte b
-  unfolding nameByte letter
-  name-large g h = rw (le-leb 65 b g, le-leb b 90 h)
+  pub name-underline : letter b ≡ false → b ≡ 95 → true ≡ nameByte b
+  unfolding nameByte digit
+  name-underline e u = rw (e, u)
 
-  pub name-underline : 90 < b → b < 97 → eqb b 95 ≡ nameByte b
-  unfolding nameByte letter digit
-  name-underline g h =
-      let l : 65 ≤ b = omega arith in
-      let d : 57 < b = omega arith in
-      let z : 48 ≤ b = omega arith in
-      rw (le-leb 65 b l, lt-leb b 90 g, lt-leb 97 b h, le-leb 48 b z, lt-leb b 57 d)
+  pub name-before : letter b ≡ false → (b ≡ 95 → ⊥) → b < 48 → false ≡ nameByte b
+  unfolding nameByte digit
+  name-before e u h = rw (e, lt-leb 48 b h, ne-eqb b 95 u)
 
-  pub name-before : b < 48 → false ≡ nameByte b
-  unfolding nameByte letter digit
-  name-before h =
-      let l : b < 65 = omega arith in
-      let g : b < 97 = omega arith in
-      let u : b ≡ 95 → ⊥ = λ (e : b ≡ 95). omega arith in
-      rw (lt-leb 65 b l, lt-leb 97 b g, lt-leb 48 b h, ne-eqb b 95 u)
+  pub name-digit : letter b ≡ false → (b ≡ 95 → ⊥) → 48 ≤ b → leb b 57 ≡ nameByte b
+  unfolding nameByte digit
+  name-digit e u h = rw (e, le-leb 48 b h, ne-eqb b 95 u) (or-false (leb b 57))
 
-  pub name-digit : 48 ≤ b → b < 65 → leb b 57 ≡ nameByte b
-  unfolding nameByte letter digit
-  name-digit h l =
-      let g : b < 97 = omega arith in
-      let u : b ≡ 95 → ⊥ = λ (e : b ≡ 95). omega arith in
-      rw (lt-leb 65 b l, lt-leb 97 b g, le-leb 48 b h, ne-eqb b 95 u) (or-false (leb b 57))
+  -- no byte of a name is a separator
+  pub separator-no-name : separator b ≡ true → nameByte b ≡ false
+  unfolding separator nameByte letter digit
+  separator-no-name e = go (eqb b 32) refl (eqb b 9) refl (eqb b 13) refl (eqb b 10) refl
+    where
+      go :
+          (s : Bool) → eqb b 32 ≡ s → (t : Bool) → eqb b 9 ≡ t → (r : Bool) → eqb b 13 ≡ r → (n : Bool) → eqb b 10 ≡ n
+          → nameByte b ≡ false
+      go true f t g r h n i = rw (eqb-true b 32 f)
+      go false f true g r h n i = rw (eqb-true b 9 g)
+      go false f false g true h n i = rw (eqb-true b 13 h)
+      go false f false g false h true i = rw (eqb-true b 10 i)
+      go false f false g false h false i = let z : false ≡ true = rw (f, g, h, i) at e in absurd (false-true z)
+
+  pub name-no-separator : nameByte b ≡ true → separator b ≡ false
+  name-no-separator e = go (separator b) refl
+    where
+      go : (s : Bool) → separator b ≡ s → s ≡ false
+      go true f = absurd (false-true (sym (separator-no-name f) ∙ e))
+      go false f = refl
 
 -- The kind of a run whose name begins at `at`.
 module _ (kind : Kind) (run : List ℕ) (at : ℕ) where
@@ -122,6 +121,34 @@ module _ (kind : Kind) (run : List ℕ) (at : ℕ) where
   named-by l some few e =
       let size : length (getD run at 0 ∷ drop (suc at) run) ≤ 24 = omega (arith, length-drop (suc at) run) in
       rw (drop-cons run at 0 some, le-leb (length (getD run at 0 ∷ drop (suc at) run)) 24 size, e)
+
+-- How many bytes stand before a name, by the first byte and the one behind it.
+pub lead-hash : (t : List ℕ) → getD t 0 32 ≡ 35 → 1 ≡ lead t
+unfolding lead
+lead-hash [] e = absurd (omega (arith, e))
+lead-hash (b ∷ t) e = rw e
+
+pub lead-stop : (t : List ℕ) → getD t 0 32 ≡ 46 → 1 ≡ lead t
+unfolding lead
+lead-stop [] e = absurd (omega (arith, e))
+lead-stop (b ∷ t) e = rw e
+
+pub lead-none : (t : List ℕ) → (getD t 0 32 ≡ 35 → ⊥) → (getD t 0 32 ≡ 46 → ⊥) → (getD t 0 32 ≡ 45 → ⊥) → 0 ≡ lead t
+unfolding lead
+lead-none [] hash stop dash = refl
+lead-none (b ∷ t) hash stop dash = rw (ne-eqb b 35 hash, ne-eqb b 46 stop, ne-eqb b 45 dash)
+
+pub lead-arrow : (t : List ℕ) → getD t 0 32 ≡ 45 → getD t 1 32 ≡ 62 → 2 ≡ lead t
+unfolding lead
+lead-arrow [] e f = absurd (omega (arith, e))
+lead-arrow (b ∷ []) e f = absurd (omega (arith, f))
+lead-arrow (b ∷ y ∷ t) e f = rw (e, f)
+
+pub lead-dash : (t : List ℕ) → getD t 0 32 ≡ 45 → (getD t 1 32 ≡ 62 → ⊥) → 0 ≡ lead t
+unfolding lead
+lead-dash [] e f = refl
+lead-dash (b ∷ []) e f = rw e
+lead-dash (b ∷ y ∷ t) e f = rw (e, ne-eqb 62 y (λ (g : 62 ≡ y). f (sym g)))
 
 -- What a run is, by its first byte.
 pub kind-stop : (run : List ℕ) → getD run 0 0 ≡ 46 → length run ≡ 1 → kinds.Stop ≡ kindOf run

@@ -19,7 +19,7 @@ use Rattle.text.specs.Names.{slot, slots}
 use Rattle.text.specs.Grammar.{Between, Reading, Taken, Goes, Breaks, begun, afterRun, complete}
 use Rattle.text.specs.Read.{Result, Good, Bad, ended, orBroken, readRuns, readText}
 use Rattle.text.specs.Held.{Sound, ruleAt, readerOf, Keeps, Held, TakenIs, FinishedIs}
-use Rattle.text.proofs.Runs.{bytesOf, Next}
+use Rattle.text.proofs.Runs.{restOf, Next}
 use Rattle.text.proofs.Slots.{length-slots}
 use Rattle.text.proofs.Sound.{sound-begun, sound-run}
 
@@ -89,11 +89,11 @@ module _ {text : List ℕ} {r : Reader} {a b c d : List ℕ} {at : ℕ} (g : Goi
     step :
         readText text
         ≡ orBroken start (λ s. readRuns (length text) s (runsFrom true end (drop end text)))
-        (afterRun (g .reading) (tokenOf (bytesOf text start end)))
+        (afterRun (g .reading) (tokenOf (restOf text start)))
     unfolding readRuns
     step = g .rest ∙ ap (readRuns (length text) (g .reading)) (n .these)
 
-    pub no-token : (a′ b′ c′ d′ : List ℕ) → tokenOf (bytesOf text start end) ≡ none
+    pub no-token : (a′ b′ c′ d′ : List ℕ) → tokenOf (restOf text start) ≡ none
         → FinishedIs (readText text) (finished.Bad 3 start) a′ b′ c′ d′
     unfolding orBroken afterRun
     no-token a′ b′ c′ d′ e =
@@ -107,7 +107,7 @@ module _ {text : List ℕ} {r : Reader} {a b c d : List ℕ} {at : ℕ} (g : Goi
         rw broken (refl, refl)
 
     module _ (a′ b′ c′ d′ : List ℕ) (answer : taken-as.Taken) (o : Option Token)
-        (same : tokenOf (bytesOf text start end) ≡ o)
+        (same : tokenOf (restOf text start) ≡ o)
         (is : TakenIs (afterRun (g .reading) o) answer a′ b′ c′ d′) where
       after : (t : Taken) → afterRun (g .reading) o ≡ t
           → readText text ≡ orBroken start (λ s. readRuns (length text) s (runsFrom true end (drop end text))) t
@@ -134,7 +134,7 @@ module _ {text : List ℕ} {r : Reader} {a b c d : List ℕ} {at : ℕ} (g : Goi
           go (Goes s) e h =
               record {
                 reading = s;
-                sound = sound-run (g .reading) (bytesOf text start end) (g .sound) s (ap (afterRun (g .reading)) same ∙ e);
+                sound = sound-run (g .reading) (restOf text start) (g .sound) s (ap (afterRun (g .reading)) same ∙ e);
                 keeps = h;
                 inside = n .within;
                 rest = after (Goes s) e;

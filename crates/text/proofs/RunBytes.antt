@@ -1,118 +1,186 @@
--- The bytes of a name in a run, one by one.
+-- The bytes of a run, one by one: the loop over the bytes of a name.
 -- Assumes nothing.
-use Prim.Native.Nat.{ℕ, suc, _+_, _-_, _≤_, _<_}
+use Prim.Native.Nat.{ℕ, zero, suc, _+_, _-_, _≤_, _<_}
 use mathlib.Core.Path.{_≡_, refl, sym, ap, _∙_}
-use mathlib.Core.Bool.{true, false}
+use mathlib.Core.Bool.{Bool, true, false, _&&_}
 use mathlib.Core.Option.{Option, none}
 use mathlib.Core.List.{List, [], _∷_}
 use native.Mathlib.Omega.{arith}
 use native.Mathlib.Numerals.{add-one}
-use lib.ListN.{length, getD, take, drop}
-use lib.Seq.{drop-cons}
-use types.Run.{OneOf, miss}
-use denote.Enum.Declared.{tagOf, declared}
-use Rattle.rewriting.specs.Lists.{all}
+use lib.Dec.{eqb, ltb}
+use lib.ListN.{length, getD, take, drop, length-drop, drop-of-length-le, List·getD-eq-default}
+use lib.Seq.{drop-cons, drop-drop}
+use borrow.Rule.Slice.PartAt.{part-to-end}
+use borrow.Author.Tests.{ltb-true, ltb-false, eqb-true}
+use Rattle.rewriting.specs.Lists.{all, prefix}
 use Rattle.text.specs.declared.Kind.{Kind}
-use Rattle.text.specs.declared.Kind.the-variants as kinds
-use Rattle.text.specs.Tokens.{nameByte, Token, tokenOf}
-use Rattle.text.specs.Scanned.{kindOf, nameFrom, tokenAs}
+use Rattle.text.specs.Tokens.{separator, nameByte, unbroken, Token, tokenOf}
+use Rattle.text.specs.Scanned.{lead, kindOf, tokenAs}
 use Rattle.text.specs.Held.{Named}
-use Rattle.text.proofs.Kind.{enum}
-use Rattle.text.proofs.Runs.{bytesOf, Next}
-use Rattle.text.proofs.TokenOf.{nameOf, Told, told}
+use Rattle.text.proofs.Bytes.{false-true, name-no-separator}
+use Rattle.text.proofs.Runs.{unbroken-le, unbroken-take, restOf, stopOf}
+use Rattle.text.proofs.TokenOf.{nameOf, told}
 
--- the first byte of a part, and those behind it
-bytes-cons : (text : List ℕ) (i end : ℕ) → i < end → end ≤ length text → bytesOf text i end ≡ getD text i 0 ∷ bytesOf text (suc i) end
-bytes-cons text i end some within =
-    let size : end - i ≡ suc (end - suc i) = omega arith in
-    let inside : i < length text = omega arith in
-    rw (size, drop-cons text i 0 inside)
+-- the byte at a place, and a space behind the last
+pub byte-here : (t : List ℕ) (i : ℕ) → i < length t → getD t i 0 ≡ getD t i 32
+byte-here t i h = let e : getD t i 0 ∷ drop (suc i) t ≡ getD t i 32 ∷ drop (suc i) t = sym (drop-cons t i 0 h) ∙ drop-cons t i 32 h in ap (λ (l : List ℕ). getD l 0 0) e
 
--- none behind the last
-bytes-none : (text : List ℕ) (i end : ℕ) → end ≤ i → bytesOf text i end ≡ []
-bytes-none text i end h =
-    let size : end - i ≡ 0 = omega arith in
-    rw size
+-- A separator ends a run; any other byte is in it.
+module _ (text : List ℕ) (i : ℕ) where
+  pub rest-none : separator (getD text i 32) ≡ true → restOf text i ≡ []
+  unfolding unbroken
+  rest-none e = go (ltb i (length text)) refl
+    where
+      go : (h : Bool) → ltb i (length text) ≡ h → restOf text i ≡ []
+      go true h = rw (drop-cons text i 32 (ltb-true i (length text) h), e)
+      go false h = rw (drop-of-length-le text (ltb-false i (length text) h))
 
--- The bytes of a name before i may be in one: those from i on decide.
-module _ (text : List ℕ) (from end i : ℕ) (passed : all nameByte (bytesOf text from end) ≡ all nameByte (bytesOf text i end)) where
-  pub byte-passes :
-      i < end → end ≤ length text → nameByte (getD text i 0) ≡ true
-      → all nameByte (bytesOf text from end) ≡ all nameByte (bytesOf text (i + 1) end)
-  byte-passes some within e = rw (passed, bytes-cons text i end some within, e, add-one)
+  pub rest-inside : separator (getD text i 32) ≡ false → i < length text
+  unfolding separator
+  rest-inside e = go (ltb i (length text)) refl
+    where
+      go : (h : Bool) → ltb i (length text) ≡ h → i < length text
+      go true h = ltb-true i (length text) h
+      go false h =
+          let space : getD text i 32 ≡ 32 = List·getD-eq-default text 32 {n = i} (ltb-false i (length text) h) in
+          absurd (false-true (sym (rw space at e)))
 
-  pub byte-breaks :
-      i < end → end ≤ length text → nameByte (getD text i 0) ≡ false → all nameByte (bytesOf text from end) ≡ false
-  byte-breaks some within e = rw (passed, bytes-cons text i end some within, e)
+  pub rest-byte : separator (getD text i 32) ≡ false → restOf text i ≡ getD text i 32 ∷ restOf text (i + 1)
+  unfolding unbroken
+  rest-byte e = rw (add-one, drop-cons text i 32 (rest-inside e), e)
 
-  pub bytes-pass : end ≤ i → all nameByte (bytesOf text from end) ≡ true
-  bytes-pass h = rw (passed, bytes-none text i end h)
+-- What stands before a name is in its run: the name is what is left of the run behind it.
+abbrev Leads : List ℕ → Type 0
+Leads t =
+    (unbroken (drop (lead t) t) ≡ nameOf (unbroken t)) × (length (unbroken t) ≡ lead t + length (unbroken (drop (lead t) t)))
 
--- a run without a name has none at its end
-pub nameless : (k : Kind) (start end : ℕ) → OneOf (2 ∷ 3 ∷ 4 ∷ []) (tagOf (declared enum) k) → end ≡ nameFrom k start end
-unfolding nameFrom
-nameless kinds.Name start end h = absurd (miss (2 ∷ 3 ∷ 4 ∷ []) 0 tt h)
-nameless kinds.Word start end h = absurd (miss (2 ∷ 3 ∷ 4 ∷ []) 1 tt h)
-nameless kinds.Arrow start end h = refl
-nameless kinds.Stop start end h = refl
-nameless kinds.None start end h = refl
+leads-dash : (t : List ℕ) → Leads (45 ∷ t)
+unfolding lead unbroken separator
+leads-dash [] = (refl, refl)
+leads-dash (y ∷ u) = arrow (eqb 62 y) refl
+  where
+    other : (h : Bool) → separator y ≡ h → eqb 62 y ≡ false → Leads (45 ∷ y ∷ u)
+    other true e f = rw (f, e) (refl, omega arith)
+    other false e f = rw (f, e, f) (refl, omega arith)
 
--- What the code finds out about the next run from `at` on, before it looks at the bytes of the name: where it begins and ends, its
--- kind, and where the name begins.
-pub record Sized (text : List ℕ) (at start end : ℕ) (k : Kind) (from : ℕ) : Type 0 where
-  pub next : Next text at start end
-  pub kind : k ≡ kindOf (bytesOf text start end)
-  pub begins : from ≡ nameFrom k start end
+    arrow : (h : Bool) → eqb 62 y ≡ h → Leads (45 ∷ y ∷ u)
+    arrow true e = rw (← eqb-true 62 y e) (refl, omega arith)
+    arrow false e = other (separator y) refl e
 
-pub sized : {text : List ℕ} {at start end : ℕ} {k : Kind} {from : ℕ} → Next text at start end → k ≡ kindOf (bytesOf text start end)
-    → from ≡ nameFrom k start end → Sized text at start end k from
-sized n kind begins = record { next = n; kind = kind; begins = begins }
+leads : (t : List ℕ) → Leads t
+unfolding lead unbroken separator
+leads [] = (refl, refl)
+leads (b ∷ t) = hash (eqb b 35) refl
+  where
+    other : (h : Bool) → separator b ≡ h → eqb b 35 ≡ false → eqb b 46 ≡ false → eqb b 45 ≡ false → Leads (b ∷ t)
+    other true e f g k = rw (f, g, k, e) (refl, omega arith)
+    other false e f g k = rw (f, g, k, e, f, g, k) (refl, omega arith)
+
+    dash : (h : Bool) → eqb b 45 ≡ h → eqb b 35 ≡ false → eqb b 46 ≡ false → Leads (b ∷ t)
+    dash true e f g = rw (eqb-true b 45 e) (leads-dash t)
+    dash false e f g = other (separator b) refl f g e
+
+    stop : (h : Bool) → eqb b 46 ≡ h → eqb b 35 ≡ false → Leads (b ∷ t)
+    stop true e f = rw (eqb-true b 46 e) (refl, omega arith)
+    stop false e f = dash (eqb b 45) refl f e
+
+    hash : (h : Bool) → eqb b 35 ≡ h → Leads (b ∷ t)
+    hash true e = rw (eqb-true b 35 e) (refl, omega arith)
+    hash false e = stop (eqb b 46) refl e
+
+-- The name of the run that begins at `start` begins at `from`.
+pub record Leading (text : List ℕ) (start from : ℕ) : Type 0 where
+  pub name : restOf text from ≡ nameOf (restOf text start)
+  pub stop : stopOf text start ≡ stopOf text from
+  pub behind : start ≤ from
+  pub within : from ≤ length text
+
+-- as it is counted in the part that begins at `start`
+pub leading :
+    (text : List ℕ) (start n : ℕ) → start ≤ length text → n ≡ lead (take (length text - start) (drop start text))
+    → Leading text start (start + n)
+leading text start n inside found =
+    let t : List ℕ = drop start text in
+    let counted : n ≡ lead t = rw part-to-end at found in
+    let rest : unbroken (drop (lead t) t) ≡ restOf text (start + n) = rw counted (ap unbroken (drop-drop (lead t) start text)) in
+    let size = leads t .1 in
+    record {
+      name = sym rest ∙ leads t .0;
+      stop = omega (arith, counted, size, ap length rest);
+      behind = omega arith;
+      within = omega (arith, counted, size, unbroken-le t, length-drop start text);
+    }
+
+-- The bytes from `from` to `end` may be in a name: those behind decide.
+pub record Scanning (text : List ℕ) (start from end : ℕ) : Type 0 where
+  pub stop : stopOf text start ≡ stopOf text end
+  pub passed : all nameByte (restOf text from) ≡ all nameByte (restOf text end)
+  pub behind : from ≤ end
+  pub within : end ≤ length text
+
+pub scanning-first : {text : List ℕ} {start from : ℕ} → Leading text start from → Scanning text start from from
+scanning-first l = record { stop = l .stop; passed = refl; behind = omega arith; within = l .within }
+
+module _ {text : List ℕ} {start from end : ℕ} (s : Scanning text start from end) where
+  pub scanning-inside : nameByte (getD text end 32) ≡ true → end < length text
+  scanning-inside e = rest-inside text end (name-no-separator (getD text end 32) e)
+
+  pub scanning-next : nameByte (getD text end 32) ≡ true → Scanning text start from (end + 1)
+  scanning-next e =
+      let byte = rest-byte text end (name-no-separator (getD text end 32) e) in
+      record {
+        stop = s .stop ∙ omega (arith, ap length byte);
+        passed = s .passed ∙ rw (byte, e);
+        behind = omega (arith, s .behind);
+        within = omega (arith, scanning-inside e);
+      }
+
+  -- a separator: here the run ends
+  pub scanning-stop : separator (getD text end 32) ≡ true → end ≡ stopOf text start
+  scanning-stop e = omega (arith, s .stop, ap length (rest-none text end e))
+
+  pub scanning-passed : separator (getD text end 32) ≡ true → all nameByte (restOf text from) ≡ true
+  scanning-passed e = s .passed ∙ rw (rest-none text end e)
+
+  -- neither
+  pub scanning-breaks : nameByte (getD text end 32) ≡ false → separator (getD text end 32) ≡ false → all nameByte (restOf text from) ≡ false
+  scanning-breaks e f = s .passed ∙ rw (rest-byte text end f, e)
+
+-- a part of a text, as a slice of it is handed on
+abbrev pub bytesOf : List ℕ → ℕ → ℕ → List ℕ
+bytesOf text i end = take (end - i) (drop i text)
+
+bytes-rest : (text : List ℕ) (i end : ℕ) → end ≡ stopOf text i → bytesOf text i end ≡ restOf text i
+bytes-rest text i end e =
+    let size : end - i ≡ length (restOf text i) = omega (arith, e) in
+    rw size (sym (unbroken-take (drop i text)))
 
 -- a run is not empty
-pub bytes-some : {text : List ℕ} {at start end : ℕ} → Next text at start end → 1 ≤ length (bytesOf text start end)
-bytes-some {text} {at} {start} {end} n = rw (bytes-cons text start end (n .some) (n .within)) (omega arith)
+pub bytes-some : (text : List ℕ) (start end : ℕ) → end ≡ stopOf text start → start < end → 1 ≤ length (bytesOf text start end)
+bytes-some text start end e some = rw (bytes-rest text start end e) (omega (arith, e))
 
-module _ {text : List ℕ} {at start end : ℕ} {k : Kind} {from : ℕ} (z : Sized text at start end k from) where
-  pub name-inside : from ≤ end
-  unfolding nameFrom
-  name-inside = rw (z .begins) (go k)
-    where
-      go : (k : Kind) → nameFrom k start end ≤ end
-      go kinds.Name = omega (arith, z .next .some)
-      go kinds.Word = omega (arith, z .next .some)
-      go kinds.Arrow = omega arith
-      go kinds.Stop = omega arith
-      go kinds.None = omega arith
-
-  named : bytesOf text from end ≡ nameOf k (bytesOf text start end)
-  unfolding nameFrom
-  named = rw (z .begins) (go k)
-    where
-      go : (k : Kind) → bytesOf text (nameFrom k start end) end ≡ nameOf k (bytesOf text start end)
-      go kinds.Name = refl
-      go kinds.Word = rw (bytes-cons text start end (z .next .some) (z .next .within), add-one)
-      go kinds.Arrow = bytes-none text end end (omega arith)
-      go kinds.Stop = bytes-none text end end (omega arith)
-      go kinds.None = bytes-none text end end (omega arith)
-
-  run-told : Told k (bytesOf text start end)
-  run-told =
-      rw (z .kind, bytes-cons text start end (z .next .some) (z .next .within))
-      (told (getD text start 0) (bytesOf text (suc start) end))
-
-  -- all bytes of the name may be in one: which token the run is, and that its name is a name
-  pub run-token : all nameByte (bytesOf text from end) ≡ true → tokenOf (bytesOf text start end) ≡ tokenAs k (bytesOf text from end)
-  run-token e =
-      let by = run-told .0 in
-      rw (← named, e) at by
-
-  pub run-named : all nameByte (bytesOf text from end) ≡ true → Named k (bytesOf text from end)
-  run-named e =
-      let by = run-told .1 in
-      (rw (← named) at by) e
-
-  -- one may not
-  pub run-none : all nameByte (bytesOf text from end) ≡ false → tokenOf (bytesOf text start end) ≡ none
+module _ {text : List ℕ} {start from : ℕ} (l : Leading text start from) where
+  -- a byte of the name may not be in one
+  pub run-none : all nameByte (restOf text from) ≡ false → tokenOf (restOf text start) ≡ none
   run-none e =
-      let by = run-told .0 in
-      rw (← named, e) at by
+      let by = told (restOf text start) .0 in
+      rw (← l .name, e) at by
+
+  -- all may: which token the run is, and that its name is a name
+  module _ (end : ℕ) (stop : end ≡ stopOf text start) (k : Kind) (kind : k ≡ kindOf (bytesOf text start end))
+      (passed : all nameByte (restOf text from) ≡ true) where
+    kind-rest : k ≡ kindOf (restOf text start)
+    kind-rest = kind ∙ ap kindOf (bytes-rest text start end stop)
+
+    named : bytesOf text from end ≡ restOf text from
+    named = bytes-rest text from end (stop ∙ l .stop)
+
+    pub run-token : tokenOf (restOf text start) ≡ tokenAs k (bytesOf text from end)
+    run-token =
+        let by = told (restOf text start) .0 in
+        rw (named, kind-rest) (rw (← l .name, passed) at by)
+
+    pub run-named : Named k (bytesOf text from end)
+    run-named =
+        let by = told (restOf text start) .1 in
+        rw (named, kind-rest) ((rw (← l .name) at by) passed)

@@ -1,7 +1,7 @@
 -- The runs of a text, one by one: the next run after a place, or none.
 -- Assumes nothing.
 use Prim.Native.Nat.{ℕ, suc, _+_, _-_, _≤_, _<_}
-use mathlib.Core.Path.{_≡_, refl, ap, _∙_}
+use mathlib.Core.Path.{_≡_, refl, sym, ap, _∙_}
 use mathlib.Core.Bool.{Bool, true, false}
 use mathlib.Core.List.{List, [], _∷_}
 use native.Mathlib.Nat.{le-of-suc-le-suc, not-suc-le-zero}
@@ -192,59 +192,51 @@ module _
   unfolding firstRun
   run-first = λ i. record { start = s i; end = s i + sized i }
 
--- The next run of a text from the place `at` on has the bytes from `start` to `end`.
-abbrev pub bytesOf : List ℕ → ℕ → ℕ → List ℕ
-bytesOf text start end = take (end - start) (drop start text)
+-- what is left of a run at the place i, and where it ends
+abbrev pub restOf : List ℕ → ℕ → List ℕ
+restOf text i = unbroken (drop i text)
 
+abbrev pub stopOf : List ℕ → ℕ → ℕ
+stopOf text i = i + length (restOf text i)
+
+-- The next run of a text from the place `at` on goes from `start` to `end`.
 pub record Next (text : List ℕ) (at start end : ℕ) : Type 0 where
   pub after : at ≤ start
   pub some : start < end
   pub within : end ≤ length text
+  pub stop : end ≡ stopOf text start
   pub these :
       runsFrom true at (drop at text)
-      ≡ record { place = start; bytes = bytesOf text start end } ∷ runsFrom true end (drop end text)
+      ≡ record { place = start; bytes = restOf text start } ∷ runsFrom true end (drop end text)
 
--- the text from `at` on, as `first_run` is handed it
-pub run-of-part :
-    (text : List ℕ) (at : ℕ) (run : code.Run) → run ≡ firstRun (take (length text - at) (drop at text))
-    → run ≡ firstRun (drop at text)
-run-of-part text at run e = rw part-to-end at e
+-- The separators from the place `at` on are counted, in the part that begins there: behind them the run begins.
+module _ (text : List ℕ) (at : ℕ) (inside : at ≤ length text) (n : ℕ) (found : n ≡ gap (take (length text - at) (drop at text))) where
+  counted : n ≡ gap (drop at text)
+  counted = rw part-to-end at found
 
--- What `first_run` answers to the text from `at` on: where the run begins where it ends, there is none.
-module _ (text : List ℕ) (at : ℕ) (inside : at ≤ length text) (run : code.Run) (found : run ≡ firstRun (drop at text)) where
-  run-start : run .start ≡ gap (drop at text)
-  unfolding firstRun
-  run-start = ap (λ (r : code.Run). r .start) found
+  pub start-within : at + n ≤ length text
+  start-within = omega (arith, counted, gap-le (drop at text), length-drop at text)
 
-  run-stop : run .end ≡ endOf (drop at text)
-  unfolding firstRun
-  run-stop = ap (λ (r : code.Run). r .end) found
+  pub next-none : length text ≤ at + n → runsFrom true at (drop at text) ≡ []
+  next-none h = runs-none at (drop at text) (omega (arith, counted, gap-le (drop at text), length-drop at text))
 
-  pub run-order : run .start ≤ run .end
-  run-order = omega (arith, run-start, run-stop)
-
-  pub run-within : at + run .end ≤ length text
-  run-within = omega (arith, run-stop, run-end (drop at text), length-drop at text)
-
-  pub next-none : at + run .start ≡ at + run .end → runsFrom true at (drop at text) ≡ []
-  next-none e = runs-none at (drop at text) (run-none (drop at text) (omega (arith, run-start, run-stop)))
-
-  pub next-run : (at + run .start ≡ at + run .end → ⊥) → Next text at (at + run .start) (at + run .end)
-  next-run ne =
+  pub next-run : at + n < length text → (end : ℕ) → end ≡ stopOf text (at + n) → Next text at (at + n) end
+  next-run more end stop =
       let t : List ℕ = drop at text in
-      let n : ℕ = length (unbroken (drop (gap t) t)) in
-      let more : gap t < length t = omega (arith, run-start, run-stop, run-end t) in
-      let size : at + endOf t - (at + gap t) ≡ n = omega arith in
-      let bytes : unbroken (drop (gap t) t) ≡ take n (drop (at + gap t) text) =
-      unbroken-take (drop (gap t) t) ∙ rw drop-drop
+      let here : gap t < length t = omega (arith, counted, length-drop at text) in
+      let rest : unbroken (drop (gap t) t) ≡ restOf text (at + n) =
+      rw (counted) (ap unbroken (drop-drop (gap t) at text))
       in
+      let last : at + endOf t ≡ end = omega (arith, counted, stop, ap length rest) in
+      let behind : drop (endOf t) t ≡ drop end text = drop-drop (endOf t) at text ∙ ap (λ (k : ℕ). drop k text) last in
       record {
         after = omega arith;
-        some = omega (arith, run-order);
-        within = run-within;
+        some = omega (arith, stop, ap length rest, run-some t here);
+        within = omega (arith, last, run-end t, length-drop at text);
+        stop = stop;
         these =
-            rw (run-start, run-stop, size)
-            (runs-next at t more
+            runs-next at t here
             ∙ (λ j.
-            record { place = at + gap t; bytes = bytes j } ∷ runsFrom true (at + endOf t) (drop-drop (endOf t) at text j)));
+            record { place = at + sym counted j; bytes = rest j }
+            ∷ runsFrom true (last j) (behind j));
       }

@@ -10,28 +10,22 @@ use lib.Dec.{eqb, leb}
 use lib.ListN.{length, drop}
 use borrow.Author.Tests.{eqb-true, ne-eqb}
 use Rattle.rewriting.specs.Lists.{all, same}
+use Rattle.rewriting.proofs.Lists.{same-eq}
 use Rattle.text.specs.declared.Kind.{Kind}
 use Rattle.text.specs.declared.Kind.the-variants as kinds
 use Rattle.text.specs.Tokens.{letter, nameByte, isName, Token, tokenOf}
-use Rattle.text.specs.Scanned.{namedAs, kindOf, tokenAs}
+use Rattle.text.specs.Scanned.{lead, namedAs, kindOf, tokenAs}
 use Rattle.text.specs.Held.{Named}
 
--- the name in a run of that kind: empty where it has none
-abbrev pub nameOf : Kind → List ℕ → List ℕ
-nameOf kinds.Name run = run
-nameOf kinds.Word run = drop 1 run
-nameOf kinds.Arrow run = []
-nameOf kinds.Stop run = []
-nameOf kinds.None run = []
+-- the name in a run: what stands behind its `#`, `.` or `->`
+abbrev pub nameOf : List ℕ → List ℕ
+nameOf run = drop (lead run) run
 
--- the token of the kind k with the name x, if all its bytes may be in one
-abbrev tokenWith : Kind → List ℕ → Option Token
-tokenWith k x = cond (all nameByte x) (tokenAs k x) none
-
--- a run of the kind k is that token, and its name is a name
+-- a run of the kind k is the token of that kind, if all bytes of its name may be in one, and then its name is a name
 abbrev pub Told : Kind → List ℕ → Type 0
 Told k run =
-    (tokenOf run ≡ tokenWith k (nameOf k run)) × (all nameByte (nameOf k run) ≡ true → Named k (nameOf k run))
+    (tokenOf run ≡ cond (all nameByte (nameOf run)) (tokenAs k (nameOf run)) none)
+    × (all nameByte (nameOf run) ≡ true → Named k (nameOf run))
 
 letter-named : (b : ℕ) → letter b ≡ true → nameByte b ≡ true
 unfolding nameByte
@@ -57,20 +51,27 @@ name-is y u = go (letter y) refl (leb (length (y ∷ u)) 24)
     go false e true = refl
     go false e false = refl
 
+-- whatever the bytes, no token
+neither : (h : Bool) → _≡_ {A = Option Token} none (cond h none none)
+neither true = refl
+neither false = refl
+
 told-stop : (t : List ℕ) → Told (kindOf (46 ∷ t)) (46 ∷ t)
-unfolding tokenOf isName letter kindOf tokenAs
+unfolding tokenOf isName letter kindOf tokenAs lead
 told-stop [] = (refl, λ h. tt)
 told-stop (y ∷ u) =
-    let more : eqb (length (46 ∷ y ∷ u)) 1 ≡ false = ne-eqb (length (46 ∷ y ∷ u)) 1 (λ (e : length (46 ∷ y ∷ u) ≡ 1). omega arith) in
-    rw more (refl, λ h. tt)
+    let more : eqb (length (46 ∷ y ∷ u)) 1 ≡ false =
+    ne-eqb (length (46 ∷ y ∷ u)) 1 (λ (e : length (46 ∷ y ∷ u) ≡ 1). omega arith)
+    in
+    rw more (neither (all nameByte (y ∷ u)), λ h. tt)
 
 told-dash : (t : List ℕ) → Told (kindOf (45 ∷ t)) (45 ∷ t)
-unfolding tokenOf isName letter kindOf tokenAs
+unfolding tokenOf isName letter kindOf tokenAs lead
 told-dash t = go (same t (62 ∷ [])) refl
   where
     go : (h : Bool) → same t (62 ∷ []) ≡ h → Told (kindOf (45 ∷ t)) (45 ∷ t)
-    go true e = rw e (refl, λ h. tt)
-    go false e = rw e (refl, λ h. tt)
+    go true e = rw (same-eq t (62 ∷ []) e) (refl, λ h. tt)
+    go false e = rw e (neither (all nameByte (nameOf (45 ∷ t))), λ h. tt)
 
 no-name-hash : (t : List ℕ) → isName (35 ∷ t) ≡ false
 unfolding isName letter
@@ -81,7 +82,7 @@ unfolding isName
 no-name = refl
 
 told-hash : (t : List ℕ) → Told (kindOf (35 ∷ t)) (35 ∷ t)
-unfolding tokenOf kindOf tokenAs namedAs
+unfolding tokenOf kindOf tokenAs namedAs lead
 told-hash [] = rw (no-name-hash [], no-name) (refl, λ h. tt)
 told-hash (y ∷ u) = go (leb (length (y ∷ u)) 24 && letter y) refl (name-is y u)
   where
@@ -94,10 +95,10 @@ told-hash (y ∷ u) = go (leb (length (y ∷ u)) 24 && letter y) refl (name-is y
         rw (no-name-hash (y ∷ u), is, e) (refl, λ h. is ∙ h)
     go false e n =
         let is : isName (y ∷ u) ≡ false = rw e at n in
-        rw (no-name-hash (y ∷ u), is, e) (refl, λ h. tt)
+        rw (no-name-hash (y ∷ u), is, e) (neither (all nameByte (y ∷ u)), λ h. tt)
 
 told-name : (b : ℕ) (t : List ℕ) → eqb b 46 ≡ false → eqb b 45 ≡ false → eqb b 35 ≡ false → Told (kindOf (b ∷ t)) (b ∷ t)
-unfolding tokenOf kindOf tokenAs namedAs
+unfolding tokenOf kindOf tokenAs namedAs lead
 told-name b t stop dash hash = go (leb (length (b ∷ t)) 24 && letter b) refl (name-is b t)
   where
     go :
@@ -109,14 +110,15 @@ told-name b t stop dash hash = go (leb (length (b ∷ t)) 24 && letter b) refl (
         rw (is, e, stop, dash, hash) (refl, λ h. is ∙ h)
     go false e n =
         let is : isName (b ∷ t) ≡ false = rw e at n in
-        rw (is, e, stop, dash, hash) (refl, λ h. tt)
+        rw (is, e, stop, dash, hash) (neither (all nameByte (b ∷ t)), λ h. tt)
 
 -- Every run is the token of its kind.
-pub told : (b : ℕ) (t : List ℕ) → Told (kindOf (b ∷ t)) (b ∷ t)
-told b t = stop (eqb b 46) refl
+pub told : (run : List ℕ) → Told (kindOf run) run
+unfolding tokenOf kindOf tokenAs lead
+told [] = (refl, λ h. tt)
+told (b ∷ t) = stop (eqb b 46) refl
   where
-    hash :
-        (h : Bool) → eqb b 35 ≡ h → eqb b 46 ≡ false → eqb b 45 ≡ false → Told (kindOf (b ∷ t)) (b ∷ t)
+    hash : (h : Bool) → eqb b 35 ≡ h → eqb b 46 ≡ false → eqb b 45 ≡ false → Told (kindOf (b ∷ t)) (b ∷ t)
     hash true e f g = rw (eqb-true b 35 e) (told-hash t)
     hash false e f g = told-name b t f g e
 

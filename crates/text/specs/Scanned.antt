@@ -5,7 +5,7 @@ use mathlib.Core.Option.{Option, none, some}
 use mathlib.Core.List.{List, [], _∷_}
 use lib.Dec.{eqb, leb}
 use lib.ListN.{length, drop}
-use Rattle.rewriting.specs.Lists.{same}
+use Rattle.rewriting.specs.Lists.{same, prefix}
 use Rattle.text.specs.declared.Run as code
 use Rattle.text.specs.declared.Kind.{Kind}
 use Rattle.text.specs.declared.Kind.the-variants as kinds
@@ -21,6 +21,11 @@ unfoldable pub firstRun : List ℕ → code.Run
 firstRun part =
     record { start = gap part; end = gap part + length (unbroken (drop (gap part) part)) }
 
+-- the number of bytes before the name of a run: those of `#`, `.` and `->`
+unfoldable pub lead : List ℕ → ℕ
+lead [] = 0
+lead (b ∷ t) = cond (eqb b 35) 1 (cond (eqb b 46) 1 (cond (eqb b 45 && prefix (62 ∷ []) t) 2 0))
+
 -- this kind, for a name that begins with a letter and has at most 24 bytes
 unfoldable pub namedAs : Kind → List ℕ → Kind
 namedAs kind [] = kinds.None
@@ -33,14 +38,6 @@ kindOf (b ∷ t) =
     cond (eqb b 46) (cond (eqb (length (b ∷ t)) 1) kinds.Stop kinds.None)
     (cond (eqb b 45) (cond (same (b ∷ t) (45 ∷ 62 ∷ [])) kinds.Arrow kinds.None)
     (cond (eqb b 35) (namedAs kinds.Word t) (namedAs kinds.Name (b ∷ t))))
-
--- where the name begins in a run of that kind from `start` to `end`: behind a `#`, and at the end where there is none
-unfoldable pub nameFrom : Kind → ℕ → ℕ → ℕ
-nameFrom kinds.Name start end = start
-nameFrom kinds.Word start end = start + 1
-nameFrom kinds.Arrow start end = end
-nameFrom kinds.Stop start end = end
-nameFrom kinds.None start end = end
 
 -- the token of that kind with this name
 unfoldable pub tokenAs : Kind → List ℕ → Option Token

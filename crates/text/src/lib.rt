@@ -7,6 +7,7 @@ ghost use lib.Seq.{paste};
 ghost use Rattle.rewriting.specs.Lists.{over};
 ghost use Rattle.image.specs.Image.{imageOf};
 ghost use Rattle.text.specs.Names.{slots};
+ghost use Rattle.text.specs.Scanned.{firstRun};
 ghost use Rattle.text.specs.Grammar.{Between, Reading, begun, ruleSetOf};
 ghost use Rattle.text.specs.Read.{ended, readText, readOf};
 ghost use Rattle.text.specs.Lookup.{symbolNamed};
@@ -85,13 +86,6 @@ pub enum Found {
     None,
 }
 
-// A byte as a number.
-fn wide(x: u8) -> usize
-    ensures { λ r. ⌜ r ≡ x ⌝ }
-{
-    x as usize
-}
-
 // Nothing read: two words, `fail` and `succeed`.
 fn begin(words: &mut [u8]) -> Reader
     requires { ⌜ now words ≡ replicate 400 0 ⌝ }
@@ -126,8 +120,8 @@ fn ended(reader: Reader, size: usize) -> Finished
     }
 }
 
-// The tokens of a text, up to the first at which it breaks: for each run, the bytes of its name one by one, then what the token
-// makes of what has been read. A byte that may not be in a name ends both loops.
+// The tokens of a text, up to the first at which it breaks: for each run, the bytes of its name one by one up to its end, then
+// what the token makes of what has been read. A byte that may not be in a name ends both loops.
 fn read_tokens(
     text: &[u8],
     symbols: &mut [u8],
@@ -145,19 +139,23 @@ fn read_tokens(
     let mut reader = begin(words);
     let mut at: usize = 0;
     'tokens: loop {
-        let run = tokens::first_run(&text[at..]);
-        let start = at + run.start;
-        let end = at + run.end;
-        if start == end {
+        let start = at + tokens::gap_of(&text[at..]);
+        if text.len() <= start {
             break 'tokens ended(reader, text.len());
         }
-        let kind = tokens::kind_of(&text[start..end]);
-        let from = tokens::name_start(kind, start, end);
-        for i in from..end {
-            if !tokens::is_name_byte(text[i]) {
+        let from = start + tokens::lead_of(&text[start..]);
+        let mut end = from;
+        loop {
+            let b = tokens::byte_at(text, end);
+            if !tokens::is_name_byte(b) {
+                if tokens::is_separator(b) {
+                    break;
+                }
                 break 'tokens Finished::Bad(3, start);
             }
+            end += 1;
         }
+        let kind = tokens::kind_of(&text[start..end]);
         match reader.token(kind, &text[from..end], symbols, words, contents, bodies) {
             Taken::Goes(next) => reader = next,
             Taken::Breaks(n) => break 'tokens Finished::Bad(n, start),
@@ -237,6 +235,18 @@ pub fn read_rules(text: &[u8], image: &mut [u8], names: &mut [u8]) -> Read
             write_names(&symbols, &words, names);
             Read::Image(size)
         }
+    }
+}
+
+// The name reader: the first run of a part of a text, where it begins and ends in it. Where there is none, both are its end.
+pub fn first_run(part: &[u8]) -> Run
+    ensures { λ r. ⌜ r ≡ firstRun (now (part .entry)) ⌝ }
+{
+    let start = tokens::gap_of(part);
+    let size = tokens::unbroken_length(&part[start..]);
+    Run {
+        start: start,
+        end: start + size,
     }
 }
 

@@ -1,13 +1,12 @@
 // Bytes, runs of bytes, and the tokens that they are.
-// What a function asks of its caller, the reader has shown; the name reader, first_run, asks nothing.
-ghost use Prim.Native.Nat.{_≤_, _<_};
+// What a function asks of its caller, the reader has shown.
+ghost use Prim.Native.Nat.{_≤_};
 ghost use mathlib.Core.Path.{_≡_};
-ghost use lib.ListN.{length, drop};
+ghost use lib.ListN.{length, getD, drop};
 ghost use Rattle.rewriting.specs.Lists.{same};
 ghost use Rattle.text.specs.Tokens.{separator, letter, nameByte, unbroken};
-ghost use Rattle.text.specs.Scanned.{gap, firstRun, namedAs, kindOf, nameFrom};
+ghost use Rattle.text.specs.Scanned.{gap, lead, namedAs, kindOf};
 use crate::Kind;
-use crate::Run;
 
 // Space, tab, CR or LF.
 pub fn is_separator(b: u8) -> bool
@@ -41,18 +40,15 @@ fn is_letter(b: u8) -> bool
     b <= b'z'
 }
 
-// A letter, a digit or `_`. Small letters are the most, and come first.
+// A letter, a digit or `_`.
 pub fn is_name_byte(b: u8) -> bool
     ensures { λ r. ⌜ r ≡ nameByte b ⌝ }
 {
-    if b'a' <= b {
-        return b <= b'z';
+    if is_letter(b) {
+        return true;
     }
-    if b'A' <= b {
-        if b <= b'Z' {
-            return true;
-        }
-        return b == b'_';
+    if b == b'_' {
+        return true;
     }
     if b < b'0' {
         return false;
@@ -61,7 +57,7 @@ pub fn is_name_byte(b: u8) -> bool
 }
 
 // How many separators stand before the first run of a part of a text.
-fn gap_of(part: &[u8]) -> usize
+pub fn gap_of(part: &[u8]) -> usize
     ensures { λ r. ⌜ r ≡ gap (now (part .entry)) ⌝ }
 {
     let mut i: usize = 0;
@@ -75,7 +71,7 @@ fn gap_of(part: &[u8]) -> usize
 }
 
 // How many bytes stand before its first separator.
-fn unbroken_length(part: &[u8]) -> usize
+pub fn unbroken_length(part: &[u8]) -> usize
     ensures { λ r. ⌜ r ≡ length (unbroken (now (part .entry))) ⌝ }
 {
     let mut i: usize = 0;
@@ -88,16 +84,34 @@ fn unbroken_length(part: &[u8]) -> usize
     i
 }
 
-// The name reader: the first run of a part of a text, where it begins and ends in it. Where there is none, both are its end.
-pub fn first_run(part: &[u8]) -> Run
-    ensures { λ r. ⌜ r ≡ firstRun (now (part .entry)) ⌝ }
+// The byte at a place, and a space behind the last one.
+pub fn byte_at(text: &[u8], i: usize) -> u8
+    ensures { λ r. ⌜ r ≡ getD (now (text .entry)) i 32 ⌝ }
 {
-    let start = gap_of(part);
-    let size = unbroken_length(&part[start..]);
-    Run {
-        start: start,
-        end: start + size,
+    if i < text.len() {
+        return text[i];
     }
+    b' '
+}
+
+// How many bytes stand before the name of a run that begins here: those of `#`, `.` and `->`.
+pub fn lead_of(part: &[u8]) -> usize
+    ensures { λ r. ⌜ r ≡ lead (now (part .entry)) ⌝ }
+{
+    let first = byte_at(part, 0);
+    if first == b'#' {
+        return 1;
+    }
+    if first == b'.' {
+        return 1;
+    }
+    if first != b'-' {
+        return 0;
+    }
+    if byte_at(part, 1) == b'>' {
+        return 2;
+    }
+    0
 }
 
 // The kind of a run whose name begins at `at`, if it begins with a letter and is not too long.
@@ -140,18 +154,6 @@ pub fn kind_of(run: &[u8]) -> Kind
         return named(run, 1, Kind::Word);
     }
     named(run, 0, Kind::Name)
-}
-
-// Where the name begins in a run of this kind: behind a `#`. A run without a name has none at its end.
-pub fn name_start(kind: Kind, start: usize, end: usize) -> usize
-    requires { ⌜ start < end ⌝ }
-    ensures { λ r. ⌜ r ≡ nameFrom kind start end ⌝ }
-{
-    match kind {
-        Kind::Name => start,
-        Kind::Word => start + 1,
-        _ => end,
-    }
 }
 
 // Whether the two are equal.

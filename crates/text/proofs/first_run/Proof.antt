@@ -1,10 +1,10 @@
--- `text::tokens::first_run` meets its contract: the two counts are those of the first run.
+-- `text::first_run` meets its contract: the two counts are those of the first run.
 -- Assumes nothing.
 use native.Mathlib.Omega.{arith}
 use borrow.Author.Needs.{needs}
 use Rattle.text.proofs.Runs.{run-from, run-to, run-first}
-use Rattle.text.proofs.tokens.first_run.Statement.{statement}
-use Rattle.text.proofs.tokens.first_run.Tie as tie
+use Rattle.text.proofs.first_run.Statement.{statement}
+use Rattle.text.proofs.first_run.Tie as tie
 
 gap-of-requires : tie.Need-gap-of-requires
 gap-of-requires c κs = search needs
