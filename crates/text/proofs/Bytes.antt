@@ -10,15 +10,18 @@ use lib.Dec.{eqb, leb}
 use lib.ListN.{length, getD, drop, length-drop}
 use lib.Seq.{drop-cons}
 use borrow.Author.Tests.{eqb-true, eq-eqb, ne-eqb, le-leb, lt-leb}
-use Rattle.rewriting.specs.Lists.{same}
+use Rattle.rewriting.specs.Lists.{same, between}
 use Rattle.text.specs.declared.Kind.{Kind}
 use Rattle.text.specs.declared.Kind.the-variants as kinds
 use Rattle.text.specs.Tokens.{separator, letter, digit, nameByte}
 use Rattle.text.specs.Scanned.{lead, namedAs, kindOf}
 
-or-false : (t : Bool) → t ≡ (t || false)
-or-false true = refl
-or-false false = refl
+-- A byte between two others.
+pub between-from : (low b high : ℕ) → low ≤ b → leb b high ≡ between low b high
+between-from low b high h = rw (le-leb low b h)
+
+pub between-before : (low b high : ℕ) → b < low → false ≡ between low b high
+between-before low b high h = rw (lt-leb low b h)
 
 pub false-true : false ≡ true → ⊥
 false-true e = let z : _≡_ {A = ℕ} 0 1 = ap (λ (b : Bool). cond b 1 0) e in absurd (omega arith)
@@ -40,40 +43,25 @@ module _ (b : ℕ) where
   unfolding separator
   separator-else f g h = rw (ne-eqb b 32 f, ne-eqb b 9 g, ne-eqb b 13 h)
 
-  pub letter-before : b < 65 → false ≡ letter b
+  pub letter-large : between 65 b 90 ≡ true → true ≡ letter b
   unfolding letter
-  letter-before h = let l : b < 97 = omega arith in rw (lt-leb 65 b h, lt-leb 97 b l)
+  letter-large e = rw e
 
-  pub letter-large : 65 ≤ b → b ≤ 90 → true ≡ letter b
+  pub letter-small : between 65 b 90 ≡ false → between 97 b 122 ≡ letter b
   unfolding letter
-  letter-large g h = rw (le-leb 65 b g, le-leb b 90 h)
-
-  pub letter-between : 90 < b → b < 97 → false ≡ letter b
-  unfolding letter
-  letter-between g h = let l : 65 ≤ b = omega arith in rw (le-leb 65 b l, lt-leb b 90 g, lt-leb 97 b h)
-
-  pub letter-small : 97 ≤ b → leb b 122 ≡ letter b
-  unfolding letter
-  letter-small h =
-      let l : 65 ≤ b = omega arith in
-      let g : 90 < b = omega arith in
-      rw (le-leb 65 b l, lt-leb b 90 g, le-leb 97 b h)
+  letter-small e = rw e
 
   pub name-letter : letter b ≡ true → true ≡ nameByte b
   unfolding nameByte
   name-letter e = rw e
 
-  pub name-underline : letter b ≡ false → b ≡ 95 → true ≡ nameByte b
+  pub name-digit : letter b ≡ false → between 48 b 57 ≡ true → true ≡ nameByte b
   unfolding nameByte digit
-  name-underline e u = rw (e, u)
+  name-digit e d = rw (e, d)
 
-  pub name-before : letter b ≡ false → (b ≡ 95 → ⊥) → b < 48 → false ≡ nameByte b
+  pub name-else : letter b ≡ false → between 48 b 57 ≡ false → eqb b 95 ≡ nameByte b
   unfolding nameByte digit
-  name-before e u h = rw (e, lt-leb 48 b h, ne-eqb b 95 u)
-
-  pub name-digit : letter b ≡ false → (b ≡ 95 → ⊥) → 48 ≤ b → leb b 57 ≡ nameByte b
-  unfolding nameByte digit
-  name-digit e u h = rw (e, le-leb 48 b h, ne-eqb b 95 u) (or-false (leb b 57))
+  name-else e d = rw (e, d)
 
   -- no byte of a name is a separator
   pub separator-no-name : separator b ≡ true → nameByte b ≡ false

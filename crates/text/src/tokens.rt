@@ -3,7 +3,7 @@
 ghost use Prim.Native.Nat.{_≤_};
 ghost use mathlib.Core.Path.{_≡_};
 ghost use lib.ListN.{length, getD, drop};
-ghost use Rattle.rewriting.specs.Lists.{same};
+ghost use Rattle.rewriting.specs.Lists.{same, between};
 ghost use Rattle.text.specs.Tokens.{separator, letter, nameByte, unbroken};
 ghost use Rattle.text.specs.Scanned.{gap, lead, namedAs, kindOf};
 use crate::Kind;
@@ -24,20 +24,24 @@ pub fn is_separator(b: u8) -> bool
     b == b'\n'
 }
 
+// Whether the byte is one from `low` to `high`.
+fn is_between(low: u8, b: u8, high: u8) -> bool
+    ensures { λ r. ⌜ r ≡ between low b high ⌝ }
+{
+    if low <= b {
+        return b <= high;
+    }
+    false
+}
+
 // A to Z, a to z.
 fn is_letter(b: u8) -> bool
     ensures { λ r. ⌜ r ≡ letter b ⌝ }
 {
-    if b < b'A' {
-        return false;
-    }
-    if b <= b'Z' {
+    if is_between(b'A', b, b'Z') {
         return true;
     }
-    if b < b'a' {
-        return false;
-    }
-    b <= b'z'
+    is_between(b'a', b, b'z')
 }
 
 // A letter, a digit or `_`.
@@ -47,13 +51,10 @@ pub fn is_name_byte(b: u8) -> bool
     if is_letter(b) {
         return true;
     }
-    if b == b'_' {
+    if is_between(b'0', b, b'9') {
         return true;
     }
-    if b < b'0' {
-        return false;
-    }
-    b <= b'9'
+    b == b'_'
 }
 
 // How many separators stand before the first run of a part of a text.

@@ -1,20 +1,23 @@
 -- `text::tokens::is_letter` meets its contract: a law for each way out.
 -- Assumes nothing.
-use Rattle.text.proofs.Bytes.{letter-before, letter-large, letter-between, letter-small}
+use mathlib.Core.Path.{sym, _∙_}
+use borrow.Author.Needs.{needs}
+use Rattle.text.proofs.Bytes.{letter-large, letter-small}
 use Rattle.text.proofs.tokens.is_letter.Statement.{statement}
 use Rattle.text.proofs.tokens.is_letter.Tie as tie
 
+is-between-requires : tie.Need-is-between-requires
+is-between-requires c κs = search needs
+
 returns : tie.Need-returns
-returns c = letter-before _ (c .if1 .taken)
+returns c = letter-large _ (sym (c .before .is-between .ensures) ∙ c .if1 .taken)
+
+is-between-requires-2 : tie.Need-is-between-requires-2
+is-between-requires-2 c κs = search needs
 
 returns-2 : tie.Need-returns-2
-returns-2 c = letter-large _ (c .before .if1 .left) (c .if2 .taken)
-
-returns-3 : tie.Need-returns-3
-returns-3 c = letter-between _ (c .before .if2 .left) (c .if3 .taken)
-
-returns-4 : tie.Need-returns-4
-returns-4 c = letter-small _ (c .if3 .left)
+returns-2 c =
+    c .is-between2 .ensures ∙ letter-small _ (sym (c .before .before .is-between .ensures) ∙ c .before .if1 .left)
 
 pub is-letter-spec : {M : Type 1} → statement M
-is-letter-spec = tie.close (tie.spec returns returns-2 returns-3 returns-4)
+is-letter-spec = tie.close (tie.spec is-between-requires returns is-between-requires-2 returns-2)
