@@ -69,3 +69,16 @@ unless (some n) r = Bad n 0
 
 unfoldable pub readOf : List ℕ → List ℕ → List ℕ → Outcome
 readOf text image names = written (unless (refusal (readChecks text image names)) (readText text)) image names
+
+-- the refusal that an answer is, if it is one; its place, 0 where there is none; the image's length, 0 beside a refusal
+unfoldable pub refusedBy : Read → Option ℕ
+refusedBy (Image n) = none
+refusedBy (Refused n place) = some n
+
+unfoldable pub refusalPlace : Read → ℕ
+refusalPlace (Image n) = 0
+refusalPlace (Refused n place) = place
+
+unfoldable pub imageLength : Read → ℕ
+imageLength (Image n) = n
+imageLength (Refused n place) = 0
