@@ -53,7 +53,7 @@ use Rattle.text.specs.Read.{Good, readText, namesOf}
 use Rattle.text.specs.Lookup.{slotAt, symbolNamed}
 use Rattle.text.specs.Held.{Sound}
 use Rattle.text.proofs.Slots.{name-some, name-short, length-slot, length-slots, same-slot}
-use Rattle.text.proofs.Sound.{Named, number-below, text-keeps, read-sound}
+use Rattle.text.proofs.Sound.{NamedToken, number-below, text-keeps, read-sound}
 
 -- A number found is the place of the name among the names.
 pub number-at : (names : List (List ℕ)) (x : List ℕ) (i : ℕ) → numberOf names x ≡ some i → getD names i [] ≡ x
@@ -99,12 +99,12 @@ number-kept (y ∷ names) more x i e = first (same y x) (number-kept names more 
     first true ih p = p
     first false ih p = later (numberOf names x) ih p
 
-pub number-new :
+pub number-next :
     (names more : List (List ℕ)) (x : List ℕ) → numberOf names x ≡ none
     → numberOf (names ++ x ∷ more) x ≡ some (length names)
 unfolding numberOf
-number-new [] more x e = rw (same-refl x)
-number-new (y ∷ names) more x e = first (same y x) (number-new names more x) e
+number-next [] more x e = rw (same-refl x)
+number-next (y ∷ names) more x e = first (same y x) (number-next names more x) e
   where
     later :
         (o : Option ℕ) → (o ≡ none → numberOf (names ++ x ∷ more) x ≡ some (length names)) → Option·map suc o ≡ none
@@ -257,7 +257,7 @@ distinct-added names x d new i h = go (ltb i (length names)) refl
         rw (List·getD-append names (x ∷ []) [] i lt) (number-kept names (x ∷ []) (getD names i []) i (d i lt))
     go false e =
         let last : length names ≡ i = omega (arith, simp length-append at h, ltb-false i (length names) e) in
-        rw (getD-at names x [] [] i last) (number-new names [] x new ∙ ap some last)
+        rw (getD-at names x [] [] i last) (number-next names [] x new ∙ ap some last)
 
 -- the names are as before, or have one new name behind them
 abbrev pub Adds : List (List ℕ) → List (List ℕ) → Type 0
@@ -431,7 +431,7 @@ length-adds names more (inl e) = rw e (omega arith)
 length-adds names more (inr a) = rw (a .2) (simp length-append (omega arith))
 
 names-after :
-    (s : Reading) (t : Token) → NamesKept s → Named t → (s′ : Reading) → afterToken s t ≡ Goes s′ → NamesKept s′
+    (s : Reading) (t : Token) → NamesKept s → NamedToken t → (s′ : Reading) → afterToken s t ≡ Goes s′ → NamesKept s′
 names-after s t k nx s′ e =
     let a : Adds (s .symbols) (s′ .symbols) × Adds (s .words) (s′ .words) = added-after s t s′ e in
     record {

@@ -66,6 +66,7 @@ use Rattle.text.proofs.Keeping.{
   Alike,
   symbols-number,
   side-number,
+  side-at,
   place-number,
   keeps-placed,
   keeps-longer,
@@ -233,7 +234,7 @@ module _ {s : Reading} {r : Reader} {a b c d : List ℕ} (k : Keeps s r a b c d)
     -- the side is empty where the code says so
     open-side : r .side ≡ length v
     unfolding sideOf
-    open-side = side-number s (k .numbers) ∙ ap sideOf here
+    open-side = side-at s (k .numbers) here
 
     -- the side that the code has no symbol of
     empty-side : r .side ≡ 0 → s .place ≡ InRight l []
@@ -243,6 +244,10 @@ module _ {s : Reading} {r : Reader} {a b c d : List ℕ} (k : Keeps s r a b c d)
         go [] e = refl
         go (y ∷ w) e = absurd (omega arith)
 
+    -- the side that the code has some symbol of
+    some-side : (r .side ≡ 0 → ⊥) → length v ≡ 0 → ⊥
+    some-side some-yet e = some-yet (open-side ∙ e)
+
     -- a `.` behind `->`
     pub stop-empty : r .side ≡ 0 → TakenIs (stop s (s .place)) (taken.Breaks 4) a b c d
     unfolding stop
@@ -251,12 +256,9 @@ module _ {s : Reading} {r : Reader} {a b c d : List ℕ} (k : Keeps s r a b c d)
     -- the rule is closed
     pub stop-right : (r .side ≡ 0 → ⊥) → stop s (s .place) ≡ closeRule s (ruleAt (s .place))
     unfolding stop ruleAt
-    stop-right some-side =
-        ap (stop s) here ∙ go v (some-left v open-side) ∙ ap (λ (p : Place). closeRule s (ruleAt p)) (sym here)
+    stop-right some-yet =
+        ap (stop s) here ∙ go v (some-side some-yet) ∙ ap (λ (p : Place). closeRule s (ruleAt p)) (sym here)
       where
-        some-left : (w : List ℕ) → r .side ≡ length w → length w ≡ 0 → ⊥
-        some-left w e z = some-side (e ∙ z)
-
         go : (w : List ℕ) → (length w ≡ 0 → ⊥) → stop s (InRight l w) ≡ closeRule s (l ⇒ Put w)
         go [] some-of = absurd (some-of refl)
         go (y ∷ w) some-of = refl
@@ -265,11 +267,8 @@ module _ {s : Reading} {r : Reader} {a b c d : List ℕ} (k : Keeps s r a b c d)
     module _ (x : List ℕ) where
       pub word-behind : (r .side ≡ 0 → ⊥) → TakenIs (word s x (s .place)) (taken.Breaks 4) a b c d
       unfolding word
-      word-behind some-side = rw (ap (word s x) here) (go v (some-left v open-side))
+      word-behind some-yet = rw (ap (word s x) here) (go v (some-side some-yet))
         where
-          some-left : (w : List ℕ) → r .side ≡ length w → length w ≡ 0 → ⊥
-          some-left w e z = some-side (e ∙ z)
-
           go : (w : List ℕ) → (length w ≡ 0 → ⊥) → TakenIs (word s x (InRight l w)) (taken.Breaks 4) a b c d
           go [] some-of = absurd (some-of refl)
           go (y ∷ w) some-of = refl
