@@ -53,7 +53,7 @@ use Rattle.text.specs.Read.{Good, readText, namesOf}
 use Rattle.text.specs.Lookup.{slotAt, symbolNamed}
 use Rattle.text.specs.Held.{Sound}
 use Rattle.text.proofs.Slots.{name-some, name-short, length-slot, length-slots, same-slot}
-use Rattle.text.proofs.Sound.{NamedToken, number-below, text-keeps, read-sound}
+use Rattle.text.proofs.Sound.{cond-either, NamedToken, number-below, text-keeps, read-sound}
 
 -- A number found is the place of the name among the names.
 pub number-at : (names : List (List ℕ)) (x : List ℕ) (i : ℕ) → numberOf names x ≡ some i → getD names i [] ≡ x
@@ -310,11 +310,8 @@ added-symbol s x to = go (numbered 32 (s .symbols) x) refl
 
 added-side : (s : Reading) (x side : List ℕ) (to : List ℕ → Place) → Added s (sideSymbol s x side to)
 unfolding sideSymbol
-added-side s x side to = go (ltb (length side) 8)
-  where
-    go : (b : Bool) → Added s (cond b (symbol s x (λ i. to (side ++ i ∷ []))) (Breaks 5))
-    go true = added-symbol s x (λ i. to (side ++ i ∷ []))
-    go false = added-breaks s 5
+added-side s x side to =
+    cond-either (Added s) (ltb (length side) 8) _ _ (λ _. added-symbol s x (λ i. to (side ++ i ∷ []))) (λ _. added-breaks s 5)
 
 added-event : (s : Reading) (x : List ℕ) (o : Option ℕ) → Added s (event s x o)
 unfolding event
@@ -323,17 +320,11 @@ added-event s x (some i) = added-breaks s 6
 
 added-name : (s : Reading) (x : List ℕ) (p : Place) → Added s (name s x p)
 unfolding name
-added-name s x First = go (same x eventsWord)
-  where
-    go : (b : Bool) → Added s (cond b (Goes (placed s Events)) (Breaks 4))
-    go true = added-placed s Events
-    go false = added-breaks s 4
+added-name s x First =
+    cond-either (Added s) (same x eventsWord) _ _ (λ _. added-placed s Events) (λ _. added-breaks s 4)
 added-name s x Events = added-event s x (numberOf (s .symbols) x)
-added-name s x Between = go (ltb (length (s .rules)) 64)
-  where
-    go : (b : Bool) → Added s (cond b (sideSymbol s x [] InLeft) (Breaks 5))
-    go true = added-side s x [] InLeft
-    go false = added-breaks s 5
+added-name s x Between =
+    cond-either (Added s) (ltb (length (s .rules)) 64) _ _ (λ _. added-side s x [] InLeft) (λ _. added-breaks s 5)
 added-name s x (InLeft l) = added-side s x l InLeft
 added-name s x (InRight l v) = added-side s x v (InRight l)
 added-name s x (Ending l r) = added-breaks s 4
@@ -352,13 +343,8 @@ added-word s x First = added-breaks s 4
 added-word s x Events = added-breaks s 4
 added-word s x Between = added-breaks s 4
 added-word s x (InLeft l) = added-breaks s 4
-added-word s x (InRight l []) = go (same x epsilonWord)
-  where
-    go :
-        (c : Bool)
-        → Added s (cond c (Goes (placed s (Ending l (Put [])))) (withVerdict s l (numbered 16 (s .words) x)))
-    go true = added-placed s (Ending l (Put []))
-    go false = added-verdict s x l
+added-word s x (InRight l []) =
+    cond-either (Added s) (same x epsilonWord) _ _ (λ _. added-placed s (Ending l (Put []))) (λ _. added-verdict s x l)
 added-word s x (InRight l (a ∷ v)) = added-breaks s 4
 added-word s x (Ending l r) = added-breaks s 4
 

@@ -69,7 +69,7 @@ use Rattle.text.specs.Read.{
   ReadEnded,
   ReadReads,
 }
-use Rattle.text.proofs.Sound.{read-valid, read-image-short, read-length-names}
+use Rattle.text.proofs.Sound.{cond-either, read-valid, read-image-short, read-length-names}
 
 -- the numbers by which a text breaks
 abbrev Broken : ℕ → Type 0
@@ -92,10 +92,6 @@ abbrev BreaksBy : Taken → Type 0
 BreaksBy (Goes s) = Unit {0}
 BreaksBy (Breaks n) = Broken n
 
-by-cond : (b : Bool) (t u : Taken) → BreaksBy t → BreaksBy u → BreaksBy (cond b t u)
-by-cond true t u p q = p
-by-cond false t u p q = q
-
 by-symbol : (s : Reading) (x : List ℕ) (to : ℕ → Place) → BreaksBy (symbol s x to)
 unfolding symbol withSymbol
 by-symbol s x to = go (numbered 32 (s .symbols) x)
@@ -111,13 +107,13 @@ by-event s x (some i) = by-6
 
 by-side : (s : Reading) (x side : List ℕ) (to : List ℕ → Place) → BreaksBy (sideSymbol s x side to)
 unfolding sideSymbol
-by-side s x side to = by-cond (ltb (length side) 8) _ _ (by-symbol s x _) by-5
+by-side s x side to = cond-either BreaksBy (ltb (length side) 8) _ _ (λ _. by-symbol s x _) (λ _. by-5)
 
 by-name : (s : Reading) (x : List ℕ) (p : Place) → BreaksBy (name s x p)
 unfolding name
-by-name s x First = by-cond (same x eventsWord) _ _ tt by-4
+by-name s x First = cond-either BreaksBy (same x eventsWord) _ _ (λ _. tt) (λ _. by-4)
 by-name s x Events = by-event s x (numberOf (s .symbols) x)
-by-name s x Between = by-cond (ltb (length (s .rules)) 64) _ _ (by-side s x [] InLeft) by-5
+by-name s x Between = cond-either BreaksBy (ltb (length (s .rules)) 64) _ _ (λ _. by-side s x [] InLeft) (λ _. by-5)
 by-name s x (InLeft l) = by-side s x l InLeft
 by-name s x (InRight l v) = by-side s x v (InRight l)
 by-name s x (Ending l r) = by-4
@@ -133,7 +129,7 @@ by-word s x First = by-4
 by-word s x Events = by-4
 by-word s x Between = by-4
 by-word s x (InLeft l) = by-4
-by-word s x (InRight l []) = by-cond (same x epsilonWord) _ _ tt (by-verdict s l (numbered 16 (s .words) x))
+by-word s x (InRight l []) = cond-either BreaksBy (same x epsilonWord) _ _ (λ _. tt) (λ _. by-verdict s l (numbered 16 (s .words) x))
 by-word s x (InRight l (a ∷ v)) = by-4
 by-word s x (Ending l r) = by-4
 
@@ -178,11 +174,7 @@ by-runs :
     (size : ℕ) (s : Reading) (apart : Bool) (i : ℕ) (t : List ℕ) → i + length t ≤ size
     → BreaksAt size (readRuns size s (runsFrom apart i t))
 unfolding runsFrom readRuns ended orBroken
-by-runs size s apart i [] h = go (complete (s .place))
-  where
-    go : (b : Bool) → BreaksAt size (cond b (Good s) (Bad 4 size))
-    go true = tt
-    go false = (by-4, omega arith)
+by-runs size s apart i [] h = cond-either (BreaksAt size) (complete (s .place)) _ _ (λ _. tt) (λ _. (by-4, omega arith))
 by-runs size s apart i (b ∷ t) h =
     separated (separator b) apart (λ s′ apart′. by-runs size s′ apart′ (suc i) t (omega arith))
   where

@@ -55,6 +55,12 @@ use Rattle.text.specs.Read.{Good, Bad, ended, orBroken, readRuns, readTe
 use Rattle.text.specs.Held.{EventsKnown, RuleBegun, SoundAt, Sound}
 use Rattle.text.proofs.Slots.{length-slots}
 
+-- What holds of both sides of a choice holds of it.
+pub cond-either :
+    {A : Type 0} (P : A → Type 0) (b : Bool) (x y : A) → (b ≡ true → P x) → (b ≡ false → P y) → P (cond b x y)
+cond-either P true x y p q = p refl
+cond-either P false x y p q = q refl
+
 -- the name that a token has, if it has one, is a name
 abbrev pub NamedToken : Token → Type 0
 NamedToken (Name x) = isName x ≡ true
@@ -66,18 +72,14 @@ abbrev NamedIn : Option Token → Type 0
 NamedIn none = Unit {0}
 NamedIn (some t) = NamedToken t
 
-named-cond : (b : Bool) (x y : Option Token) → (b ≡ true → NamedIn x) → NamedIn y → NamedIn (cond b x y)
-named-cond true x y p q = p refl
-named-cond false x y p q = q
-
 token-named : (bytes : List ℕ) → NamedIn (tokenOf bytes)
 unfolding tokenOf
 token-named [] = tt
 token-named (b ∷ t) =
-    named-cond (isName (b ∷ t)) _ _ (λ e. e)
-    (named-cond (eqb b 35 && isName t) _ _ (and-right (eqb b 35) (isName t))
-    (named-cond (same (b ∷ t) (45 ∷ 62 ∷ [])) _ _ (λ e. tt)
-    (named-cond (same (b ∷ t) (46 ∷ [])) _ _ (λ e. tt) tt)))
+    cond-either NamedIn (isName (b ∷ t)) _ _ (λ e. e) λ _.
+    cond-either NamedIn (eqb b 35 && isName t) _ _ (and-right (eqb b 35) (isName t)) λ _.
+    cond-either NamedIn (same (b ∷ t) (45 ∷ 62 ∷ [])) _ _ (λ _. tt) λ _.
+    cond-either NamedIn (same (b ∷ t) (46 ∷ [])) _ _ (λ _. tt) (λ _. tt)
 
 -- A run of bytes that is a token has such a name.
 pub named-is-name : (bytes : List ℕ) (t : Token) → tokenOf bytes ≡ some t → NamedToken t
@@ -311,11 +313,10 @@ pub sound-side :
     → SoundAt (withNames s n (to (side ++ n .number ∷ []))) (to (side ++ n .number ∷ [])))
     → KeepsSound (sideSymbol s x side to)
 unfolding sideSymbol
-sound-side s x side to h nx sound-at = go (ltb (length side) 8) refl
-  where
-    go : (b : Bool) → ltb (length side) 8 ≡ b → KeepsSound (cond b (symbol s x (λ i. to (side ++ i ∷ []))) (Breaks 5))
-    go true e = sound-symbol s x (λ i. to (side ++ i ∷ [])) h nx (sound-at (ltb-true (length side) 8 e))
-    go false e = keeps-breaks 5
+sound-side s x side to h nx sound-at =
+    cond-either KeepsSound (ltb (length side) 8) _ _
+    (λ e. sound-symbol s x (λ i. to (side ++ i ∷ [])) h nx (sound-at (ltb-true (length side) 8 e)))
+    (λ _. keeps-breaks 5)
 
 -- numbers below those of some names, and the number of one more
 pub below-names :
@@ -381,17 +382,15 @@ sound-right s x l v h nx b = sound-side s x v (InRight l) h nx one-more
 -- A name, at each place.
 pub sound-name : (s : Reading) (x : List ℕ) (p : Place) → Sound s → SoundAt s p → isName x ≡ true → KeepsSound (name s x p)
 unfolding name ruleSetOf
-sound-name s x First h sound-at nx = go (same x eventsWord)
-  where
-    go : (b : Bool) → KeepsSound (cond b (Goes (placed s Events)) (Breaks 4))
-    go true = keeps-goes (placed s Events) (sound-placed s Events h tt)
-    go false = keeps-breaks 4
+sound-name s x First h sound-at nx =
+    cond-either KeepsSound (same x eventsWord) _ _
+    (λ _. keeps-goes (placed s Events) (sound-placed s Events h tt))
+    (λ _. keeps-breaks 4)
 sound-name s x Events h sound-at nx = sound-event s x (numberOf (s .symbols) x) h nx
-sound-name s x Between h sound-at nx = go (ltb (length (s .rules)) 64) refl
-  where
-    go : (b : Bool) → ltb (length (s .rules)) 64 ≡ b → KeepsSound (cond b (sideSymbol s x [] InLeft) (Breaks 5))
-    go true e = sound-left s x [] h nx sound-at (ltb-true (length (s .rules)) 64 e) refl
-    go false e = keeps-breaks 5
+sound-name s x Between h sound-at nx =
+    cond-either KeepsSound (ltb (length (s .rules)) 64) _ _
+    (λ e. sound-left s x [] h nx sound-at (ltb-true (length (s .rules)) 64 e) refl)
+    (λ _. keeps-breaks 5)
 sound-name s x (InLeft l) h sound-at nx =
     let r : RuleRanges (ruleSetOf s) (l ⇒ Put []) = rule-ranges (ruleSetOf s) (l ⇒ Put []) (sound-at .2) in
     sound-left s x l h nx (sound-at .0) (sound-at .1) (r .left-below)
@@ -461,13 +460,10 @@ sound-verdict s x l h nx b = go (numbered 16 (s .words) x) refl
 pub sound-right-word :
     (s : Reading) (x l : List ℕ) → Sound s → isName x ≡ true → RuleBegun s (l ⇒ Put []) → KeepsSound (rightWord s x l)
 unfolding rightWord
-sound-right-word s x l h nx b = go (same x epsilonWord)
-  where
-    go :
-        (c : Bool)
-        → KeepsSound (cond c (Goes (placed s (Ending l (Put [])))) (withVerdict s l (numbered 16 (s .words) x)))
-    go true = keeps-goes (placed s (Ending l (Put []))) (sound-placed s (Ending l (Put [])) h b)
-    go false = sound-verdict s x l h nx b
+sound-right-word s x l h nx b =
+    cond-either KeepsSound (same x epsilonWord) _ _
+    (λ _. keeps-goes (placed s (Ending l (Put []))) (sound-placed s (Ending l (Put [])) h b))
+    (λ _. sound-verdict s x l h nx b)
 
 pub sound-word : (s : Reading) (x : List ℕ) (p : Place) → Sound s → SoundAt s p → isName x ≡ true → KeepsSound (word s x p)
 unfolding word
