@@ -2,47 +2,30 @@
 -- Assumes nothing.
 use Prim.Native.Nat.{ℕ, suc, _+_, _*_, _≤_, _<_}
 use mathlib.Core.Path.{_≡_, refl, sym, ap, _∙_}
-use mathlib.Core.Bool.{Bool, true, false, cond}
-use mathlib.Core.Option.{Option, none, some}
+use mathlib.Core.Bool.{true}
 use mathlib.Core.List.{List, [], _∷_, _++_, append-assoc, append-nil, flatMap}
 use native.Mathlib.Omega.{arith}
-use lib.Dec.{ltb}
 use lib.ListN.{length, set, take, drop, length-append, length-set}
-use lib.Seq.{sets, sets-eq, length-sets, take-append-seam, take-at}
-use borrow.Author.Tests.{lt-ltb, le-ltb, ltb-true}
-use Rattle.rewriting.specs.Lists.{all, prefix}
-use Rattle.rewriting.specs.Rules.{Right, Put, Close, symbolsOf, Rule, _⇒_}
+use lib.Seq.{sets, sets-eq, length-sets, take-append-seam}
+use Rattle.rewriting.specs.Lists.{prefix}
+use Rattle.rewriting.specs.Rules.{Right, Close, symbolsOf, Rule}
 use Rattle.rewriting.proofs.Lists.{prefix-rest, prefix-append, flatMap-snoc}
 use Rattle.image.specs.Image.{kind, lengthOrVerdict, contents, body}
 use Rattle.image.proofs.Image.{length-contents}
 use Rattle.text.specs.declared.Place.the-variants as places
 use Rattle.text.specs.declared.Reader.{Reader}
-use Rattle.text.specs.declared.Taken.the-variants as taken
-use Rattle.text.specs.declared.Numbered as code
-use Rattle.text.specs.Tokens.{isName}
-use Rattle.text.specs.Names.{numberOf, Numbered, orNew, numbered, slots}
+use Rattle.text.specs.Names.{Numbered, slots}
 use Rattle.text.specs.Grammar.{
   Place,
-  First,
   Events,
   Between,
   InLeft,
   InRight,
   Ending,
   Reading,
-  Goes,
-  Breaks,
   placed,
-  withSymbol,
-  symbol,
-  event,
-  sideSymbol,
-  name,
-  closeEvents,
-  closeRule,
 }
 use Rattle.text.specs.Held.{
-  Sound,
   ruleAt,
   placeOf,
   leftOf,
@@ -50,12 +33,9 @@ use Rattle.text.specs.Held.{
   bodiesOf,
   readerOf,
   Keeps,
-  TakenIs,
   Lengthens,
   Closed,
-  NumberedIs,
 }
-use Rattle.text.proofs.Sound.{Kept, numbered-kept}
 
 -- what an area begins with
 pub prefix-take : (p b : List ℕ) (n : ℕ) → n ≡ length p → prefix p b ≡ true → take n b ≡ p

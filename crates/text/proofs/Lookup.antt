@@ -8,10 +8,10 @@ use mathlib.Core.List.{List, [], _∷_, _++_, append-assoc, flatMap}
 use mathlib.Core.Logic.{_⊎_, inl, inr}
 use native.Mathlib.Omega.{arith}
 use native.Mathlib.Nat.{le-of-suc-le-suc, not-suc-le-zero}
-use lib.Dec.{eqb, leb, ltb}
+use lib.Dec.{leb, ltb}
 use lib.ListN.{length, getD, take, drop, replicate, length-append, replicate-append-replicate, List·getD-append}
 use lib.Seq.{take-at, drop-at, getD-at}
-use borrow.Author.Tests.{eqb-true, eqb-false, eq-eqb, ne-eqb, le-leb, ltb-true, ltb-false}
+use borrow.Author.Tests.{ne-eqb, le-leb, ltb-true, ltb-false}
 use Rattle.rewriting.specs.Lists.{all, same, between, over}
 use Rattle.rewriting.specs.Rules.{Put, Rule, _⇒_}
 use Rattle.rewriting.proofs.Lists.{and-left, and-right, and-both, all-at, same-eq, same-refl, between-low}

@@ -1,10 +1,10 @@
 -- The number that the code gives a name, and the slots then, are those of `numbered`; what it looks up is `symbolNamed`.
 -- Assumes nothing.
-use Prim.Native.Nat.{ℕ, zero, suc, _+_, _*_, _-_, _≤_, _<_}
+use Prim.Native.Nat.{ℕ, zero, suc, _+_, _*_, _≤_, _<_}
 use mathlib.Core.Path.{_≡_, refl, sym, ap, _∙_}
 use mathlib.Core.Bool.{Bool, true, false, cond, _&&_}
 use mathlib.Core.Option.{Option, none, some}
-use mathlib.Core.List.{List, [], _∷_, _++_, append-nil}
+use mathlib.Core.List.{List, [], append-nil}
 use native.Mathlib.Omega.{arith}
 use lib.Dec.{leb, ltb}
 use lib.ListN.{length, take, drop, length-append}
@@ -12,9 +12,8 @@ use lib.Seq.{paste}
 use borrow.Author.Tests.{lt-ltb, le-ltb, le-leb, lt-leb}
 use Rattle.rewriting.specs.Lists.{all, same, between}
 use Rattle.text.specs.Tokens.{isName}
-use Rattle.text.specs.Names.{numberOf, Numbered, orNew, numbered, slot, slots}
+use Rattle.text.specs.Names.{numberOf, orNew, numbered, slot, slots}
 use Rattle.text.specs.Lookup.{slotAt, numberOr, symbolNamed}
-use Rattle.text.specs.declared.Numbered as code
 use Rattle.text.specs.Held.{NumberedIs}
 use Rattle.text.proofs.Slots.{length-slots, slots-more}
 use Rattle.text.proofs.Sound.{next-below, number-below}

@@ -11,7 +11,7 @@ use Rattle.image.specs.Image.{body}
 use Rattle.image.proofs.Image.{length-bodies}
 use Rattle.text.specs.declared.Place.the-variants as places
 use Rattle.text.specs.declared.Reader.{Reader}
-use Rattle.text.specs.Grammar.{Place, Between, InLeft, InRight, Ending, Reading, ruleSetOf}
+use Rattle.text.specs.Grammar.{Between, Ending, Reading, ruleSetOf}
 use Rattle.text.specs.Held.{RuleBegun, Sound, ruleAt, placeOf, sideOf, Held}
 use Rattle.text.proofs.Places.{place-at}
 use Rattle.text.proofs.Sound.{place-sound}

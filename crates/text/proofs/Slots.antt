@@ -4,17 +4,17 @@ use Prim.Native.Nat.{ℕ, zero, suc, _+_, _*_, _-_, _≤_, _<_}
 use mathlib.Core.Path.{_≡_, refl, sym, ap, _∙_}
 use mathlib.Core.Bool.{Bool, true, false, _&&_, and-true, and-false}
 use mathlib.Core.Option.{Option, none, some, Option·map}
-use mathlib.Core.List.{List, [], _∷_, _++_, append-assoc, append-nil, flatMap}
+use mathlib.Core.List.{List, [], _∷_, _++_, flatMap}
 use native.Mathlib.Omega.{arith}
 use native.Mathlib.Nat.{le-of-suc-le-suc, not-suc-le-zero}
-use lib.Dec.{eqb, leb, ltb}
+use lib.Dec.{eqb, leb}
 use lib.ListN.{length, getD, set, take, drop, replicate, length-append, length-replicate}
-use lib.Seq.{paste, take-length, take-at, drop-at, drop-append-add, take-append-seam, take-all, drop-drop}
-use borrow.Author.Tests.{leb-true, eq-eqb, ne-eqb, lt-ltb, le-ltb}
+use lib.Seq.{paste, take-length, take-at, drop-append-add, take-append-seam, take-all, drop-drop}
+use borrow.Author.Tests.{leb-true, eq-eqb, ne-eqb}
 use Rattle.rewriting.specs.Lists.{all, same}
-use Rattle.rewriting.proofs.Lists.{flatMap-snoc, and-left, and-right, same-eq, same-refl, eq-same}
+use Rattle.rewriting.proofs.Lists.{flatMap-snoc, and-left, and-right, same-eq, eq-same}
 use Rattle.text.specs.Tokens.{letter, nameByte, isName}
-use Rattle.text.specs.Names.{numberOf, Numbered, orNew, numbered, slot, slots}
+use Rattle.text.specs.Names.{slot, slots}
 use Rattle.text.specs.Lookup.{slotAt, numberOr}
 
 -- A name has 1 to 24 bytes.

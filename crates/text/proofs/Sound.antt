@@ -1,15 +1,15 @@
 -- What every reading keeps (`Sound`): it holds before the first token, and each token keeps it. So the rules that a text
 -- gives are in range, and their image is valid.
 -- Assumes nothing.
-use Prim.Native.Nat.{ℕ, suc, _*_, _≤_, _<_}
+use Prim.Native.Nat.{ℕ, suc, _≤_, _<_}
 use mathlib.Core.Path.{_≡_, refl, subst}
 use mathlib.Core.Bool.{Bool, true, false, cond, _&&_}
 use mathlib.Core.Option.{Option, none, some, Option·map}
-use mathlib.Core.List.{List, [], _∷_, _++_, flatMap}
+use mathlib.Core.List.{List, [], _∷_, _++_}
 use native.Mathlib.Omega.{arith}
 use lib.Dec.{eqb, leb, ltb}
-use lib.ListN.{length, length-append, length-replicate}
-use borrow.Author.Tests.{leb-true, ltb-true, le-leb, lt-ltb}
+use lib.ListN.{length, length-append}
+use borrow.Author.Tests.{ltb-true, le-leb, lt-ltb}
 use Rattle.rewriting.specs.Lists.{all, same, below}
 use Rattle.rewriting.specs.Rules.{Right, Put, Close, symbolsOf, Rule, _⇒_, RuleSet, rightInRange, ruleInRange, inRange}
 use Rattle.rewriting.proofs.Lists.{and-left, and-right, and-both, all-append, below-weaken}
@@ -17,7 +17,7 @@ use Rattle.rewriting.proofs.Ranges.{right-below, RuleRanges, rule-ranges}
 use Rattle.image.specs.Image.{imageOf, valid}
 use Rattle.image.proofs.Image.{image-valid, longest}
 use Rattle.text.specs.Tokens.{letter, nameByte, isName, digit, Token, Name, Word, Arrow, Stop, tokenOf, Run, runs}
-use Rattle.text.specs.Names.{numberOf, Numbered, orNew, numbered, slot, slots}
+use Rattle.text.specs.Names.{numberOf, Numbered, orNew, numbered}
 use Rattle.text.specs.Grammar.{
   Place,
   First,

@@ -1,6 +1,6 @@
 -- What the code answers to a token is what the grammar makes of it (`TakenIs`), case by case.
 -- Assumes nothing.
-use Prim.Native.Nat.{ℕ, suc, _+_, _*_, _≤_, _<_}
+use Prim.Native.Nat.{ℕ, _+_, _≤_, _<_}
 use mathlib.Core.Path.{_≡_, refl, sym, ap, _∙_}
 use mathlib.Core.Bool.{Bool, true, false, cond}
 use mathlib.Core.Option.{Option, none, some}
@@ -10,12 +10,11 @@ use lib.Dec.{ltb}
 use lib.ListN.{length, set, length-append}
 use borrow.Author.Tests.{lt-ltb, le-ltb}
 use Rattle.rewriting.specs.Lists.{all, same}
-use Rattle.rewriting.specs.Rules.{Right, Put, Close, symbolsOf, _⇒_}
+use Rattle.rewriting.specs.Rules.{Right, Put, symbolsOf, _⇒_}
 use Rattle.image.specs.Image.{kind, lengthOrVerdict, body}
 use Rattle.text.specs.declared.Place as code
 use Rattle.text.specs.declared.Place.the-variants as places
 use Rattle.text.specs.declared.Reader.{Reader}
-use Rattle.text.specs.declared.Taken as taken-as
 use Rattle.text.specs.declared.Taken.the-variants as taken
 use Rattle.text.specs.declared.Numbered as numbered-as
 use Rattle.text.specs.Tokens.{isName}
@@ -54,7 +53,6 @@ use Rattle.text.specs.Held.{
   placeOf,
   leftOf,
   sideOf,
-  readerOf,
   Keeps,
   TakenIs,
   Lengthens,
@@ -63,18 +61,15 @@ use Rattle.text.specs.Held.{
 }
 use Rattle.text.proofs.Sound.{Kept, number-below, numbered-kept}
 use Rattle.text.proofs.Keeping.{
-  Alike,
   symbols-number,
   side-number,
   side-at,
-  place-number,
   keeps-placed,
   keeps-longer,
   keeps-event,
   keeps-arrow,
   keeps-verdict,
   keeps-events,
-  keeps-rule,
 }
 
 -- the name x has a number, and the code has it, with the slots of the names then

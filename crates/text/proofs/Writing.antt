@@ -2,16 +2,14 @@
 -- Assumes nothing.
 use Prim.Native.Nat.{ℕ, _+_, _*_, _≤_, _<_}
 use mathlib.Core.Path.{_≡_, refl, sym, ap, _∙_}
-use mathlib.Core.Bool.{Bool, true, false, cond, _&&_}
-use mathlib.Core.Option.{Option, none, some}
-use mathlib.Core.List.{List, [], _∷_, _++_, append-assoc, append-nil, flatMap}
+use mathlib.Core.Option.{some}
+use mathlib.Core.List.{List, [], _∷_, _++_, append-nil, flatMap}
 use native.Mathlib.Omega.{arith}
-use lib.Dec.{leb}
 use lib.ListN.{length, set, take, drop, length-append}
 use lib.Seq.{sets-eq, length-sets, paste, take-append-seam, drop-append-add, drop-drop, length-take-le, take-all}
 use borrow.Author.Tests.{le-leb, lt-leb}
 use Rattle.rewriting.specs.Lists.{over}
-use Rattle.rewriting.specs.Rules.{symbolsOf, Rule}
+use Rattle.rewriting.specs.Rules.{symbolsOf}
 use Rattle.image.specs.Image.{contents, body, imageOf}
 use Rattle.image.specs.Refusals.{refusal}
 use Rattle.image.proofs.Image.{length-contents, length-image}
@@ -20,7 +18,6 @@ use Rattle.text.specs.declared.Read.the-variants as read
 use Rattle.text.specs.declared.Finished as finished-as
 use Rattle.text.specs.declared.Finished.the-variants as finished
 use Rattle.text.specs.declared.Read.{Read}
-use Rattle.text.specs.Names.{slots}
 use Rattle.text.specs.Grammar.{Place, Between, Reading, ruleSetOf}
 use Rattle.text.specs.Read.{Result, Good, Bad, readText, namesOf, Outcome, readChecks, written, unless, readOf}
 use Rattle.text.specs.Held.{EventsKnown, Sound, ruleAt, bodiesOf, Keeps, FinishedIs, Small}
