@@ -98,8 +98,8 @@ unfolding computes
 events-event = refl
 
 -- The text is refused so, with this place.
-abbrev pub Refused : String → ℕ → ℕ → Type 0
-Refused text n place = readText (bytes text) ≡ Bad n place
+abbrev pub RefusedText : String → ℕ → ℕ → Type 0
+RefusedText text n place = readText (bytes text) ≡ Bad n place
 
 -- The text is good, with so many symbols, words, events and rules.
 unfoldable pub sizes : Result → List ℕ
@@ -119,76 +119,76 @@ unfolding computes sizes
 plain-names = (refl, refl, refl)
 
 -- "3, not a token": a run of other bytes is one token or none, and only space, tab, CR and LF separate
-pub no-token :
-    Refused "events a." 3 7
-    × Refused "events a . a->b ." 3 11
-    × Refused "events a . a -> #fail." 3 16
-    × Refused "events\u{b}a ." 3 0
-    × Refused "events 1a ." 3 7
-    × Refused "events _a ." 3 7
-    × Refused "events a . # ." 3 11
-    × Refused "events a . a -> ##a ." 3 16
+pub text-no-token :
+    RefusedText "events a." 3 7
+    × RefusedText "events a . a->b ." 3 11
+    × RefusedText "events a . a -> #fail." 3 16
+    × RefusedText "events\u{b}a ." 3 0
+    × RefusedText "events 1a ." 3 7
+    × RefusedText "events _a ." 3 7
+    × RefusedText "events a . # ." 3 11
+    × RefusedText "events a . a -> ##a ." 3 16
 unfolding computes
-no-token = (refl, refl, refl, refl, refl, refl, refl, refl)
+text-no-token = (refl, refl, refl, refl, refl, refl, refl, refl)
 
 -- a name has at most 24 bytes, that of a `#` word too
-pub long-name :
+pub text-long-name :
     Sizes (bytes "events abcdefghijklmnopqrstuvwx . a -> #abcdefghijklmnopqrstuvwx .") 2 3 1 1
-    × Refused "events abcdefghijklmnopqrstuvwxy ." 3 7
-    × Refused "events a . a -> #abcdefghijklmnopqrstuvwxy ." 3 16
+    × RefusedText "events abcdefghijklmnopqrstuvwxy ." 3 7
+    × RefusedText "events a . a -> #abcdefghijklmnopqrstuvwxy ." 3 16
 unfolding computes sizes
-long-name = (refl, refl, refl)
+text-long-name = (refl, refl, refl)
 
 -- "4, .. or the text ended": the place is the text's length
 pub text-ends :
-    Refused "" 4 0
-    × Refused "events" 4 6
-    × Refused "events a " 4 9
-    × Refused "events a . a" 4 12
-    × Refused "events a . a -> #x\n" 4 19
+    RefusedText "" 4 0
+    × RefusedText "events" 4 6
+    × RefusedText "events a " 4 9
+    × RefusedText "events a . a" 4 12
+    × RefusedText "events a . a -> #x\n" 4 19
 unfolding computes
 text-ends = (refl, refl, refl, refl, refl)
 
 -- "4, not allowed here"
 pub not-here :
-    Refused "a" 4 0
-    × Refused "#events a ." 4 0
-    × Refused "events ." 4 7
-    × Refused "events a #b ." 4 9
-    × Refused "events a . ." 4 11
-    × Refused "events a . -> a ." 4 11
-    × Refused "events a . a . a" 4 13
-    × Refused "events a . a -> ." 4 16
-    × Refused "events a . a -> -> a ." 4 16
-    × Refused "events a . a -> #x #y ." 4 19
-    × Refused "events a . a -> a #x ." 4 18
-    × Refused "events a . a -> #epsilon a ." 4 25
+    RefusedText "a" 4 0
+    × RefusedText "#events a ." 4 0
+    × RefusedText "events ." 4 7
+    × RefusedText "events a #b ." 4 9
+    × RefusedText "events a . ." 4 11
+    × RefusedText "events a . -> a ." 4 11
+    × RefusedText "events a . a . a" 4 13
+    × RefusedText "events a . a -> ." 4 16
+    × RefusedText "events a . a -> -> a ." 4 16
+    × RefusedText "events a . a -> #x #y ." 4 19
+    × RefusedText "events a . a -> a #x ." 4 18
+    × RefusedText "events a . a -> #epsilon a ." 4 25
 unfolding computes
 not-here = (refl, refl, refl, refl, refl, refl, refl, refl, refl, refl, refl, refl)
 
 -- A side has at most eight names; a `#` word in the ninth place is 4. The list of events is no side.
 pub ninth-name :
     Sizes (bytes "events a . a a a a a a a a -> a a a a a a a a .") 1 2 1 1
-    × Refused "events a . a a a a a a a a a -> a ." 5 27
-    × Refused "events a . a -> a a a a a a a a a ." 5 32
-    × Refused "events a . a -> a a a a a a a a #x ." 4 32
+    × RefusedText "events a . a a a a a a a a a -> a ." 5 27
+    × RefusedText "events a . a -> a a a a a a a a a ." 5 32
+    × RefusedText "events a . a -> a a a a a a a a #x ." 4 32
     × Sizes (bytes "events a b c d e f g h i .") 9 2 9 0
 unfolding computes sizes
 ninth-name = (refl, refl, refl, refl, refl)
 
 -- "the 33rd symbol": a repeated event as the 33rd name is 6
-pub symbol-33 :
+pub text-symbol-33 :
     Sizes (bytes "events a b c d e f g h i j k l m n o p q r s t u v w x y z A B C D E F .") 32 2 32 0
-    × Refused "events a b c d e f g h i j k l m n o p q r s t u v w x y z A B C D E F G ." 5 71
-    × Refused "events a b c d e f g h i j k l m n o p q r s t u v w x y z A B C D E F a ." 6 71
-    × Refused "events a b c d e f g h i j k l m n o p q r s t u v w x y z A B C D E F . G -> a ." 5 73
+    × RefusedText "events a b c d e f g h i j k l m n o p q r s t u v w x y z A B C D E F G ." 5 71
+    × RefusedText "events a b c d e f g h i j k l m n o p q r s t u v w x y z A B C D E F a ." 6 71
+    × RefusedText "events a b c d e f g h i j k l m n o p q r s t u v w x y z A B C D E F . G -> a ." 5 73
 unfolding computes sizes
-symbol-33 = (refl, refl, refl, refl)
+text-symbol-33 = (refl, refl, refl, refl)
 
 -- "6, an event named twice"
-pub event-twice : Refused "events a b a ." 6 11
+pub text-event-twice : RefusedText "events a b a ." 6 11
 unfolding computes
-event-twice = refl
+text-event-twice = refl
 
 -- n times the same
 unfoldable pub times : ℕ → List ℕ → List ℕ
@@ -196,13 +196,13 @@ times zero part = []
 times (suc n) part = part ++ times n part
 
 -- "the first name of rule 65": `->` or a `#` word there is 4
-pub rule-65 :
+pub text-rule-65 :
     Sizes (bytes "events a . " ++ times 64 (bytes "a -> a . ")) 1 2 1 64
     × (readText (bytes "events a . " ++ times 64 (bytes "a -> a . ") ++ bytes "a") ≡ Bad 5 587)
     × (readText (bytes "events a . " ++ times 64 (bytes "a -> a . ") ++ bytes "->") ≡ Bad 4 587)
     × (readText (bytes "events a . " ++ times 64 (bytes "a -> a . ") ++ bytes "#x") ≡ Bad 4 587)
 unfolding computes sizes times
-rule-65 = (refl, refl, refl, refl)
+text-rule-65 = (refl, refl, refl, refl)
 
 -- "the 15th other word"
 abbrev fourteen : List ℕ

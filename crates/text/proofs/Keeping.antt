@@ -2,47 +2,30 @@
 -- Assumes nothing.
 use Prim.Native.Nat.{ℕ, suc, _+_, _*_, _≤_, _<_}
 use mathlib.Core.Path.{_≡_, refl, sym, ap, _∙_}
-use mathlib.Core.Bool.{Bool, true, false, cond}
-use mathlib.Core.Option.{Option, none, some}
+use mathlib.Core.Bool.{true}
 use mathlib.Core.List.{List, [], _∷_, _++_, append-assoc, append-nil, flatMap}
 use native.Mathlib.Omega.{arith}
-use lib.Dec.{ltb}
 use lib.ListN.{length, set, take, drop, length-append, length-set}
-use lib.Seq.{sets, sets-eq, length-sets, take-append-seam, take-at}
-use borrow.Author.Tests.{lt-ltb, le-ltb, ltb-true}
-use Rattle.rewriting.specs.Lists.{all, prefix}
-use Rattle.rewriting.specs.Rules.{Right, Put, Close, symbolsOf, Rule, _⇒_}
+use lib.Seq.{sets, sets-eq, length-sets, take-append-seam}
+use Rattle.rewriting.specs.Lists.{prefix}
+use Rattle.rewriting.specs.Rules.{Right, Close, symbolsOf, Rule}
 use Rattle.rewriting.proofs.Lists.{prefix-rest, prefix-append, flatMap-snoc}
 use Rattle.image.specs.Image.{kind, lengthOrVerdict, contents, body}
 use Rattle.image.proofs.Image.{length-contents}
 use Rattle.text.specs.declared.Place.the-variants as places
 use Rattle.text.specs.declared.Reader.{Reader}
-use Rattle.text.specs.declared.Taken.the-variants as taken
-use Rattle.text.specs.declared.Numbered as code
-use Rattle.text.specs.Tokens.{isName}
-use Rattle.text.specs.Names.{numberOf, Numbered, orNew, numbered, slots}
+use Rattle.text.specs.Names.{Numbered, slots}
 use Rattle.text.specs.Grammar.{
   Place,
-  First,
   Events,
   Between,
   InLeft,
   InRight,
   Ending,
   Reading,
-  Goes,
-  Breaks,
   placed,
-  withSymbol,
-  symbol,
-  event,
-  sideSymbol,
-  name,
-  closeEvents,
-  closeRule,
 }
 use Rattle.text.specs.Held.{
-  Sound,
   ruleAt,
   placeOf,
   leftOf,
@@ -50,18 +33,18 @@ use Rattle.text.specs.Held.{
   bodiesOf,
   readerOf,
   Keeps,
-  TakenIs,
   Lengthens,
   Closed,
-  NumberedIs,
 }
-use Rattle.text.proofs.Sound.{Kept, numbered-kept}
+
+-- what an area begins with
+pub prefix-take : (p b : List ℕ) (n : ℕ) → n ≡ length p → prefix p b ≡ true → take n b ≡ p
+prefix-take p b n size e = rw size (ap (take (length p)) (prefix-rest p b e) ∙ take-append-seam p (drop (length p) b))
 
 -- an area that begins with p, with v written behind p
 pub prefix-sets : (p v b : List ℕ) → prefix p b ≡ true → length p + length v ≤ length b → prefix (p ++ v) (sets b (length p) v) ≡ true
 prefix-sets p v b e room =
-    let first : take (length p) b ≡ p = ap (take (length p)) (prefix-rest p b e) ∙ take-append-seam p (drop (length p) b) in
-    rw (sets-eq v b (length p) room, first) (prefix-append (p ++ v) (drop (length p + length v) b))
+    rw (sets-eq v b (length p) room, prefix-take p b (length p) refl e) (prefix-append (p ++ v) (drop (length p + length v) b))
 
 -- four places written one by one
 pub sets-four : (b : List ℕ) (n w x y z : ℕ)
@@ -71,9 +54,6 @@ sets-four b n w x y z =
     let two : n + 2 ≡ suc (suc n) = omega arith in
     let three : n + 3 ≡ suc (suc (suc n)) = omega arith in
     rw (one, two, three) refl
-
-pub prefix-length : (p b : List ℕ) → prefix p b ≡ true → length p ≤ length b
-prefix-length p b e = omega (arith, ap length (prefix-rest p b e), length-append p (drop (length p) b))
 
 -- The numbers, one by one.
 module _ (s : Reading) {r : Reader} (e : r ≡ readerOf s) where
@@ -112,6 +92,20 @@ module _ (s : Reading) {r : Reader} (e : r ≡ readerOf s) where
   pub kind-number : r .kind ≡ kind (ruleAt (s .place) .right)
   unfolding readerOf
   kind-number = ap (λ (x : Reader). x .kind) e
+
+-- Those of the rule begun, where the place is p.
+module _ (s : Reading) {r : Reader} (e : r ≡ readerOf s) {p : Place} (here : s .place ≡ p) where
+  pub bodies-at : r .bodies ≡ length (flatMap body (s .rules) ++ body (ruleAt p))
+  bodies-at = bodies-number s e ∙ ap (λ (q : Place). length (flatMap body (s .rules) ++ body (ruleAt q))) here
+
+  pub left-at : r .left ≡ leftOf p
+  left-at = left-number s e ∙ ap leftOf here
+
+  pub side-at : r .side ≡ sideOf p
+  side-at = side-number s e ∙ ap sideOf here
+
+  pub kind-at : r .kind ≡ kind (ruleAt p .right)
+  kind-at = kind-number s e ∙ ap (λ (q : Place). kind (ruleAt q .right)) here
 
 -- the rule begun is the same at both places
 pub record Alike (p q : Place) : Type 0 where
@@ -247,10 +241,10 @@ module _ {s : Reading} {r : Reader} {a b c d : List ℕ} (k : Keeps s r a b c d)
               words = words-number s (k .numbers) i;
               events = events-number s (k .numbers) i;
               rules = rules-number s (k .numbers) i;
-              bodies = (bodies-number s (k .numbers) ∙ ap (λ (p : Place). length (flatMap body (s .rules) ++ body (ruleAt p))) here) i;
-              left = (left-number s (k .numbers) ∙ ap leftOf here) i;
-              side = (side-number s (k .numbers) ∙ ap sideOf here) i;
-              kind = (kind-number s (k .numbers) ∙ ap (λ (p : Place). kind (ruleAt p .right)) here) i;
+              bodies = bodies-at s (k .numbers) here i;
+              left = left-at s (k .numbers) here i;
+              side = side-at s (k .numbers) here i;
+              kind = kind-at s (k .numbers) here i;
             };
         symbol-slots = at-area;
         word-slots = k .word-slots;
@@ -286,10 +280,10 @@ module _ {s : Reading} {r : Reader} {a b c d : List ℕ} (k : Keeps s r a b c d)
               words = words-number s (k .numbers) i;
               events = events-number s (k .numbers) i;
               rules = rules-number s (k .numbers) i;
-              bodies = (bodies-number s (k .numbers) ∙ ap (λ (p : Place). length (flatMap body (s .rules) ++ body (ruleAt p))) here) i;
-              left = (side-number s (k .numbers) ∙ ap sideOf here) i;
+              bodies = bodies-at s (k .numbers) here i;
+              left = side-at s (k .numbers) here i;
               side = 0;
-              kind = (kind-number s (k .numbers) ∙ ap (λ (p : Place). kind (ruleAt p .right)) here) i;
+              kind = kind-at s (k .numbers) here i;
             };
         symbol-slots = k .symbol-slots;
         word-slots = k .word-slots;
@@ -333,8 +327,8 @@ module _ {s : Reading} {r : Reader} {a b c d : List ℕ} (k : Keeps s r a b c d)
               words = at-count i;
               events = events-number s (k .numbers) i;
               rules = rules-number s (k .numbers) i;
-              bodies = (bodies-number s (k .numbers) ∙ ap (λ (p : Place). length (flatMap body (s .rules) ++ body (ruleAt p))) here) i;
-              left = (left-number s (k .numbers) ∙ ap leftOf here) i;
+              bodies = bodies-at s (k .numbers) here i;
+              left = left-at s (k .numbers) here i;
               side = at-number i;
               kind = 1;
             };
@@ -379,10 +373,10 @@ module _ {s : Reading} {r : Reader} {a b c d : List ℕ} (k : Keeps s r a b c d)
               words = words-number s (k .numbers) i;
               events = symbols-number s (k .numbers) i;
               rules = rules-number s (k .numbers) i;
-              bodies = (bodies-number s (k .numbers) ∙ ap (λ (p : Place). length (flatMap body (s .rules) ++ body (ruleAt p))) here) i;
-              left = (left-number s (k .numbers) ∙ ap leftOf here) i;
-              side = (side-number s (k .numbers) ∙ ap sideOf here) i;
-              kind = (kind-number s (k .numbers) ∙ ap (λ (p : Place). kind (ruleAt p .right)) here) i;
+              bodies = bodies-at s (k .numbers) here i;
+              left = left-at s (k .numbers) here i;
+              side = side-at s (k .numbers) here i;
+              kind = kind-at s (k .numbers) here i;
             };
         symbol-slots = k .symbol-slots;
         word-slots = k .word-slots;

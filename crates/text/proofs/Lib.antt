@@ -13,4 +13,5 @@ pub mod Taking
 pub mod Room
 pub mod Reading
 pub mod Writing
+pub mod ReadTheorem
 pub mod Computed

@@ -8,10 +8,10 @@ use mathlib.Core.List.{List, [], _∷_, _++_, append-assoc, flatMap}
 use mathlib.Core.Logic.{_⊎_, inl, inr}
 use native.Mathlib.Omega.{arith}
 use native.Mathlib.Nat.{le-of-suc-le-suc, not-suc-le-zero}
-use lib.Dec.{eqb, leb, ltb}
+use lib.Dec.{leb, ltb}
 use lib.ListN.{length, getD, take, drop, replicate, length-append, replicate-append-replicate, List·getD-append}
 use lib.Seq.{take-at, drop-at, getD-at}
-use borrow.Author.Tests.{eqb-true, eqb-false, eq-eqb, ne-eqb, le-leb, ltb-true, ltb-false}
+use borrow.Author.Tests.{ne-eqb, le-leb, ltb-true, ltb-false}
 use Rattle.rewriting.specs.Lists.{all, same, between, over}
 use Rattle.rewriting.specs.Rules.{Put, Rule, _⇒_}
 use Rattle.rewriting.proofs.Lists.{and-left, and-right, and-both, all-at, same-eq, same-refl, between-low}
@@ -53,7 +53,7 @@ use Rattle.text.specs.Read.{Good, readText, namesOf}
 use Rattle.text.specs.Lookup.{slotAt, symbolNamed}
 use Rattle.text.specs.Held.{Sound}
 use Rattle.text.proofs.Slots.{name-some, name-short, length-slot, length-slots, same-slot}
-use Rattle.text.proofs.Sound.{Named, number-below, text-keeps, read-sound}
+use Rattle.text.proofs.Sound.{cond-either, NamedToken, number-below, text-keeps, read-sound}
 
 -- A number found is the place of the name among the names.
 pub number-at : (names : List (List ℕ)) (x : List ℕ) (i : ℕ) → numberOf names x ≡ some i → getD names i [] ≡ x
@@ -99,12 +99,12 @@ number-kept (y ∷ names) more x i e = first (same y x) (number-kept names more 
     first true ih p = p
     first false ih p = later (numberOf names x) ih p
 
-pub number-new :
+pub number-next :
     (names more : List (List ℕ)) (x : List ℕ) → numberOf names x ≡ none
     → numberOf (names ++ x ∷ more) x ≡ some (length names)
 unfolding numberOf
-number-new [] more x e = rw (same-refl x)
-number-new (y ∷ names) more x e = first (same y x) (number-new names more x) e
+number-next [] more x e = rw (same-refl x)
+number-next (y ∷ names) more x e = first (same y x) (number-next names more x) e
   where
     later :
         (o : Option ℕ) → (o ≡ none → numberOf (names ++ x ∷ more) x ≡ some (length names)) → Option·map suc o ≡ none
@@ -257,7 +257,7 @@ distinct-added names x d new i h = go (ltb i (length names)) refl
         rw (List·getD-append names (x ∷ []) [] i lt) (number-kept names (x ∷ []) (getD names i []) i (d i lt))
     go false e =
         let last : length names ≡ i = omega (arith, simp length-append at h, ltb-false i (length names) e) in
-        rw (getD-at names x [] [] i last) (number-new names [] x new ∙ ap some last)
+        rw (getD-at names x [] [] i last) (number-next names [] x new ∙ ap some last)
 
 -- the names are as before, or have one new name behind them
 abbrev pub Adds : List (List ℕ) → List (List ℕ) → Type 0
@@ -310,11 +310,8 @@ added-symbol s x to = go (numbered 32 (s .symbols) x) refl
 
 added-side : (s : Reading) (x side : List ℕ) (to : List ℕ → Place) → Added s (sideSymbol s x side to)
 unfolding sideSymbol
-added-side s x side to = go (ltb (length side) 8)
-  where
-    go : (b : Bool) → Added s (cond b (symbol s x (λ i. to (side ++ i ∷ []))) (Breaks 5))
-    go true = added-symbol s x (λ i. to (side ++ i ∷ []))
-    go false = added-breaks s 5
+added-side s x side to =
+    cond-either (Added s) (ltb (length side) 8) _ _ (λ _. added-symbol s x (λ i. to (side ++ i ∷ []))) (λ _. added-breaks s 5)
 
 added-event : (s : Reading) (x : List ℕ) (o : Option ℕ) → Added s (event s x o)
 unfolding event
@@ -323,17 +320,11 @@ added-event s x (some i) = added-breaks s 6
 
 added-name : (s : Reading) (x : List ℕ) (p : Place) → Added s (name s x p)
 unfolding name
-added-name s x First = go (same x eventsWord)
-  where
-    go : (b : Bool) → Added s (cond b (Goes (placed s Events)) (Breaks 4))
-    go true = added-placed s Events
-    go false = added-breaks s 4
+added-name s x First =
+    cond-either (Added s) (same x eventsWord) _ _ (λ _. added-placed s Events) (λ _. added-breaks s 4)
 added-name s x Events = added-event s x (numberOf (s .symbols) x)
-added-name s x Between = go (ltb (length (s .rules)) 64)
-  where
-    go : (b : Bool) → Added s (cond b (sideSymbol s x [] InLeft) (Breaks 5))
-    go true = added-side s x [] InLeft
-    go false = added-breaks s 5
+added-name s x Between =
+    cond-either (Added s) (ltb (length (s .rules)) 64) _ _ (λ _. added-side s x [] InLeft) (λ _. added-breaks s 5)
 added-name s x (InLeft l) = added-side s x l InLeft
 added-name s x (InRight l v) = added-side s x v (InRight l)
 added-name s x (Ending l r) = added-breaks s 4
@@ -352,13 +343,8 @@ added-word s x First = added-breaks s 4
 added-word s x Events = added-breaks s 4
 added-word s x Between = added-breaks s 4
 added-word s x (InLeft l) = added-breaks s 4
-added-word s x (InRight l []) = go (same x epsilonWord)
-  where
-    go :
-        (c : Bool)
-        → Added s (cond c (Goes (placed s (Ending l (Put [])))) (withVerdict s l (numbered 16 (s .words) x)))
-    go true = added-placed s (Ending l (Put []))
-    go false = added-verdict s x l
+added-word s x (InRight l []) =
+    cond-either (Added s) (same x epsilonWord) _ _ (λ _. added-placed s (Ending l (Put []))) (λ _. added-verdict s x l)
 added-word s x (InRight l (a ∷ v)) = added-breaks s 4
 added-word s x (Ending l r) = added-breaks s 4
 
@@ -431,7 +417,7 @@ length-adds names more (inl e) = rw e (omega arith)
 length-adds names more (inr a) = rw (a .2) (simp length-append (omega arith))
 
 names-after :
-    (s : Reading) (t : Token) → NamesKept s → Named t → (s′ : Reading) → afterToken s t ≡ Goes s′ → NamesKept s′
+    (s : Reading) (t : Token) → NamesKept s → NamedToken t → (s′ : Reading) → afterToken s t ≡ Goes s′ → NamesKept s′
 names-after s t k nx s′ e =
     let a : Adds (s .symbols) (s′ .symbols) × Adds (s .words) (s′ .words) = added-after s t s′ e in
     record {

@@ -1,10 +1,10 @@
 -- The number that the code gives a name, and the slots then, are those of `numbered`; what it looks up is `symbolNamed`.
 -- Assumes nothing.
-use Prim.Native.Nat.{ℕ, zero, suc, _+_, _*_, _-_, _≤_, _<_}
+use Prim.Native.Nat.{ℕ, zero, suc, _+_, _*_, _≤_, _<_}
 use mathlib.Core.Path.{_≡_, refl, sym, ap, _∙_}
 use mathlib.Core.Bool.{Bool, true, false, cond, _&&_}
-use mathlib.Core.Option.{Option, none, some, Option·map}
-use mathlib.Core.List.{List, [], _∷_, _++_, append-nil}
+use mathlib.Core.Option.{Option, none, some}
+use mathlib.Core.List.{List, [], append-nil}
 use native.Mathlib.Omega.{arith}
 use lib.Dec.{leb, ltb}
 use lib.ListN.{length, take, drop, length-append}
@@ -12,12 +12,11 @@ use lib.Seq.{paste}
 use borrow.Author.Tests.{lt-ltb, le-ltb, le-leb, lt-leb}
 use Rattle.rewriting.specs.Lists.{all, same, between}
 use Rattle.text.specs.Tokens.{isName}
-use Rattle.text.specs.Names.{numberOf, Numbered, orNew, numbered, slot, slots}
+use Rattle.text.specs.Names.{numberOf, orNew, numbered, slot, slots}
 use Rattle.text.specs.Lookup.{slotAt, numberOr, symbolNamed}
-use Rattle.text.specs.declared.Numbered as code
 use Rattle.text.specs.Held.{NumberedIs}
 use Rattle.text.proofs.Slots.{length-slots, slots-more}
-use Rattle.text.proofs.Sound.{number-below}
+use Rattle.text.proofs.Sound.{next-below, number-below}
 use Rattle.text.proofs.Lookup.{slots-used}
 
 -- The slots of at most `most` names, and a name x.
@@ -85,16 +84,8 @@ module _
 slot-below : (key : List ℕ) (n : ℕ) (area : List ℕ) (i : ℕ) → slotAt key n area ≡ some i → i < n
 unfolding slotAt
 slot-below key zero area i e = let z : _≡_ {A = ℕ} 0 1 = cc in absurd (omega arith)
-slot-below key (suc n) area i e = first (same key (take 25 area)) (slot-below key n (drop 25 area)) e
-  where
-    later : (o : Option ℕ) → ((j : ℕ) → o ≡ some j → j < n) → Option·map suc o ≡ some i → i < suc n
-    later none ih p = let z : _≡_ {A = ℕ} 0 1 = cc in absurd (omega arith)
-    later (some j) ih p = let q : suc j ≡ i = cc in omega (arith, ih j refl)
-
-    first : (b : Bool) → ((j : ℕ) → slotAt key n (drop 25 area) ≡ some j → j < n)
-        → cond b (some 0) (Option·map suc (slotAt key n (drop 25 area))) ≡ some i → i < suc n
-    first true ih p = let q : 0 ≡ i = cc in omega arith
-    first false ih p = later (slotAt key n (drop 25 area)) ih p
+slot-below key (suc n) area i e =
+    next-below (same key (take 25 area)) (slotAt key n (drop 25 area)) n i (slot-below key n (drop 25 area)) e
 
 -- The lookup of x in an area.
 module _ (area x : List ℕ) where

@@ -1,10 +1,10 @@
 -- The loop over the tokens: the whole reading is the rest of the reading from here.
 -- Assumes nothing.
 use Prim.Native.Nat.{ℕ, _≤_}
-use mathlib.Core.Path.{_≡_, refl, sym, ap, _∙_}
+use mathlib.Core.Path.{_≡_, refl, ap, _∙_}
 use mathlib.Core.Bool.{Bool, true, false, cond}
 use mathlib.Core.Option.{Option, none}
-use mathlib.Core.List.{List, [], _∷_, flatMap}
+use mathlib.Core.List.{List, [], flatMap}
 use native.Mathlib.Omega.{arith}
 use lib.ListN.{length, drop, replicate}
 use Rattle.rewriting.specs.Rules.{symbolsOf}
@@ -15,9 +15,9 @@ use Rattle.text.specs.declared.Taken.the-variants as taken
 use Rattle.text.specs.declared.Finished as finished-as
 use Rattle.text.specs.declared.Finished.the-variants as finished
 use Rattle.text.specs.Tokens.{Token, tokenOf, runsFrom, runs}
-use Rattle.text.specs.Names.{slot, slots}
+use Rattle.text.specs.Names.{slots}
 use Rattle.text.specs.Grammar.{Between, Reading, Taken, Goes, Breaks, begun, afterRun, complete}
-use Rattle.text.specs.Read.{Result, Good, Bad, ended, orBroken, readRuns, readText}
+use Rattle.text.specs.Read.{Good, Bad, ended, orBroken, readRuns, readText}
 use Rattle.text.specs.Held.{Sound, ruleAt, readerOf, Keeps, Held, TakenIs, FinishedIs}
 use Rattle.text.proofs.Runs.{restOf, Next}
 use Rattle.text.proofs.Slots.{length-slots}

@@ -1,39 +1,36 @@
 -- Where the code writes, there is room: bounds of the numbers that it keeps of a sound reading.
 -- Assumes nothing.
 use Prim.Native.Nat.{ℕ, _+_, _*_, _≤_, _<_}
-use mathlib.Core.Path.{_≡_, sym, ap, subst, _∙_}
+use mathlib.Core.Path.{_≡_, sym, _∙_}
 use mathlib.Core.List.{List, [], _++_, flatMap}
 use native.Mathlib.Omega.{arith}
 use lib.ListN.{length, length-append}
-use Rattle.rewriting.specs.Rules.{Right, Put, symbolsOf, Rule, _⇒_}
+use Rattle.rewriting.specs.Rules.{Right, Put, symbolsOf, _⇒_}
 use Rattle.rewriting.proofs.Ranges.{RuleRanges, rule-ranges}
 use Rattle.image.specs.Image.{body}
-use Rattle.image.proofs.Image.{length-bodies, length-body}
+use Rattle.image.proofs.Image.{length-bodies}
 use Rattle.text.specs.declared.Place.the-variants as places
 use Rattle.text.specs.declared.Reader.{Reader}
-use Rattle.text.specs.Grammar.{Place, Between, InLeft, InRight, Ending, Reading, ruleSetOf}
-use Rattle.text.specs.Held.{RuleBegun, SoundAt, Sound, ruleAt, placeOf, sideOf, bodiesOf, Held, Small}
+use Rattle.text.specs.Grammar.{Between, Ending, Reading, ruleSetOf}
+use Rattle.text.specs.Held.{RuleBegun, Sound, ruleAt, placeOf, sideOf, Held}
 use Rattle.text.proofs.Places.{place-at}
+use Rattle.text.proofs.Sound.{place-sound}
 use Rattle.text.proofs.Keeping.{
   place-number,
   symbols-number,
   words-number,
-  events-number,
   rules-number,
-  bodies-number,
-  side-number,
+  bodies-at,
+  side-at,
 }
 
 -- the bodies of the rules so far
 pub old-bodies : (s : Reading) → Sound s → length (flatMap body (s .rules)) ≤ 16 * length (s .rules)
 old-bodies s h = length-bodies (ruleSetOf s) (s .rules) (h .all-rules)
 
-begun-at : (s : Reading) → Sound s → (p : Place) → s .place ≡ p → SoundAt s p
-begun-at s h p e = subst (SoundAt s) e (h .here)
-
 module _ {r : Reader} (h : Held r) where
-  told : (q : _) → r .place ≡ q → placeOf (h .reading .place) ≡ q
-  told q e = sym (place-number (h .reading) (h .numbers)) ∙ e
+  place-told : (q : _) → r .place ≡ q → placeOf (h .reading .place) ≡ q
+  place-told q e = sym (place-number (h .reading) (h .numbers)) ∙ e
 
   pub symbol-room : 25 * r .symbols ≤ 800
   symbol-room = omega (arith, symbols-number (h .reading) (h .numbers), h .sound .few-symbols)
@@ -45,71 +42,64 @@ module _ {r : Reader} (h : Held r) where
   pub first-room : r .place ≡ places.Between → r .rules < 64 → r .bodies < 1024
   unfolding ruleAt body symbolsOf
   first-room e few =
-      let here : h .reading .place ≡ Between = place-at places.Between (h .reading .place) (told places.Between e) in
-      let size : length (bodiesOf (h .reading)) ≡ length (flatMap body (h .reading .rules)) + 0 =
-      ap (λ (p : Place). length (flatMap body (h .reading .rules) ++ body (ruleAt p))) here
-      ∙ length-append (flatMap body (h .reading .rules)) []
+      let here : h .reading .place ≡ Between = place-at places.Between (h .reading .place) (place-told places.Between e) in
+      let size : r .bodies ≡ length (flatMap body (h .reading .rules)) + 0 =
+      bodies-at (h .reading) (h .numbers) here ∙ length-append (flatMap body (h .reading .rules)) []
       in
-      omega (arith, bodies-number (h .reading) (h .numbers), rules-number (h .reading) (h .numbers), old-bodies (h .reading) (h .sound))
+      omega (arith, rules-number (h .reading) (h .numbers), old-bodies (h .reading) (h .sound))
 
   pub left-room : r .place ≡ places.Left → r .side < 8 → r .bodies < 1024
   unfolding ruleAt body symbolsOf sideOf
   left-room e few =
-      let w = place-at places.Left (h .reading .place) (told places.Left e) in
+      let w = place-at places.Left (h .reading .place) (place-told places.Left e) in
       let l : List ℕ = w .0 in
-      let begun : RuleBegun (h .reading) (l ⇒ Put []) = begun-at (h .reading) (h .sound) (InLeft l) (w .1) in
-      let size : length (bodiesOf (h .reading)) ≡ length (flatMap body (h .reading .rules)) + length (l ++ []) =
-      ap (λ (p : Place). length (flatMap body (h .reading .rules) ++ body (ruleAt p))) (w .1)
-      ∙ length-append (flatMap body (h .reading .rules)) (l ++ [])
+      let begun : RuleBegun (h .reading) (l ⇒ Put []) = place-sound (h .reading) (h .sound) (w .1) in
+      let size : r .bodies ≡ length (flatMap body (h .reading .rules)) + length (l ++ []) =
+      bodies-at (h .reading) (h .numbers) (w .1) ∙ length-append (flatMap body (h .reading .rules)) (l ++ [])
       in
       omega (
         arith,
-        bodies-number (h .reading) (h .numbers),
         rules-number (h .reading) (h .numbers),
         old-bodies (h .reading) (h .sound),
         begun .1,
         length-append l [],
-        side-number (h .reading) (h .numbers),
-        ap sideOf (w .1),
+        side-at (h .reading) (h .numbers) (w .1),
       )
 
   pub right-room : r .place ≡ places.Right → r .side < 8 → r .bodies < 1024
   unfolding ruleAt body symbolsOf sideOf
   right-room e few =
-      let w = place-at places.Right (h .reading .place) (told places.Right e) in
+      let w = place-at places.Right (h .reading .place) (place-told places.Right e) in
       let l : List ℕ = w .0 in
       let v : List ℕ = w .1 .0 in
-      let begun : RuleBegun (h .reading) (l ⇒ Put v) = begun-at (h .reading) (h .sound) (InRight l v) (w .1 .1) in
+      let begun : RuleBegun (h .reading) (l ⇒ Put v) = place-sound (h .reading) (h .sound) (w .1 .1) in
       let ranges : RuleRanges (ruleSetOf (h .reading)) (l ⇒ Put v) = rule-ranges (ruleSetOf (h .reading)) (l ⇒ Put v) (begun .2) in
-      let size : length (bodiesOf (h .reading)) ≡ length (flatMap body (h .reading .rules)) + length (l ++ v) =
-      ap (λ (p : Place). length (flatMap body (h .reading .rules) ++ body (ruleAt p))) (w .1 .1)
-      ∙ length-append (flatMap body (h .reading .rules)) (l ++ v)
+      let size : r .bodies ≡ length (flatMap body (h .reading .rules)) + length (l ++ v) =
+      bodies-at (h .reading) (h .numbers) (w .1 .1) ∙ length-append (flatMap body (h .reading .rules)) (l ++ v)
       in
       omega (
         arith,
-        bodies-number (h .reading) (h .numbers),
         rules-number (h .reading) (h .numbers),
         old-bodies (h .reading) (h .sound),
         begun .1,
         ranges .short-left,
         length-append l v,
-        side-number (h .reading) (h .numbers),
-        ap sideOf (w .1 .1),
+        side-at (h .reading) (h .numbers) (w .1 .1),
       )
 
   -- the contents of a rule more
   pub right-contents : r .place ≡ places.Right → 4 * r .rules + 4 ≤ 256
   right-contents e =
-      let w = place-at places.Right (h .reading .place) (told places.Right e) in
+      let w = place-at places.Right (h .reading .place) (place-told places.Right e) in
       let begun : RuleBegun (h .reading) (w .0 ⇒ Put (w .1 .0)) =
-      begun-at (h .reading) (h .sound) (InRight (w .0) (w .1 .0)) (w .1 .1)
+      place-sound (h .reading) (h .sound) (w .1 .1)
       in
       omega (arith, rules-number (h .reading) (h .numbers), begun .1)
 
   pub ending-contents : r .place ≡ places.Ending → 4 * r .rules + 4 ≤ 256
   ending-contents e =
-      let w = place-at places.Ending (h .reading .place) (told places.Ending e) in
+      let w = place-at places.Ending (h .reading .place) (place-told places.Ending e) in
       let begun : RuleBegun (h .reading) (w .0 ⇒ w .1 .0) =
-      begun-at (h .reading) (h .sound) (Ending (w .0) (w .1 .0)) (w .1 .1)
+      place-sound (h .reading) (h .sound) (w .1 .1)
       in
       omega (arith, rules-number (h .reading) (h .numbers), begun .1)

@@ -1,20 +1,20 @@
--- Name slots: how the code makes, compares, finds and keeps them, and that a name is found in the slot of its number.
+-- Name slots: how the code makes, compares, finds and keeps them. What is found in them: Lookup.antt.
 -- Assumes nothing.
 use Prim.Native.Nat.{ℕ, zero, suc, _+_, _*_, _-_, _≤_, _<_}
 use mathlib.Core.Path.{_≡_, refl, sym, ap, _∙_}
-use mathlib.Core.Bool.{Bool, true, false, cond, _&&_}
+use mathlib.Core.Bool.{Bool, true, false, _&&_, and-true, and-false}
 use mathlib.Core.Option.{Option, none, some, Option·map}
-use mathlib.Core.List.{List, [], _∷_, _++_, append-assoc, append-nil, flatMap}
+use mathlib.Core.List.{List, [], _∷_, _++_, flatMap}
 use native.Mathlib.Omega.{arith}
 use native.Mathlib.Nat.{le-of-suc-le-suc, not-suc-le-zero}
-use lib.Dec.{eqb, leb, ltb}
+use lib.Dec.{eqb, leb}
 use lib.ListN.{length, getD, set, take, drop, replicate, length-append, length-replicate}
-use lib.Seq.{paste, take-length, take-at, drop-at, drop-append-add, take-append-seam, take-all, drop-drop}
-use borrow.Author.Tests.{leb-true, eq-eqb, ne-eqb, lt-ltb, le-ltb}
+use lib.Seq.{paste, take-length, take-at, drop-append-add, take-append-seam, take-all, drop-drop}
+use borrow.Author.Tests.{leb-true, eq-eqb, ne-eqb}
 use Rattle.rewriting.specs.Lists.{all, same}
-use Rattle.rewriting.proofs.Lists.{flatMap-snoc, and-left, and-right, same-eq, same-refl, eq-same}
+use Rattle.rewriting.proofs.Lists.{flatMap-snoc, and-left, and-right, same-eq, eq-same}
 use Rattle.text.specs.Tokens.{letter, nameByte, isName}
-use Rattle.text.specs.Names.{numberOf, Numbered, orNew, numbered, slot, slots}
+use Rattle.text.specs.Names.{slot, slots}
 use Rattle.text.specs.Lookup.{slotAt, numberOr}
 
 -- A name has 1 to 24 bytes.
@@ -72,16 +72,12 @@ same-slot x y = go (same y x) refl
 
 -- Comparing two lists, element by element.
 
-pub same-more : (u v : List ℕ) (k : ℕ) → k < length u → k < length v
+pub same-take : (u v : List ℕ) (k : ℕ) → k < length u → k < length v
     → same (take (suc k) u) (take (suc k) v) ≡ (same (take k u) (take k v) && eqb (getD u k 0) (getD v k 0))
-same-more [] v k h g = absurd (not-suc-le-zero h)
-same-more (x ∷ u) [] k h g = absurd (not-suc-le-zero g)
-same-more (x ∷ u) (y ∷ v) zero h g = and-true (eqb x y)
-  where
-    and-true : (b : Bool) → (b && true) ≡ b
-    and-true true = refl
-    and-true false = refl
-same-more (x ∷ u) (y ∷ v) (suc k) h g = go (eqb x y) (same-more u v k (le-of-suc-le-suc h) (le-of-suc-le-suc g))
+same-take [] v k h g = absurd (not-suc-le-zero h)
+same-take (x ∷ u) [] k h g = absurd (not-suc-le-zero g)
+same-take (x ∷ u) (y ∷ v) zero h g = and-true (eqb x y)
+same-take (x ∷ u) (y ∷ v) (suc k) h g = go (eqb x y) (same-take u v k (le-of-suc-le-suc h) (le-of-suc-le-suc g))
   where
     go : (b : Bool)
         → same (take (suc k) u) (take (suc k) v) ≡ (same (take k u) (take k v) && eqb (getD u k 0) (getD v k 0))
@@ -100,27 +96,19 @@ comparing-first u v h = record { inside = h; so-far = omega arith; answer = refl
 
 module _ {u v : List ℕ} {b : Bool} {k : ℕ} (c : Comparing u v b k) (more : k < length u) where
   next-answer : same (take (suc k) u) (take (suc k) v) ≡ (b && eqb (getD u k 0) (getD v k 0))
-  next-answer = rw (c .answer) (same-more u v k more (omega (arith, c .inside)))
+  next-answer = rw (c .answer) (same-take u v k more (omega (arith, c .inside)))
 
   pub comparing-equal : getD v k 0 ≡ getD u k 0 → Comparing u v b (k + 1)
   comparing-equal e =
       let n : k + 1 ≡ suc k = omega arith in
       let t : eqb (getD u k 0) (getD v k 0) ≡ true = eq-eqb (getD u k 0) (getD v k 0) (sym e) in
       record { inside = c .inside; so-far = omega arith; answer = rw n (sym (next-answer ∙ rw t (and-true b))) }
-    where
-      and-true : (a : Bool) → (a && true) ≡ a
-      and-true true = refl
-      and-true false = refl
 
   pub comparing-differ : (getD v k 0 ≡ getD u k 0 → ⊥) → Comparing u v false (k + 1)
   comparing-differ e =
       let n : k + 1 ≡ suc k = omega arith in
       let t : eqb (getD u k 0) (getD v k 0) ≡ false = ne-eqb (getD u k 0) (getD v k 0) (λ p. e (sym p)) in
       record { inside = c .inside; so-far = omega arith; answer = rw n (sym (next-answer ∙ rw t (and-false b))) }
-    where
-      and-false : (a : Bool) → (a && false) ≡ false
-      and-false true = refl
-      and-false false = refl
 
 pub comparing-last : {u v : List ℕ} {b : Bool} {k : ℕ} (n : ℕ) → length u ≡ n → Comparing u v b k → n ≤ k → b ≡ same u (take n v)
 comparing-last {u} {v} {b} {k} n m c all =

@@ -1,15 +1,15 @@
 -- What every reading keeps (`Sound`): it holds before the first token, and each token keeps it. So the rules that a text
 -- gives are in range, and their image is valid.
 -- Assumes nothing.
-use Prim.Native.Nat.{ℕ, suc, _*_, _≤_, _<_}
-use mathlib.Core.Path.{_≡_, refl}
+use Prim.Native.Nat.{ℕ, suc, _≤_, _<_}
+use mathlib.Core.Path.{_≡_, refl, subst}
 use mathlib.Core.Bool.{Bool, true, false, cond, _&&_}
 use mathlib.Core.Option.{Option, none, some, Option·map}
-use mathlib.Core.List.{List, [], _∷_, _++_, flatMap}
+use mathlib.Core.List.{List, [], _∷_, _++_}
 use native.Mathlib.Omega.{arith}
 use lib.Dec.{eqb, leb, ltb}
-use lib.ListN.{length, length-append, length-replicate}
-use borrow.Author.Tests.{leb-true, ltb-true, le-leb, lt-ltb}
+use lib.ListN.{length, length-append}
+use borrow.Author.Tests.{ltb-true, le-leb, lt-ltb}
 use Rattle.rewriting.specs.Lists.{all, same, below}
 use Rattle.rewriting.specs.Rules.{Right, Put, Close, symbolsOf, Rule, _⇒_, RuleSet, rightInRange, ruleInRange, inRange}
 use Rattle.rewriting.proofs.Lists.{and-left, and-right, and-both, all-append, below-weaken}
@@ -17,7 +17,7 @@ use Rattle.rewriting.proofs.Ranges.{right-below, RuleRanges, rule-ranges}
 use Rattle.image.specs.Image.{imageOf, valid}
 use Rattle.image.proofs.Image.{image-valid, longest}
 use Rattle.text.specs.Tokens.{letter, nameByte, isName, digit, Token, Name, Word, Arrow, Stop, tokenOf, Run, runs}
-use Rattle.text.specs.Names.{numberOf, Numbered, orNew, numbered, slot, slots}
+use Rattle.text.specs.Names.{numberOf, Numbered, orNew, numbered}
 use Rattle.text.specs.Grammar.{
   Place,
   First,
@@ -55,50 +55,49 @@ use Rattle.text.specs.Read.{Good, Bad, ended, orBroken, readRuns, readTe
 use Rattle.text.specs.Held.{EventsKnown, RuleBegun, SoundAt, Sound}
 use Rattle.text.proofs.Slots.{length-slots}
 
+-- What holds of both sides of a choice holds of it.
+pub cond-either :
+    {A : Type 0} (P : A → Type 0) (b : Bool) (x y : A) → (b ≡ true → P x) → (b ≡ false → P y) → P (cond b x y)
+cond-either P true x y p q = p refl
+cond-either P false x y p q = q refl
+
 -- the name that a token has, if it has one, is a name
-abbrev pub Named : Token → Type 0
-Named (Name x) = isName x ≡ true
-Named (Word x) = isName x ≡ true
-Named Arrow = Unit {0}
-Named Stop = Unit {0}
+abbrev pub NamedToken : Token → Type 0
+NamedToken (Name x) = isName x ≡ true
+NamedToken (Word x) = isName x ≡ true
+NamedToken Arrow = Unit {0}
+NamedToken Stop = Unit {0}
 
 abbrev NamedIn : Option Token → Type 0
 NamedIn none = Unit {0}
-NamedIn (some t) = Named t
-
-named-cond : (b : Bool) (x y : Option Token) → (b ≡ true → NamedIn x) → NamedIn y → NamedIn (cond b x y)
-named-cond true x y p q = p refl
-named-cond false x y p q = q
+NamedIn (some t) = NamedToken t
 
 token-named : (bytes : List ℕ) → NamedIn (tokenOf bytes)
 unfolding tokenOf
 token-named [] = tt
 token-named (b ∷ t) =
-    named-cond (isName (b ∷ t)) _ _ (λ e. e)
-    (named-cond (eqb b 35 && isName t) _ _ (and-right (eqb b 35) (isName t))
-    (named-cond (same (b ∷ t) (45 ∷ 62 ∷ [])) _ _ (λ e. tt)
-    (named-cond (same (b ∷ t) (46 ∷ [])) _ _ (λ e. tt) tt)))
+    cond-either NamedIn (isName (b ∷ t)) _ _ (λ e. e) λ _.
+    cond-either NamedIn (eqb b 35 && isName t) _ _ (and-right (eqb b 35) (isName t)) λ _.
+    cond-either NamedIn (same (b ∷ t) (45 ∷ 62 ∷ [])) _ _ (λ _. tt) λ _.
+    cond-either NamedIn (same (b ∷ t) (46 ∷ [])) _ _ (λ _. tt) (λ _. tt)
 
 -- A run of bytes that is a token has such a name.
-pub named-is-name : (bytes : List ℕ) (t : Token) → tokenOf bytes ≡ some t → Named t
+pub named-is-name : (bytes : List ℕ) (t : Token) → tokenOf bytes ≡ some t → NamedToken t
 named-is-name bytes t e = rw e at (token-named bytes)
+
+-- found at the head of a list, or in the rest, which has n
+pub next-below :
+    (b : Bool) (o : Option ℕ) (n i : ℕ) → ((j : ℕ) → o ≡ some j → j < n) → cond b (some 0) (Option·map suc o) ≡ some i
+    → i < suc n
+next-below true o n i rest p = let q : 0 ≡ i = cc in omega arith
+next-below false none n i rest p = let z : _≡_ {A = ℕ} 0 1 = cc in absurd (omega arith)
+next-below false (some j) n i rest p = let q : suc j ≡ i = cc in omega (arith, rest j refl)
 
 -- A number found is that of one of the names.
 pub number-below : (names : List (List ℕ)) (x : List ℕ) (i : ℕ) → numberOf names x ≡ some i → i < length names
 unfolding numberOf
 number-below [] x i e = let z : _≡_ {A = ℕ} 0 1 = cc in absurd (omega arith)
-number-below (y ∷ names) x i e = first (same y x) (number-below names x) e
-  where
-    later : (o : Option ℕ) → ((j : ℕ) → o ≡ some j → j < length names) → Option·map suc o ≡ some i
-        → i < suc (length names)
-    later none ih p = let z : _≡_ {A = ℕ} 0 1 = cc in absurd (omega arith)
-    later (some j) ih p = let q : suc j ≡ i = cc in omega (arith, ih j refl)
-
-    first :
-        (b : Bool) → ((j : ℕ) → numberOf names x ≡ some j → j < length names)
-        → cond b (some 0) (Option·map suc (numberOf names x)) ≡ some i → i < suc (length names)
-    first true ih p = let q : 0 ≡ i = cc in omega arith
-    first false ih p = later (numberOf names x) ih p
+number-below (y ∷ names) x i e = next-below (same y x) (numberOf names x) (length names) i (number-below names x) e
 
 -- What a name's number, and the names with it, keep.
 pub record Kept (most : ℕ) (names : List (List ℕ)) (n : Numbered) : Type 0 where
@@ -183,6 +182,10 @@ rules-grow few many (r ∷ rs) s w e =
     and-both (rule-grows few many r s w (and-left (ruleInRange few r) (all (ruleInRange few) rs) e))
     (rules-grow few many rs s w (and-right (ruleInRange few r) (all (ruleInRange few) rs) e))
 
+-- what is kept where the place is p
+pub place-sound : (s : Reading) → Sound s → {p : Place} → s .place ≡ p → SoundAt s p
+place-sound s h e = subst (SoundAt s) e (h .here)
+
 -- Before the first token.
 pub sound-begun : Sound begun
 unfolding begun isName letter nameByte digit
@@ -199,13 +202,13 @@ sound-begun =
     }
 
 -- What a token makes of a reading keeps it sound, where the text goes on.
-abbrev pub Keeps : Taken → Type 0
-Keeps t = (s′ : Reading) → t ≡ Goes s′ → Sound s′
+abbrev pub KeepsSound : Taken → Type 0
+KeepsSound t = (s′ : Reading) → t ≡ Goes s′ → Sound s′
 
-pub keeps-goes : (s : Reading) → Sound s → Keeps (Goes s)
+pub keeps-goes : (s : Reading) → Sound s → KeepsSound (Goes s)
 keeps-goes s h s′ e = let p : s ≡ s′ = cc in rw (← p) h
 
-pub keeps-breaks : (n : ℕ) → Keeps (Breaks n)
+pub keeps-breaks : (n : ℕ) → KeepsSound (Breaks n)
 keeps-breaks n s′ e = let z : _≡_ {A = ℕ} 0 1 = cc in absurd (omega arith)
 
 -- A reading with at least these symbols and words, and these events and rules.
@@ -286,18 +289,18 @@ sound-names s n p h k sound-at =
 pub sound-symbol :
     (s : Reading) (x : List ℕ) (to : ℕ → Place) → Sound s → isName x ≡ true
     → ((n : Numbered) → Kept 32 (s .symbols) n → SoundAt (withNames s n (to (n .number))) (to (n .number)))
-    → Keeps (symbol s x to)
+    → KeepsSound (symbol s x to)
 unfolding symbol withSymbol
 sound-symbol s x to h nx sound-at = go (numbered 32 (s .symbols) x) refl
   where
-    go : (o : Option Numbered) → numbered 32 (s .symbols) x ≡ o → Keeps (withSymbol s to o)
+    go : (o : Option Numbered) → numbered 32 (s .symbols) x ≡ o → KeepsSound (withSymbol s to o)
     go none e = keeps-breaks 5
     go (some n) e =
         let k : Kept 32 (s .symbols) n = numbered-kept 32 (s .symbols) x n (h .few-symbols) (h .symbols-named) nx e in
         keeps-goes (withNames s n (to (n .number))) (sound-names s n (to (n .number)) h k (sound-at n k))
 
 -- One more event.
-pub sound-event : (s : Reading) (x : List ℕ) (o : Option ℕ) → Sound s → isName x ≡ true → Keeps (event s x o)
+pub sound-event : (s : Reading) (x : List ℕ) (o : Option ℕ) → Sound s → isName x ≡ true → KeepsSound (event s x o)
 unfolding event
 sound-event s x none h nx = sound-symbol s x (λ i. Events) h nx (λ n k. tt)
 sound-event s x (some i) h nx = keeps-breaks 6
@@ -308,13 +311,12 @@ pub sound-side :
     → (length side < 8
     → (n : Numbered) → Kept 32 (s .symbols) n
     → SoundAt (withNames s n (to (side ++ n .number ∷ []))) (to (side ++ n .number ∷ [])))
-    → Keeps (sideSymbol s x side to)
+    → KeepsSound (sideSymbol s x side to)
 unfolding sideSymbol
-sound-side s x side to h nx sound-at = go (ltb (length side) 8) refl
-  where
-    go : (b : Bool) → ltb (length side) 8 ≡ b → Keeps (cond b (symbol s x (λ i. to (side ++ i ∷ []))) (Breaks 5))
-    go true e = sound-symbol s x (λ i. to (side ++ i ∷ [])) h nx (sound-at (ltb-true (length side) 8 e))
-    go false e = keeps-breaks 5
+sound-side s x side to h nx sound-at =
+    cond-either KeepsSound (ltb (length side) 8) _ _
+    (λ e. sound-symbol s x (λ i. to (side ++ i ∷ [])) h nx (sound-at (ltb-true (length side) 8 e)))
+    (λ _. keeps-breaks 5)
 
 -- numbers below those of some names, and the number of one more
 pub below-names :
@@ -328,7 +330,7 @@ below-names names n side k e =
 -- The first symbol of a left side, and one more.
 pub sound-left :
     (s : Reading) (x : List ℕ) (l : List ℕ) → Sound s → isName x ≡ true → EventsKnown s → length (s .rules) < 64
-    → below (length (s .symbols)) l ≡ true → Keeps (sideSymbol s x l InLeft)
+    → below (length (s .symbols)) l ≡ true → KeepsSound (sideSymbol s x l InLeft)
 unfolding ruleSetOf rightInRange
 sound-left s x l h nx known room in-l = sound-side s x l InLeft h nx one-more
   where
@@ -352,7 +354,7 @@ sound-left s x l h nx known room in-l = sound-side s x l InLeft h nx one-more
 -- One more symbol of a right side.
 pub sound-right :
     (s : Reading) (x : List ℕ) (l v : List ℕ) → Sound s → isName x ≡ true → RuleBegun s (l ⇒ Put v)
-    → Keeps (sideSymbol s x v (InRight l))
+    → KeepsSound (sideSymbol s x v (InRight l))
 unfolding ruleSetOf rightInRange symbolsOf
 sound-right s x l v h nx b = sound-side s x v (InRight l) h nx one-more
   where
@@ -378,19 +380,17 @@ sound-right s x l v h nx b = sound-side s x v (InRight l) h nx one-more
         )
 
 -- A name, at each place.
-pub sound-name : (s : Reading) (x : List ℕ) (p : Place) → Sound s → SoundAt s p → isName x ≡ true → Keeps (name s x p)
+pub sound-name : (s : Reading) (x : List ℕ) (p : Place) → Sound s → SoundAt s p → isName x ≡ true → KeepsSound (name s x p)
 unfolding name ruleSetOf
-sound-name s x First h sound-at nx = go (same x eventsWord)
-  where
-    go : (b : Bool) → Keeps (cond b (Goes (placed s Events)) (Breaks 4))
-    go true = keeps-goes (placed s Events) (sound-placed s Events h tt)
-    go false = keeps-breaks 4
+sound-name s x First h sound-at nx =
+    cond-either KeepsSound (same x eventsWord) _ _
+    (λ _. keeps-goes (placed s Events) (sound-placed s Events h tt))
+    (λ _. keeps-breaks 4)
 sound-name s x Events h sound-at nx = sound-event s x (numberOf (s .symbols) x) h nx
-sound-name s x Between h sound-at nx = go (ltb (length (s .rules)) 64) refl
-  where
-    go : (b : Bool) → ltb (length (s .rules)) 64 ≡ b → Keeps (cond b (sideSymbol s x [] InLeft) (Breaks 5))
-    go true e = sound-left s x [] h nx sound-at (ltb-true (length (s .rules)) 64 e) refl
-    go false e = keeps-breaks 5
+sound-name s x Between h sound-at nx =
+    cond-either KeepsSound (ltb (length (s .rules)) 64) _ _
+    (λ e. sound-left s x [] h nx sound-at (ltb-true (length (s .rules)) 64 e) refl)
+    (λ _. keeps-breaks 5)
 sound-name s x (InLeft l) h sound-at nx =
     let r : RuleRanges (ruleSetOf s) (l ⇒ Put []) = rule-ranges (ruleSetOf s) (l ⇒ Put []) (sound-at .2) in
     sound-left s x l h nx (sound-at .0) (sound-at .1) (r .left-below)
@@ -442,11 +442,11 @@ begun-right s l r r′ b e =
 -- A `#` word, behind the left side l and `->`.
 pub sound-verdict :
     (s : Reading) (x l : List ℕ) → Sound s → isName x ≡ true → RuleBegun s (l ⇒ Put [])
-    → Keeps (withVerdict s l (numbered 16 (s .words) x))
+    → KeepsSound (withVerdict s l (numbered 16 (s .words) x))
 unfolding withVerdict rightInRange ruleSetOf
 sound-verdict s x l h nx b = go (numbered 16 (s .words) x) refl
   where
-    go : (o : Option Numbered) → numbered 16 (s .words) x ≡ o → Keeps (withVerdict s l o)
+    go : (o : Option Numbered) → numbered 16 (s .words) x ≡ o → KeepsSound (withVerdict s l o)
     go none e = keeps-breaks 5
     go (some n) e =
         let k : Kept 16 (s .words) n = numbered-kept 16 (s .words) x n (h .few-words) (h .words-named) nx e in
@@ -458,17 +458,14 @@ sound-verdict s x l h nx b = go (numbered 16 (s .words) x) refl
         (begun-right s′ l (Put []) (Close (n .number)) b′ (lt-ltb (n .number) (length (n .names)) (k .number-in))))
 
 pub sound-right-word :
-    (s : Reading) (x l : List ℕ) → Sound s → isName x ≡ true → RuleBegun s (l ⇒ Put []) → Keeps (rightWord s x l)
+    (s : Reading) (x l : List ℕ) → Sound s → isName x ≡ true → RuleBegun s (l ⇒ Put []) → KeepsSound (rightWord s x l)
 unfolding rightWord
-sound-right-word s x l h nx b = go (same x epsilonWord)
-  where
-    go :
-        (c : Bool)
-        → Keeps (cond c (Goes (placed s (Ending l (Put [])))) (withVerdict s l (numbered 16 (s .words) x)))
-    go true = keeps-goes (placed s (Ending l (Put []))) (sound-placed s (Ending l (Put [])) h b)
-    go false = sound-verdict s x l h nx b
+sound-right-word s x l h nx b =
+    cond-either KeepsSound (same x epsilonWord) _ _
+    (λ _. keeps-goes (placed s (Ending l (Put []))) (sound-placed s (Ending l (Put [])) h b))
+    (λ _. sound-verdict s x l h nx b)
 
-pub sound-word : (s : Reading) (x : List ℕ) (p : Place) → Sound s → SoundAt s p → isName x ≡ true → Keeps (word s x p)
+pub sound-word : (s : Reading) (x : List ℕ) (p : Place) → Sound s → SoundAt s p → isName x ≡ true → KeepsSound (word s x p)
 unfolding word
 sound-word s x First h sound-at nx = keeps-breaks 4
 sound-word s x Events h sound-at nx = keeps-breaks 4
@@ -479,7 +476,7 @@ sound-word s x (InRight l (a ∷ v)) h sound-at nx = keeps-breaks 4
 sound-word s x (Ending l r) h sound-at nx = keeps-breaks 4
 
 -- `->`
-pub sound-arrow : (s : Reading) (p : Place) → Sound s → SoundAt s p → Keeps (arrow s p)
+pub sound-arrow : (s : Reading) (p : Place) → Sound s → SoundAt s p → KeepsSound (arrow s p)
 unfolding arrow
 sound-arrow s First h sound-at = keeps-breaks 4
 sound-arrow s Events h sound-at = keeps-breaks 4
@@ -489,7 +486,7 @@ sound-arrow s (InRight l v) h sound-at = keeps-breaks 4
 sound-arrow s (Ending l r) h sound-at = keeps-breaks 4
 
 -- `.` behind the events
-pub sound-close-events : (s : Reading) (names : List (List ℕ)) → Sound s → s .symbols ≡ names → Keeps (closeEvents s names)
+pub sound-close-events : (s : Reading) (names : List (List ℕ)) → Sound s → s .symbols ≡ names → KeepsSound (closeEvents s names)
 unfolding closeEvents ruleSetOf
 sound-close-events s [] h e = keeps-breaks 4
 sound-close-events s (x ∷ names) h e = keeps-goes s′ sound
@@ -520,7 +517,7 @@ sound-close-events s (x ∷ names) h e = keeps-goes s′ sound
         }
 
 -- `.` behind a rule
-pub sound-close-rule : (s : Reading) (r : Rule) → Sound s → RuleBegun s r → Keeps (closeRule s r)
+pub sound-close-rule : (s : Reading) (r : Rule) → Sound s → RuleBegun s r → KeepsSound (closeRule s r)
 unfolding closeRule ruleSetOf
 sound-close-rule s r h b = keeps-goes s′ sound
   where
@@ -550,7 +547,7 @@ sound-close-rule s r h b = keeps-goes s′ sound
           here = b .0;
         }
 
-pub sound-stop : (s : Reading) (p : Place) → Sound s → SoundAt s p → Keeps (stop s p)
+pub sound-stop : (s : Reading) (p : Place) → Sound s → SoundAt s p → KeepsSound (stop s p)
 unfolding stop
 sound-stop s First h sound-at = keeps-breaks 4
 sound-stop s Events h sound-at = sound-close-events s (s .symbols) h refl
@@ -561,7 +558,7 @@ sound-stop s (InRight l (a ∷ v)) h sound-at = sound-close-rule s (l ⇒ Put (a
 sound-stop s (Ending l r) h sound-at = sound-close-rule s (l ⇒ r) h sound-at
 
 -- Each token keeps a reading sound.
-pub sound-after : (s : Reading) (t : Token) → Sound s → Named t → Keeps (afterToken s t)
+pub sound-after : (s : Reading) (t : Token) → Sound s → NamedToken t → KeepsSound (afterToken s t)
 unfolding afterToken
 sound-after s (Name x) h nx = sound-name s x (s .place) h (h .here) nx
 sound-after s (Word x) h nx = sound-word s x (s .place) h (h .here) nx
@@ -581,7 +578,7 @@ complete-between (Ending l r) e = let z : _≡_ {A = ℕ} 0 1 = cc in absurd (om
 -- What each token keeps, and holds before the first, holds of what a text is read as. It is then behind a `.`.
 module _
     (P : Reading → Type 0)
-    (step : (s : Reading) (t : Token) → P s → Named t → (s′ : Reading) → afterToken s t ≡ Goes s′ → P s′) where
+    (step : (s : Reading) (t : Token) → P s → NamedToken t → (s′ : Reading) → afterToken s t ≡ Goes s′ → P s′) where
   pub after-run : (s : Reading) (bytes : List ℕ) → P s → (s′ : Reading) → afterRun s (tokenOf bytes) ≡ Goes s′ → P s′
   unfolding afterRun
   after-run s bytes h = go (tokenOf bytes) (token-named bytes)
@@ -614,7 +611,7 @@ module _
   text-keeps h text s e = runs-keep (length text) begun (runs text) s h e
 
 -- Each run of bytes keeps a reading sound, and what a text is read as is sound.
-pub sound-run : (s : Reading) (bytes : List ℕ) → Sound s → Keeps (afterRun s (tokenOf bytes))
+pub sound-run : (s : Reading) (bytes : List ℕ) → Sound s → KeepsSound (afterRun s (tokenOf bytes))
 sound-run s bytes h = after-run Sound sound-after s bytes h
 
 pub read-sound : (text : List ℕ) (s : Reading) → readText text ≡ Good s → Sound s × (s .place ≡ Between)
@@ -624,7 +621,7 @@ read-sound text s e = text-keeps Sound sound-after sound-begun text s e
 pub sound-in-range : (s : Reading) → Sound s → s .place ≡ Between → inRange (ruleSetOf s) ≡ true
 unfolding inRange ruleSetOf
 sound-in-range s h p =
-    let known : EventsKnown s = rw p at (h .here) in
+    let known : EventsKnown s = place-sound s h p in
     let some-symbol : 1 ≤ length (s .symbols) = omega arith in
     and-both
     (and-both

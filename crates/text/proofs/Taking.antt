@@ -1,6 +1,6 @@
 -- What the code answers to a token is what the grammar makes of it (`TakenIs`), case by case.
 -- Assumes nothing.
-use Prim.Native.Nat.{ℕ, suc, _+_, _*_, _≤_, _<_}
+use Prim.Native.Nat.{ℕ, _+_, _≤_, _<_}
 use mathlib.Core.Path.{_≡_, refl, sym, ap, _∙_}
 use mathlib.Core.Bool.{Bool, true, false, cond}
 use mathlib.Core.Option.{Option, none, some}
@@ -10,12 +10,11 @@ use lib.Dec.{ltb}
 use lib.ListN.{length, set, length-append}
 use borrow.Author.Tests.{lt-ltb, le-ltb}
 use Rattle.rewriting.specs.Lists.{all, same}
-use Rattle.rewriting.specs.Rules.{Right, Put, Close, symbolsOf, _⇒_}
+use Rattle.rewriting.specs.Rules.{Right, Put, symbolsOf, _⇒_}
 use Rattle.image.specs.Image.{kind, lengthOrVerdict, body}
 use Rattle.text.specs.declared.Place as code
 use Rattle.text.specs.declared.Place.the-variants as places
 use Rattle.text.specs.declared.Reader.{Reader}
-use Rattle.text.specs.declared.Taken as taken-as
 use Rattle.text.specs.declared.Taken.the-variants as taken
 use Rattle.text.specs.declared.Numbered as numbered-as
 use Rattle.text.specs.Tokens.{isName}
@@ -54,7 +53,6 @@ use Rattle.text.specs.Held.{
   placeOf,
   leftOf,
   sideOf,
-  readerOf,
   Keeps,
   TakenIs,
   Lengthens,
@@ -63,17 +61,15 @@ use Rattle.text.specs.Held.{
 }
 use Rattle.text.proofs.Sound.{Kept, number-below, numbered-kept}
 use Rattle.text.proofs.Keeping.{
-  Alike,
   symbols-number,
   side-number,
-  place-number,
+  side-at,
   keeps-placed,
   keeps-longer,
   keeps-event,
   keeps-arrow,
   keeps-verdict,
   keeps-events,
-  keeps-rule,
 }
 
 -- the name x has a number, and the code has it, with the slots of the names then
@@ -233,7 +229,7 @@ module _ {s : Reading} {r : Reader} {a b c d : List ℕ} (k : Keeps s r a b c d)
     -- the side is empty where the code says so
     open-side : r .side ≡ length v
     unfolding sideOf
-    open-side = side-number s (k .numbers) ∙ ap sideOf here
+    open-side = side-at s (k .numbers) here
 
     -- the side that the code has no symbol of
     empty-side : r .side ≡ 0 → s .place ≡ InRight l []
@@ -243,6 +239,10 @@ module _ {s : Reading} {r : Reader} {a b c d : List ℕ} (k : Keeps s r a b c d)
         go [] e = refl
         go (y ∷ w) e = absurd (omega arith)
 
+    -- the side that the code has some symbol of
+    some-side : (r .side ≡ 0 → ⊥) → length v ≡ 0 → ⊥
+    some-side some-yet e = some-yet (open-side ∙ e)
+
     -- a `.` behind `->`
     pub stop-empty : r .side ≡ 0 → TakenIs (stop s (s .place)) (taken.Breaks 4) a b c d
     unfolding stop
@@ -251,12 +251,9 @@ module _ {s : Reading} {r : Reader} {a b c d : List ℕ} (k : Keeps s r a b c d)
     -- the rule is closed
     pub stop-right : (r .side ≡ 0 → ⊥) → stop s (s .place) ≡ closeRule s (ruleAt (s .place))
     unfolding stop ruleAt
-    stop-right some-side =
-        ap (stop s) here ∙ go v (some-left v open-side) ∙ ap (λ (p : Place). closeRule s (ruleAt p)) (sym here)
+    stop-right some-yet =
+        ap (stop s) here ∙ go v (some-side some-yet) ∙ ap (λ (p : Place). closeRule s (ruleAt p)) (sym here)
       where
-        some-left : (w : List ℕ) → r .side ≡ length w → length w ≡ 0 → ⊥
-        some-left w e z = some-side (e ∙ z)
-
         go : (w : List ℕ) → (length w ≡ 0 → ⊥) → stop s (InRight l w) ≡ closeRule s (l ⇒ Put w)
         go [] some-of = absurd (some-of refl)
         go (y ∷ w) some-of = refl
@@ -265,11 +262,8 @@ module _ {s : Reading} {r : Reader} {a b c d : List ℕ} (k : Keeps s r a b c d)
     module _ (x : List ℕ) where
       pub word-behind : (r .side ≡ 0 → ⊥) → TakenIs (word s x (s .place)) (taken.Breaks 4) a b c d
       unfolding word
-      word-behind some-side = rw (ap (word s x) here) (go v (some-left v open-side))
+      word-behind some-yet = rw (ap (word s x) here) (go v (some-side some-yet))
         where
-          some-left : (w : List ℕ) → r .side ≡ length w → length w ≡ 0 → ⊥
-          some-left w e z = some-side (e ∙ z)
-
           go : (w : List ℕ) → (length w ≡ 0 → ⊥) → TakenIs (word s x (InRight l w)) (taken.Breaks 4) a b c d
           go [] some-of = absurd (some-of refl)
           go (y ∷ w) some-of = refl

@@ -1,18 +1,15 @@
 -- What the code writes when a text is good, and what it answers, are what `readOf` says.
 -- Assumes nothing.
 use Prim.Native.Nat.{ℕ, _+_, _*_, _≤_, _<_}
-use mathlib.Core.Path.{_≡_, refl, sym, ap, subst, _∙_}
-use mathlib.Core.Bool.{Bool, true, false, cond, _&&_}
-use mathlib.Core.Option.{Option, none, some}
-use mathlib.Core.List.{List, [], _∷_, _++_, append-assoc, append-nil, flatMap}
+use mathlib.Core.Path.{_≡_, refl, sym, ap, _∙_}
+use mathlib.Core.Option.{some}
+use mathlib.Core.List.{List, [], _∷_, _++_, append-nil, flatMap}
 use native.Mathlib.Omega.{arith}
-use lib.Dec.{leb}
 use lib.ListN.{length, set, take, drop, length-append}
 use lib.Seq.{sets-eq, length-sets, paste, take-append-seam, drop-append-add, drop-drop, length-take-le, take-all}
 use borrow.Author.Tests.{le-leb, lt-leb}
-use Rattle.rewriting.specs.Lists.{prefix, over}
-use Rattle.rewriting.specs.Rules.{symbolsOf, Rule}
-use Rattle.rewriting.proofs.Lists.{prefix-rest}
+use Rattle.rewriting.specs.Lists.{over}
+use Rattle.rewriting.specs.Rules.{symbolsOf}
 use Rattle.image.specs.Image.{contents, body, imageOf}
 use Rattle.image.specs.Refusals.{refusal}
 use Rattle.image.proofs.Image.{length-contents, length-image}
@@ -21,11 +18,12 @@ use Rattle.text.specs.declared.Read.the-variants as read
 use Rattle.text.specs.declared.Finished as finished-as
 use Rattle.text.specs.declared.Finished.the-variants as finished
 use Rattle.text.specs.declared.Read.{Read}
-use Rattle.text.specs.Names.{slots}
 use Rattle.text.specs.Grammar.{Place, Between, Reading, ruleSetOf}
 use Rattle.text.specs.Read.{Result, Good, Bad, readText, namesOf, Outcome, readChecks, written, unless, readOf}
-use Rattle.text.specs.Held.{EventsKnown, SoundAt, Sound, ruleAt, bodiesOf, Keeps, FinishedIs, Small}
+use Rattle.text.specs.Held.{EventsKnown, Sound, ruleAt, bodiesOf, Keeps, FinishedIs, Small}
+use Rattle.text.proofs.Sound.{place-sound}
 use Rattle.text.proofs.Keeping.{
+  prefix-take,
   symbols-number,
   words-number,
   events-number,
@@ -58,10 +56,6 @@ over-four area w x y z room = sets-eq (w ∷ x ∷ y ∷ z ∷ []) area 0 room
 pub length-four : (area : List ℕ) (w x y z : ℕ) → length (set (set (set (set area 0 w) 1 x) 2 y) 3 z) ≡ length area
 length-four area w x y z = length-sets area 0 (w ∷ x ∷ y ∷ z ∷ [])
 
--- what an area begins with
-pub begins : (p area : List ℕ) (n : ℕ) → n ≡ length p → prefix p area ≡ true → take n area ≡ p
-begins p area n e h = rw e (ap (take (length p)) (prefix-rest p area h) ∙ take-append-seam p (drop (length p) area))
-
 -- The image.
 module _ {s : Reading} {r : Reader} {a b c d : List ℕ} (sound : Sound s) (here : s .place ≡ Between) (k : Keeps s r a b c d) (image : List ℕ)
     (room : 1284 ≤ length image) where
@@ -71,7 +65,7 @@ module _ {s : Reading} {r : Reader} {a b c d : List ℕ} (sound : Sound s) (here
       ap (λ (p : Place). flatMap body (s .rules) ++ body (ruleAt p)) here ∙ append-nil (flatMap body (s .rules))
 
   known : EventsKnown s
-  known = subst (SoundAt s) here (sound .here)
+  known = place-sound s sound here
 
   pub small : Small r
   small =
@@ -115,9 +109,9 @@ module _ {s : Reading} {r : Reader} {a b c d : List ℕ} (sound : Sound s) (here
       in
       let m : r .bodies ≡ length (bodiesOf s) = bodies-number s (k .numbers) in
       let all-contents : take (4 * r .rules) c ≡ flatMap contents (s .rules) =
-      begins (flatMap contents (s .rules)) c (4 * r .rules) n (k .contents-begin)
+      prefix-take (flatMap contents (s .rules)) c (4 * r .rules) n (k .contents-begin)
       in
-      let all-bodies : take (r .bodies) d ≡ flatMap body (s .rules) = begins (bodiesOf s) d (r .bodies) m (k .bodies-begin) ∙ bodies-there in
+      let all-bodies : take (r .bodies) d ≡ flatMap body (s .rules) = prefix-take (bodiesOf s) d (r .bodies) m (k .bodies-begin) ∙ bodies-there in
       let third : 4 + 4 * r .rules ≡ length (head ++ flatMap contents (s .rules)) = omega arith in
       rw (
         over-four image (r .symbols) (r .rules) (r .words) (r .events) (omega arith),
@@ -153,25 +147,25 @@ names-written symbols words names m n =
 
 -- The answers.
 module _ (text image names : List ℕ) where
-  refused : (n : ℕ) → refusal (readChecks text image names) ≡ some n
+  refused-with : (n : ℕ) → refusal (readChecks text image names) ≡ some n
       → readOf text image names ≡ record { answer = read.Refused n 0; image = image; names = names }
   unfolding readOf unless written
-  refused n e = rw e
+  refused-with n e = rw e
 
   pub refused-1 : 16384 < length text → readOf text image names ≡ record { answer = read.Refused 1 0; image = image; names = names }
   unfolding readChecks refusal
-  refused-1 long = refused 1 (rw (lt-leb (length text) 16384 long))
+  refused-1 long = refused-with 1 (rw (lt-leb (length text) 16384 long))
 
   pub refused-image : length text ≤ 16384 → length image < 1284
       → readOf text image names ≡ record { answer = read.Refused 2 0; image = image; names = names }
   unfolding readChecks refusal
-  refused-image fits short = refused 2 (rw (le-leb (length text) 16384 fits, lt-leb 1284 (length image) short))
+  refused-image fits short = refused-with 2 (rw (le-leb (length text) 16384 fits, lt-leb 1284 (length image) short))
 
   pub refused-names : length text ≤ 16384 → 1284 ≤ length image → length names < 1200
       → readOf text image names ≡ record { answer = read.Refused 2 0; image = image; names = names }
   unfolding readChecks refusal
   refused-names fits room short =
-      refused 2 (rw (le-leb (length text) 16384 fits, le-leb 1284 (length image) room, lt-leb 1200 (length names) short))
+      refused-with 2 (rw (le-leb (length text) 16384 fits, le-leb 1284 (length image) room, lt-leb 1200 (length names) short))
 
   module _ (fits : length text ≤ 16384) (image-room : 1284 ≤ length image) (names-room : 1200 ≤ length names) where
     passed : readOf text image names ≡ written (readText text) image names

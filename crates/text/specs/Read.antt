@@ -1,12 +1,13 @@
 -- The reader, as a function of the text and the two areas lent to it.
-use Prim.Native.Nat.{ℕ}
-use mathlib.Core.Bool.{Bool, cond, _&&_}
+use Prim.Native.Nat.{ℕ, _≤_}
+use mathlib.Core.Path.{_≡_}
+use mathlib.Core.Bool.{true, cond, _&&_}
 use mathlib.Core.Option.{Option, none, some}
-use mathlib.Core.List.{List, [], _∷_, _++_}
+use mathlib.Core.List.{List, [], _∷_, _++_, List·Memᴰ}
 use lib.Dec.{leb}
-use lib.ListN.{length}
+use lib.ListN.{length, take, drop}
 use Rattle.rewriting.specs.Lists.{over}
-use Rattle.image.specs.Image.{imageOf}
+use Rattle.image.specs.Image.{imageOf, read, valid}
 use Rattle.image.specs.Refusals.{Check, refusal}
 use Rattle.text.specs.declared.Read.{Read}
 use Rattle.text.specs.declared.Read.the-variants.{Image, Refused}
@@ -69,3 +70,59 @@ unless (some n) r = Bad n 0
 
 unfoldable pub readOf : List ℕ → List ℕ → List ℕ → Outcome
 readOf text image names = written (unless (refusal (readChecks text image names)) (readText text)) image names
+
+-- the refusal that an answer is, if it is one; its place, 0 where there is none; the image's length, 0 beside a refusal
+unfoldable pub refusedBy : Read → Option ℕ
+refusedBy (Image n) = none
+refusedBy (Refused n place) = some n
+
+unfoldable pub refusalPlace : Read → ℕ
+refusalPlace (Image n) = 0
+refusalPlace (Refused n place) = place
+
+unfoldable pub imageLength : Read → ℕ
+imageLength (Image n) = n
+imageLength (Refused n place) = 0
+
+-- A text that is refused with n.
+pub record ReadRefused (text image names : List ℕ) (o : Outcome) (n : ℕ) : Type 0 where
+  -- the number is one of the reader's
+  pub number-known : List·Memᴰ n (1 ∷ 2 ∷ 3 ∷ 4 ∷ 5 ∷ 6 ∷ [])
+  -- the place is inside the text or at its end, and 0 for 1 and 2
+  pub place-inside : refusalPlace (o .answer) ≤ length text
+  pub place-zero : n ≤ 2 → refusalPlace (o .answer) ≡ 0
+  -- there is no image, and both areas are as they were
+  pub no-image : imageLength (o .answer) ≡ 0
+  pub image-stays : o .image ≡ image
+  pub names-stay : o .names ≡ names
+
+-- A text that is taken.
+pub record ReadTaken (text image names : List ℕ) (o : Outcome) : Type 0 where
+  -- it is short enough and good: this is what it says
+  pub short-text : length text ≤ 16384
+  pub reading : Reading
+  pub good-text : readText text ≡ Good reading
+  -- the image of its rules is valid, and they are read back from it
+  pub rules-valid : valid (imageOf (ruleSetOf reading)) ≡ true
+  pub rules-back : read (imageOf (ruleSetOf reading)) ≡ ruleSetOf reading
+  -- the image's length is answered, and at most 1,284
+  pub image-told : imageLength (o .answer) ≡ length (imageOf (ruleSetOf reading))
+  pub image-short : imageLength (o .answer) ≤ 1284
+  -- the image stands at the beginning of its area, and the bytes beyond it are as they were
+  pub image-there : take (imageLength (o .answer)) (o .image) ≡ imageOf (ruleSetOf reading)
+  pub image-beyond : drop (imageLength (o .answer)) (o .image) ≡ drop (imageLength (o .answer)) image
+  -- so it is with the 48 slots of names
+  pub names-there : take 1200 (o .names) ≡ namesOf reading
+  pub names-beyond : drop 1200 (o .names) ≡ drop 1200 names
+
+-- What is promised of the reader on whatever text and areas: `read-theorem` (proofs/ReadTheorem.antt).
+pub record ReadEnded (text image names : List ℕ) (o : Outcome) : Type 0 where
+  -- The text is refused, ..
+  pub refused : (n : ℕ) → refusedBy (o .answer) ≡ some n → ReadRefused text image names o n
+  -- .. or it is taken.
+  pub taken : refusedBy (o .answer) ≡ none → ReadTaken text image names o
+  -- Both areas keep their lengths.
+  pub size : (length (o .image) ≡ length image) × (length (o .names) ≡ length names)
+
+abbrev pub ReadReads : Type 0
+ReadReads = (text image names : List ℕ) → ReadEnded text image names (readOf text image names)

@@ -1,8 +1,10 @@
 -- `ffi::watcher_read_rules` meets its contract, by the answer of read_rules.
 -- Assumes nothing.
 use mathlib.Core.Path.{sym, _∙_}
-use borrow.Author.Needs.{needs}
+use Rattle.text.specs.Read.{refusedBy, refusalPlace, imageLength}
+use Rattle.image.specs.Refusals.{refusalNumber}
 use Rattle.ffi.specs.Numbers.{readNumber, readWords}
+use borrow.Author.Needs.{needs}
 use Rattle.ffi.proofs.watcher_read_rules.Statement.{statement}
 use Rattle.ffi.proofs.watcher_read_rules.Tie as tie
 
@@ -22,7 +24,7 @@ same-length-2 : tie.Need-same-length-2
 same-length-2 c = search needs
 
 returns : tie.Need-returns
-unfolding readNumber readWords
+unfolding readNumber readWords refusalNumber refusedBy imageLength refusalPlace
 returns c =
     let called = c .before .before .before .before .before .before .before .before .read-rules in
     let answer = sym (called .ensures .0) ∙ c .before .before .n .given .1 in
@@ -35,7 +37,7 @@ same-length-4 : tie.Need-same-length-4
 same-length-4 c = search needs
 
 returns-2 : tie.Need-returns-2
-unfolding readNumber readWords
+unfolding readNumber readWords refusalNumber refusedBy imageLength refusalPlace
 returns-2 c =
     let called = c .before .before .before .before .before .before .before .before .read-rules in
     let answer = sym (called .ensures .0) ∙ c .before .before .n2 .given .1 in
