@@ -6,7 +6,7 @@ use mathlib.Core.Bool.{true, false}
 use mathlib.Core.Option.{Option, none, some}
 use mathlib.Core.List.{List, [], _∷_, _++_, map}
 use native.Mathlib.Omega.{arith}
-use lib.ListN.{length, drop, length-append, length-drop}
+use lib.ListN.{length, drop}
 use lib.Seq.{take-append-seam, drop-append-seam}
 use borrow.Author.Tests.{leb-true, lt-leb, le-leb}
 use Rattle.rewriting.proofs.Lists.{length-over}

@@ -1,15 +1,15 @@
 -- The tests on bytes, and what a run is by its first byte and its length, by the cases that the code takes apart.
 -- Assumes nothing.
-use Prim.Native.Nat.{ℕ, zero, suc, _+_, _-_, _≤_, _<_}
+use Prim.Native.Nat.{ℕ, suc, _-_, _≤_, _<_}
 use mathlib.Core.Path.{_≡_, refl, sym, ap, _∙_}
-use mathlib.Core.Bool.{Bool, true, false, cond, _&&_, _||_}
+use mathlib.Core.Bool.{Bool, true, false, cond}
 use mathlib.Core.List.{List, [], _∷_}
 use native.Mathlib.Omega.{arith}
 use native.Mathlib.Nat.{not-suc-le-zero}
 use lib.Dec.{eqb, leb}
 use lib.ListN.{length, getD, drop, length-drop}
 use lib.Seq.{drop-cons}
-use borrow.Author.Tests.{eqb-true, eq-eqb, ne-eqb, le-leb, lt-leb}
+use borrow.Author.Tests.{eqb-true, ne-eqb, le-leb, lt-leb}
 use Rattle.rewriting.specs.Lists.{same, between}
 use Rattle.text.specs.declared.Kind.{Kind}
 use Rattle.text.specs.declared.Kind.the-variants as kinds

@@ -1,9 +1,9 @@
 -- The bytes of a run, one by one: the loop over the bytes of a name.
 -- Assumes nothing.
-use Prim.Native.Nat.{ℕ, zero, suc, _+_, _-_, _≤_, _<_}
+use Prim.Native.Nat.{ℕ, suc, _+_, _-_, _≤_, _<_}
 use mathlib.Core.Path.{_≡_, refl, sym, ap, _∙_}
-use mathlib.Core.Bool.{Bool, true, false, _&&_}
-use mathlib.Core.Option.{Option, none}
+use mathlib.Core.Bool.{Bool, true, false}
+use mathlib.Core.Option.{none}
 use mathlib.Core.List.{List, [], _∷_}
 use native.Mathlib.Omega.{arith}
 use native.Mathlib.Numerals.{add-one}
@@ -12,9 +12,9 @@ use lib.ListN.{length, getD, take, drop, length-drop, drop-of-length-le, List·g
 use lib.Seq.{drop-cons, drop-drop}
 use borrow.Rule.Slice.PartAt.{part-to-end}
 use borrow.Author.Tests.{ltb-true, ltb-false, eqb-true}
-use Rattle.rewriting.specs.Lists.{all, prefix}
+use Rattle.rewriting.specs.Lists.{all}
 use Rattle.text.specs.declared.Kind.{Kind}
-use Rattle.text.specs.Tokens.{separator, nameByte, unbroken, Token, tokenOf}
+use Rattle.text.specs.Tokens.{separator, nameByte, unbroken, tokenOf}
 use Rattle.text.specs.Scanned.{lead, kindOf, tokenAs}
 use Rattle.text.specs.Held.{Named}
 use Rattle.text.proofs.Bytes.{false-true, name-no-separator}
@@ -161,8 +161,8 @@ bytes-some text start end e some = rw (bytes-rest text start end e) (omega (arit
 
 module _ {text : List ℕ} {start from : ℕ} (l : Leading text start from) where
   -- a byte of the name may not be in one
-  pub run-none : all nameByte (restOf text from) ≡ false → tokenOf (restOf text start) ≡ none
-  run-none e =
+  pub run-no-token : all nameByte (restOf text from) ≡ false → tokenOf (restOf text start) ≡ none
+  run-no-token e =
       let by = told (restOf text start) .0 in
       rw (← l .name, e) at by
 

@@ -101,13 +101,6 @@ run-some (b ∷ t) h = go (separator b) refl (run-some t)
     go true e ih = rw e (ih (le-of-suc-le-suc (rw e at h)))
     go false e ih = rw (e, e) (omega arith)
 
-pub run-none : (t : List ℕ) → length (unbroken (drop (gap t) t)) ≡ 0 → gap t ≡ length t
-run-none t e = go (ltb (gap t) (length t)) refl
-  where
-    go : (b : Bool) → ltb (gap t) (length t) ≡ b → gap t ≡ length t
-    go true more = absurd (omega (arith, e, run-some t (ltb-true (gap t) (length t) more)))
-    go false more = omega (arith, ltb-false (gap t) (length t) more, gap-le t)
-
 pub run-end : (t : List ℕ) → gap t + length (unbroken (drop (gap t) t)) ≤ length t
 run-end t = omega (arith, gap-le t, unbroken-le (drop (gap t) t), length-drop (gap t) t)
 

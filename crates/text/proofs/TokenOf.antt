@@ -1,8 +1,8 @@
 -- Which token a run is, by its kind and the bytes of its name.
 -- Assumes nothing.
-use Prim.Native.Nat.{ℕ, suc}
-use mathlib.Core.Path.{_≡_, refl, sym, _∙_}
-use mathlib.Core.Bool.{Bool, true, false, cond, _&&_}
+use Prim.Native.Nat.{ℕ}
+use mathlib.Core.Path.{_≡_, refl, _∙_}
+use mathlib.Core.Bool.{Bool, true, false, cond, _&&_, and-true, and-false}
 use mathlib.Core.Option.{Option, none}
 use mathlib.Core.List.{List, [], _∷_}
 use native.Mathlib.Omega.{arith}
@@ -30,14 +30,6 @@ Told k run =
 letter-named : (b : ℕ) → letter b ≡ true → nameByte b ≡ true
 unfolding nameByte
 letter-named b e = rw e
-
-and-true : (a : Bool) → (a && true) ≡ a
-and-true true = refl
-and-true false = refl
-
-and-false : (a : Bool) → (a && false) ≡ false
-and-false true = refl
-and-false false = refl
 
 -- a name by its length, its first letter and its bytes
 name-is : (y : ℕ) (u : List ℕ) → isName (y ∷ u) ≡ ((leb (length (y ∷ u)) 24 && letter y) && all nameByte (y ∷ u))
@@ -77,13 +69,13 @@ no-name-hash : (t : List ℕ) → isName (35 ∷ t) ≡ false
 unfolding isName letter
 no-name-hash t = refl
 
-no-name : isName [] ≡ false
+empty-no-name : isName [] ≡ false
 unfolding isName
-no-name = refl
+empty-no-name = refl
 
 told-hash : (t : List ℕ) → Told (kindOf (35 ∷ t)) (35 ∷ t)
 unfolding tokenOf kindOf tokenAs namedAs lead
-told-hash [] = rw (no-name-hash [], no-name) (refl, λ h. tt)
+told-hash [] = rw (no-name-hash [], empty-no-name) (refl, λ h. tt)
 told-hash (y ∷ u) = go (leb (length (y ∷ u)) 24 && letter y) refl (name-is y u)
   where
     go :

@@ -1,7 +1,7 @@
 -- The symbol with a name, by the name slots that the reader wrote. That it is the one that the text's names give:
 -- `lookup-read` (proofs/Lookup.antt).
 use Prim.Native.Nat.{ℕ, zero, suc}
-use mathlib.Core.Bool.{Bool, cond, _&&_}
+use mathlib.Core.Bool.{cond, _&&_}
 use mathlib.Core.Option.{Option, none, some, Option·map}
 use mathlib.Core.List.{List}
 use lib.Dec.{leb}

@@ -1,8 +1,8 @@
 -- `text::read_rules` meets its contract.
 -- Assumes nothing.
-use mathlib.Core.Path.{refl, sym, _∙_}
+use mathlib.Core.Path.{refl}
 use borrow.Author.Needs.{needs}
-use Rattle.text.proofs.Writing.{small, image-size, refused-1, refused-image, refused-names, text-bad, text-good, good-outcome, good-names, parts}
+use Rattle.text.proofs.Writing.{small, refused-1, refused-image, refused-names, text-bad, text-good, good-outcome, good-names, parts}
 use Rattle.text.proofs.read_rules.Statement.{statement}
 use Rattle.text.proofs.read_rules.Tie as tie
 

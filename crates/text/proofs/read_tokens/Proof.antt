@@ -2,14 +2,14 @@
 -- inner one's: the bytes of the name before `end` may be in one, and those behind decide.
 -- Assumes nothing.
 use Prim.Native.Nat.{_+_, _-_}
-use mathlib.Core.Path.{_≡_, refl, sym, ap, _∙_}
+use mathlib.Core.Path.{refl, sym, ap, _∙_}
 use native.Mathlib.Omega.{arith}
 use lib.ListN.{length}
 use borrow.Author.Needs.{needs}
 use borrow.Author.Tests.{not-true, not-false}
 use Rattle.text.specs.Tokens.{separator, nameByte}
 use Rattle.text.proofs.Runs.{start-within, next-none, next-run}
-use Rattle.text.proofs.RunBytes.{leading, Scanning, scanning-first, scanning-inside, scanning-next, scanning-stop, scanning-passed, scanning-breaks, bytes-some, run-none, run-token, run-named}
+use Rattle.text.proofs.RunBytes.{leading, Scanning, scanning-first, scanning-inside, scanning-next, scanning-stop, scanning-passed, scanning-breaks, bytes-some, run-no-token, run-token, run-named}
 use Rattle.text.proofs.Reading.{Going, going-first, going-held, symbols-size, words-size, going-ended, no-token, broken, going-on}
 use Rattle.text.proofs.read_tokens.Statement.{statement}
 use Rattle.text.proofs.read_tokens.Tie as tie
@@ -289,7 +289,7 @@ returns-2 c =
     let e = c .before .before .before .before .before .loop in
     let b = c .before .before .before .before .byte-at .ensures in
     let n = next-run t (l .at) (l .inv .inside) (f .result) (f .ensures) (c .before .before .before .before .before .before .before .before .if1 .left) _ refl in
-    no-token (l .inv) n _ _ _ _ (run-none d (scanning-breaks (e .inv) (ap nameByte (sym b) ∙ sym (c .before .before .before .is-name-byte .ensures) ∙ not-true _ (c .before .before .if2 .taken)) (ap separator (sym b) ∙ sym (c .before .is-separator .ensures) ∙ c .if3 .left)))
+    no-token (l .inv) n _ _ _ _ (run-no-token d (scanning-breaks (e .inv) (ap nameByte (sym b) ∙ sym (c .before .before .before .is-name-byte .ensures) ∙ not-true _ (c .before .before .if2 .taken)) (ap separator (sym b) ∙ sym (c .before .is-separator .ensures) ∙ c .if3 .left)))
 
 same-length-9 : tie.Need-same-length-9 Inv-loop μ-loop Inv-tokens μ-tokens
 same-length-9 c =

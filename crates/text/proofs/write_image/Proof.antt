@@ -1,6 +1,6 @@
 -- `text::write_image` meets its contract.
 -- Assumes nothing.
-use Prim.Native.Nat.{_+_, _*_}
+
 use mathlib.Core.Path.{_∙_}
 use native.Mathlib.Omega.{arith}
 use lib.ListN.{length-set}

@@ -6,7 +6,7 @@ use native.Mathlib.Numerals.{add-one}
 use native.Mathlib.Omega.{arith}
 use lib.ListN.{length, set, replicate}
 use borrow.Author.Needs.{needs}
-use Rattle.rewriting.proofs.Copying.{Copying, copying-first, copying-length, copying-next, copying-last}
+use Rattle.rewriting.proofs.Copying.{Copying, copying-first, copying-next, copying-last}
 use Rattle.text.proofs.Slots.{slot-made}
 use Rattle.text.proofs.names.slot_of.Statement.{statement}
 use Rattle.text.proofs.names.slot_of.Tie as tie
