@@ -7,6 +7,7 @@ ghost use Rattle.image.specs.Refusals.{refusalNumber};
 ghost use Rattle.table.specs.Compile.{compileOf, wordCount};
 ghost use Rattle.table.specs.Check.{checkOf};
 ghost use Rattle.text.specs.Read.{readOf};
+ghost use Rattle.text.specs.Lookup.{numberOr, symbolNamed};
 ghost use Rattle.monitor.specs.Areas.{documentCapacity};
 ghost use Rattle.monitor.specs.Calls.{freshOf, offerOf, goOnOf, refusedBy, answerNumber};
 ghost use Rattle.monitor.specs.Batch.{batchOf};
@@ -20,6 +21,7 @@ use monitor::Refusal;
 use monitor::Standing;
 use table::Checked;
 use table::Compiled;
+use text::Found;
 use text::Read;
 
 // read_rules: 0, or the refusal's number; in `out` the image's length and 0, beside a refusal 0 and its place.
@@ -44,6 +46,17 @@ pub extern "C" fn watcher_read_rules(
             *out = [0, place as u64];
             n
         }
+    }
+}
+
+// symbol: the number of the symbol with this name, by the name slots that read_rules writes; 32 where there is none.
+#[no_mangle]
+pub extern "C" fn watcher_symbol(names: &[u8], name: &[u8]) -> u32
+    ensures { λ r. ⌜ r ≡ numberOr 32 (symbolNamed (now (names .entry)) (now (name .entry))) ⌝ }
+{
+    match text::symbol(names, name) {
+        Found::Symbol(i) => i as u32,
+        Found::None => 32,
     }
 }
 

@@ -89,6 +89,15 @@ slot-below key (suc n) area i e =
 
 -- The lookup of x in an area.
 module _ (area x : List ℕ) where
+  -- what is found is one of 32 symbols
+  pub lookup-below : (i : ℕ) → symbolNamed area x ≡ some i → i < 32
+  unfolding symbolNamed
+  lookup-below i e = go (between 1 (length x) 24 && leb 800 (length area)) e
+    where
+      go : (b : Bool) → cond b (slotAt (slot x) 32 area) none ≡ some i → i < 32
+      go true f = slot-below (slot x) 32 area i f
+      go false f = let z : _≡_ {A = ℕ} 0 1 = cc in absurd (omega arith)
+
   pub no-name : length x < 1 → none ≡ symbolNamed area x
   unfolding symbolNamed
   no-name h = rw (lt-leb 1 (length x) h)

@@ -1,7 +1,7 @@
 /*!
 The C functions with safe signatures: the same parameters, the same results.
 
-Each function returns 0 or a refusal's number, and writes its other results to `out`. Programs will
+Each function but [`symbol`] returns 0 or a refusal's number, and writes its other results to `out`. Programs will
 want [`read_rules`](crate::read_rules), [`compile`](crate::compile),
 [`check_table`](crate::check_table) and [`Monitor`](crate::Monitor) instead; these are for those that
 look at `out` beside a refusal or keep head and areas themselves, as the tests do.
@@ -32,6 +32,8 @@ extern "C" {
         names_len: usize,
         out: *mut u64,
     ) -> u32;
+
+    fn watcher_symbol(names: *const u8, names_len: usize, name: *const u8, name_len: usize) -> u32;
 
     fn watcher_compile(
         image: *const u8,
@@ -142,6 +144,22 @@ pub fn read_rules(text: &[u8], image: &mut [u8], names: &mut [u8], out: &mut [u6
             out.as_mut_ptr(),
         )
     }
+}
+
+/// Says which symbol has a name, by the name slots that [`read_rules`] writes: returns its number, or 32
+/// if none has it.
+///
+/// # Example
+///
+/// ```
+/// let mut names = [0; 1_200];
+/// watcher::raw::read_rules(b"events up down .", &mut [0; 1_284], &mut names, &mut [0; 2]);
+/// assert_eq!(watcher::raw::symbol(&names, b"down"), 1);
+/// assert_eq!(watcher::raw::symbol(&names, b"left"), 32);
+/// ```
+pub fn symbol(names: &[u8], name: &[u8]) -> u32 {
+    // SAFETY: as above.
+    unsafe { watcher_symbol(names.as_ptr(), names.len(), name.as_ptr(), name.len()) }
 }
 
 /// Writes the table of a rule image into `table`: returns 0, or refusal 7 or 8.

@@ -130,9 +130,8 @@ impl Names {
 
     /// The symbol with this name.
     pub fn symbol(&self, name: impl AsRef<[u8]>) -> Option<u8> {
-        let name = name.as_ref();
-        (0..SYMBOL_SLOTS as u8)
-            .find(|&symbol| self.name_of_symbol(symbol).map(str::as_bytes) == Some(name))
+        let number = raw::symbol(&self.slots, name.as_ref());
+        (number < SYMBOL_SLOTS as u32).then_some(number as u8)
     }
 
     /// The name of a symbol.

@@ -12,13 +12,13 @@ use watcher::raw;
 const MARGIN: usize = 16;
 
 /// An area with a margin on both sides.
-pub(super) struct Guarded<T> {
+pub struct Guarded<T> {
     buffer: Vec<T>,
     margin: T,
 }
 
 impl<T: Copy + PartialEq + Debug> Guarded<T> {
-    pub(super) fn new(area: &[T], margin: T) -> Guarded<T> {
+    pub fn new(area: &[T], margin: T) -> Guarded<T> {
         let mut buffer = Vec::with_capacity(MARGIN + area.len() + MARGIN);
         buffer.extend([margin; MARGIN]);
         buffer.extend_from_slice(area);
@@ -26,14 +26,14 @@ impl<T: Copy + PartialEq + Debug> Guarded<T> {
         Guarded { buffer, margin }
     }
 
-    pub(super) fn area(&mut self) -> &mut [T] {
+    pub fn area(&mut self) -> &mut [T] {
         let end = self.buffer.len() - MARGIN;
         &mut self.buffer[MARGIN..end]
     }
 
     /// Expects that the area is this one, and that the margins are as they were.
     #[track_caller]
-    pub(super) fn expect(&mut self, wanted: &[T], name: &str, call: &dyn Fn() -> String) {
+    pub fn expect(&mut self, wanted: &[T], name: &str, call: &dyn Fn() -> String) {
         let margin = [self.margin; MARGIN];
         let end = self.buffer.len() - MARGIN;
         if self.buffer[..MARGIN] != margin || self.buffer[end..] != margin {
