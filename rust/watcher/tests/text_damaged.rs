@@ -15,6 +15,9 @@ const SAMPLE: &[u8] =
 const BYTES: &[u8] =
     b" \t\r\n#.->az_AZ09es%@[`{/:,!\0\x08\x0b\x0c\x0e\x1f\x7f\x80\x85\xa0\xc3\xe9\xff";
 
+/// Some of them.
+const FEW: &[u8] = b" #.->aZ_9\0\xff";
+
 /// Texts of many kinds, none of them long.
 fn texts() -> Vec<Vec<u8>> {
     let mut random = Random::new(3_001);
@@ -87,7 +90,11 @@ fn full_texts_with_one_byte_damaged() {
         let text = &text[..text.len().min(MAX_TEXT_BYTES - 1)];
         for _ in 0..60 {
             let place = random.within(0, text.len());
-            damage(text, place..=place, b" #.->aZ_9\0\xff", &mut tally);
+            damage(text, place..=place, FEW, &mut tally);
+        }
+        // At every place one byte changed, dropped and added.
+        for place in 0..text.len() {
+            damage(text, place..=place, &[FEW[random.below(FEW.len())]], &mut tally);
         }
     }
     tally.expect(100, [1_000, 20, 500, 0]);
@@ -154,7 +161,7 @@ fn texts_cut_at_every_byte() {
     tally.expect(50, [20, 1_000, 0, 0]);
 }
 
-/// A long text cut at many places.
+/// A long text cut at every byte.
 #[test]
 fn long_text_cut() {
     let mut random = Random::new(3_004);
@@ -163,7 +170,7 @@ fn long_text_cut() {
     let text = &text[..text.len().min(MAX_TEXT_BYTES)];
     assert!(text.len() > 10_000);
     let mut tally = Tally::default();
-    for place in (0..=text.len()).step_by(13) {
+    for place in 0..=text.len() {
         tally.add(&read(&text[..place]));
     }
     // A name cut short may be a symbol too many.
