@@ -7,13 +7,19 @@ use Rattle.text.proofs.read_rules.Statement.{statement}
 use Rattle.text.proofs.read_rules.Tie as tie
 
 returns : tie.Need-returns
-returns c = parts _ _ _ _ (refused-1 (c .before .before .before .before .args .text .now) (c .before .before .before .before .args .image .now) (c .before .before .before .before .args .names .now) (c .if1 .taken))
+returns c =
+    let a = c .before .before .before .before .args in
+    parts _ _ _ _ (refused-1 (a .text .now) (a .image .now) (a .names .now) (c .if1 .taken))
 
 returns-2 : tie.Need-returns-2
-returns-2 c = parts _ _ _ _ (refused-image (c .before .before .before .before .before .args .text .now) (c .before .before .before .before .before .args .image .now) (c .before .before .before .before .before .args .names .now) (c .before .if1 .left) (c .if2 .taken))
+returns-2 c =
+    let a = c .before .before .before .before .before .args in
+    parts _ _ _ _ (refused-image (a .text .now) (a .image .now) (a .names .now) (c .before .if1 .left) (c .if2 .taken))
 
 returns-3 : tie.Need-returns-3
-returns-3 c = parts _ _ _ _ (refused-names (c .before .before .before .before .before .before .args .text .now) (c .before .before .before .before .before .before .args .image .now) (c .before .before .before .before .before .before .args .names .now) (c .before .before .if1 .left) (c .before .if2 .left) (c .if3 .taken))
+returns-3 c =
+    let a = c .before .before .before .before .before .before .args in
+    parts _ _ _ _ (refused-names (a .text .now) (a .image .now) (a .names .now) (c .before .before .if1 .left) (c .before .if2 .left) (c .if3 .taken))
 
 slice-aggregate-read-tokens : tie.Need-slice-aggregate-read-tokens
 slice-aggregate-read-tokens c = search needs
@@ -43,7 +49,17 @@ slice-aggregate-write-image-2 : tie.Need-slice-aggregate-write-image-2
 slice-aggregate-write-image-2 c = search needs
 
 write-image-requires : tie.Need-write-image-requires
-write-image-requires c κs = let g = (text-good (c .before .before .before .before .before .before .before .before .before .before .before .before .before .before .before .before .before .before .before .before .before .args .text .now) (c .before .before .before .before .before .before .before .before .before .before .before .before .before .before .before .before .before .before .before .before .before .args .image .now) (c .before .before .before .before .before .before .before .before .before .before .before .before .before .before .before .before .before .before .before .before .before .args .names .now) (c .before .before .before .before .before .before .before .before .before .before .before .before .before .before .before .before .before .if1 .left) (c .before .before .before .before .before .before .before .before .before .before .before .before .before .before .before .before .if2 .left) (c .before .before .before .before .before .before .before .before .before .before .before .before .before .before .before .if3 .left) _ _ _ _ _ _ (c .before .before .before .before .reader .given .1) (c .before .before .before .before .before .before .before .before .before .before .read-tokens .ensures)) in (small (g .sound) (g .complete) (g .keeps) (c .before .before .before .before .before .before .before .before .before .before .before .before .before .before .before .before .before .before .before .before .before .args .image .now) (c .before .before .before .before .before .before .before .before .before .before .before .before .before .before .before .before .if2 .left), (g .keeps .contents-size, (g .keeps .bodies-size, c .before .before .before .before .before .before .before .before .before .before .before .before .before .before .before .before .if2 .left)))
+write-image-requires c κs =
+    let k = c .before .before .before .before .before .before .before .before .before .before .before .before .before .before .before in
+    let a = k .before .before .before .before .before .before .args in
+    let short = k .before .before .if1 .left in
+    let image-room = k .before .if2 .left in
+    let names-room = k .if3 .left in
+    let g =
+    text-good (a .text .now) (a .image .now) (a .names .now) short image-room names-room _ _ _ _ _ _
+    (c .before .before .before .before .reader .given .1) (c .before .before .before .before .before .before .before .before .before .before .read-tokens .ensures)
+    in
+    (small (g .sound) (g .complete) (g .keeps) (a .image .now) image-room, (g .keeps .contents-size, (g .keeps .bodies-size, image-room)))
 
 slice-aggregate-write-names : tie.Need-slice-aggregate-write-names
 slice-aggregate-write-names c = search needs
@@ -55,7 +71,15 @@ write-names-requires : tie.Need-write-names-requires
 write-names-requires c κs = search needs
 
 returns-4 : tie.Need-returns-4
-returns-4 c = parts _ _ _ _ (text-bad (c .before .before .before .before .before .before .before .before .before .before .before .before .before .before .before .before .before .before .args .text .now) (c .before .before .before .before .before .before .before .before .before .before .before .before .before .before .before .before .before .before .args .image .now) (c .before .before .before .before .before .before .before .before .before .before .before .before .before .before .before .before .before .before .args .names .now) (c .before .before .before .before .before .before .before .before .before .before .before .before .before .before .if1 .left) (c .before .before .before .before .before .before .before .before .before .before .before .before .before .if2 .left) (c .before .before .before .before .before .before .before .before .before .before .before .before .if3 .left) _ _ _ _ _ _ _ (c .before .n .given .1) (c .before .before .before .before .before .before .before .read-tokens .ensures))
+returns-4 c =
+    let k = c .before .before .before .before .before .before .before .before .before .before .before .before in
+    let a = k .before .before .before .before .before .before .args in
+    let short = k .before .before .if1 .left in
+    let image-room = k .before .if2 .left in
+    let names-room = k .if3 .left in
+    parts _ _ _ _
+    (text-bad (a .text .now) (a .image .now) (a .names .now) short image-room names-room _ _ _ _ _ _ _ (c .before .n .given .1)
+    (c .before .before .before .before .before .before .before .read-tokens .ensures))
 
 same-length : tie.Need-same-length
 same-length c = search needs
@@ -64,7 +88,23 @@ same-length-2 : tie.Need-same-length-2
 same-length-2 c = search needs
 
 returns-5 : tie.Need-returns-5
-returns-5 c = let g = (text-good (c .before .before .before .before .before .before .before .before .before .before .before .before .before .before .before .before .before .before .before .before .before .before .before .before .before .before .before .before .before .before .args .text .now) (c .before .before .before .before .before .before .before .before .before .before .before .before .before .before .before .before .before .before .before .before .before .before .before .before .before .before .before .before .before .before .args .image .now) (c .before .before .before .before .before .before .before .before .before .before .before .before .before .before .before .before .before .before .before .before .before .before .before .before .before .before .before .before .before .before .args .names .now) (c .before .before .before .before .before .before .before .before .before .before .before .before .before .before .before .before .before .before .before .before .before .before .before .before .before .before .if1 .left) (c .before .before .before .before .before .before .before .before .before .before .before .before .before .before .before .before .before .before .before .before .before .before .before .before .before .if2 .left) (c .before .before .before .before .before .before .before .before .before .before .before .before .before .before .before .before .before .before .before .before .before .before .before .before .if3 .left) _ _ _ _ _ _ (c .before .before .before .before .before .before .before .before .before .before .before .before .before .reader .given .1) (c .before .before .before .before .before .before .before .before .before .before .before .before .before .before .before .before .before .before .before .read-tokens .ensures)) in let w = c .before .before .before .before .before .before .before .before .write-image .ensures _ _ (g .reading) (g .sound) (g .complete) (g .keeps) in rw (w .0, w .1, c .before .before .write-names .ensures, good-names (c .before .before .before .before .before .before .before .before .before .before .before .before .before .before .before .before .before .before .before .before .before .before .before .before .before .before .before .before .before .before .args .text .now) (c .before .before .before .before .before .before .before .before .before .before .before .before .before .before .before .before .before .before .before .before .before .before .before .before .before .before .before .before .before .before .args .image .now) (c .before .before .before .before .before .before .before .before .before .before .before .before .before .before .before .before .before .before .before .before .before .before .before .before .before .before .before .before .before .before .args .names .now) (c .before .before .before .before .before .before .before .before .before .before .before .before .before .before .before .before .before .before .before .before .before .before .before .before .before .before .if1 .left) (c .before .before .before .before .before .before .before .before .before .before .before .before .before .before .before .before .before .before .before .before .before .before .before .before .before .if2 .left) (c .before .before .before .before .before .before .before .before .before .before .before .before .before .before .before .before .before .before .before .before .before .before .before .before .if3 .left) g) (parts _ _ _ _ (good-outcome (c .before .before .before .before .before .before .before .before .before .before .before .before .before .before .before .before .before .before .before .before .before .before .before .before .before .before .before .before .before .before .args .text .now) (c .before .before .before .before .before .before .before .before .before .before .before .before .before .before .before .before .before .before .before .before .before .before .before .before .before .before .before .before .before .before .args .image .now) (c .before .before .before .before .before .before .before .before .before .before .before .before .before .before .before .before .before .before .before .before .before .before .before .before .before .before .before .before .before .before .args .names .now) (c .before .before .before .before .before .before .before .before .before .before .before .before .before .before .before .before .before .before .before .before .before .before .before .before .before .before .if1 .left) (c .before .before .before .before .before .before .before .before .before .before .before .before .before .before .before .before .before .before .before .before .before .before .before .before .before .if2 .left) (c .before .before .before .before .before .before .before .before .before .before .before .before .before .before .before .before .before .before .before .before .before .before .before .before .if3 .left) g))
+returns-5 c =
+    let k = c .before .before .before .before .before .before .before .before .before .before .before .before .before .before .before .before .before .before .before .before .before .before .before .before in
+    let a = k .before .before .before .before .before .before .args in
+    let short = k .before .before .if1 .left in
+    let image-room = k .before .if2 .left in
+    let names-room = k .if3 .left in
+    let g =
+    text-good (a .text .now) (a .image .now) (a .names .now) short image-room names-room _ _ _ _ _ _
+    (c .before .before .before .before .before .before .before .before .before .before .before .before .before .reader .given .1) (c .before .before .before .before .before .before .before .before .before .before .before .before .before .before .before .before .before .before .before .read-tokens .ensures)
+    in
+    let w = c .before .before .before .before .before .before .before .before .write-image .ensures _ _ (g .reading) (g .sound) (g .complete) (g .keeps) in
+    rw (
+      w .0,
+      w .1,
+      c .before .before .write-names .ensures,
+      good-names (a .text .now) (a .image .now) (a .names .now) short image-room names-room g,
+    ) (parts _ _ _ _ (good-outcome (a .text .now) (a .image .now) (a .names .now) short image-room names-room g))
 
 pub read-rules-spec : {M : Type 1} → statement M
 read-rules-spec =

@@ -29,29 +29,25 @@ abbrev μ-tokens : tie.MeasureT-tokens
     length text - at
 
 begin-requires : tie.Need-begin-requires Inv-loop μ-loop Inv-tokens μ-tokens
-begin-requires c κs =
-    c .before .before .before .before .before .before .pre .1 .0
+begin-requires c κs = c .before .before .before .before .before .before .pre .1 .0
 
 tokens-holds : tie.Need-tokens-holds Inv-loop μ-loop Inv-tokens μ-tokens
 tokens-holds c =
+    let q = c .before .before .before .before .before .before .before .before .before .pre in
     let t = c .before .before .before .before .before .before .before .before .before .args .text .now in
-    going-first t _ _ _ _ _ (c .before .before .begin .ensures .0) (c .before .before .before .before .before .before .before .before .before .pre .0) (c .before .before .begin .ensures .1) (c .before .before .before .before .before .before .before .before .before .pre .1 .1 .0) (c .before .before .before .before .before .before .before .before .before .pre .1 .1 .1)
+    going-first t _ _ _ _ _ (c .before .before .begin .ensures .0) (q .0) (c .before .before .begin .ensures .1) (q .1 .1 .0) (q .1 .1 .1)
 
 sub-gap-of : tie.Need-sub-gap-of Inv-loop μ-loop Inv-tokens μ-tokens
-sub-gap-of c =
-    c .tokens .inv .inside
+sub-gap-of c = c .tokens .inv .inside
 
 part-gap-of-start : tie.Need-part-gap-of-start Inv-loop μ-loop Inv-tokens μ-tokens
-part-gap-of-start c =
-    c .tokens .inv .inside
+part-gap-of-start c = c .tokens .inv .inside
 
 part-gap-of-end : tie.Need-part-gap-of-end Inv-loop μ-loop Inv-tokens μ-tokens
-part-gap-of-end c =
-    search needs
+part-gap-of-end c = search needs
 
 gap-of-requires : tie.Need-gap-of-requires Inv-loop μ-loop Inv-tokens μ-tokens
-gap-of-requires c κs =
-    search needs
+gap-of-requires c κs = search needs
 
 add-start : tie.Need-add-start Inv-loop μ-loop Inv-tokens μ-tokens
 add-start c =
@@ -61,8 +57,7 @@ add-start c =
     omega (arith, start-within t (l .at) (l .inv .inside) (f .result) (f .ensures))
 
 ended-requires : tie.Need-ended-requires Inv-loop μ-loop Inv-tokens μ-tokens
-ended-requires c κs =
-    search needs
+ended-requires c κs = search needs
 
 sub-lead-of : tie.Need-sub-lead-of Inv-loop μ-loop Inv-tokens μ-tokens
 sub-lead-of c =
@@ -79,12 +74,10 @@ part-lead-of-start c =
     start-within t (l .at) (l .inv .inside) (f .result) (f .ensures)
 
 part-lead-of-end : tie.Need-part-lead-of-end Inv-loop μ-loop Inv-tokens μ-tokens
-part-lead-of-end c =
-    search needs
+part-lead-of-end c = search needs
 
 lead-of-requires : tie.Need-lead-of-requires Inv-loop μ-loop Inv-tokens μ-tokens
-lead-of-requires c κs =
-    search needs
+lead-of-requires c κs = search needs
 
 add-from : tie.Need-add-from Inv-loop μ-loop Inv-tokens μ-tokens
 add-from c =
@@ -105,16 +98,13 @@ loop-holds c =
     scanning-first d
 
 byte-at-requires : tie.Need-byte-at-requires Inv-loop μ-loop Inv-tokens μ-tokens
-byte-at-requires c κs =
-    search needs
+byte-at-requires c κs = search needs
 
 is-name-byte-requires : tie.Need-is-name-byte-requires Inv-loop μ-loop Inv-tokens μ-tokens
-is-name-byte-requires c κs =
-    search needs
+is-name-byte-requires c κs = search needs
 
 is-separator-requires : tie.Need-is-separator-requires Inv-loop μ-loop Inv-tokens μ-tokens
-is-separator-requires c κs =
-    search needs
+is-separator-requires c κs = search needs
 
 add-end : tie.Need-add-end Inv-loop μ-loop Inv-tokens μ-tokens
 add-end c =
@@ -203,12 +193,10 @@ token-requires c κs =
     (going-held g, (x, (symbols-size g, words-size g, g .keeps .contents-size, g .keeps .bodies-size)))
 
 enum-known-next : tie.Need-enum-known-next Inv-loop μ-loop Inv-tokens μ-tokens
-enum-known-next c =
-    search needs
+enum-known-next c = search needs
 
 enum-known-n : tie.Need-enum-known-n Inv-loop μ-loop Inv-tokens μ-tokens
-enum-known-n c =
-    search needs
+enum-known-n c = search needs
 
 tokens-less : tie.Need-tokens-less Inv-loop μ-loop Inv-tokens μ-tokens
 tokens-less c =

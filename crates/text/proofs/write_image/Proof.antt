@@ -43,10 +43,14 @@ mul-copy : tie.Need-mul-copy
 mul-copy c = search needs
 
 copy-requires : tie.Need-copy-requires
-copy-requires c κs = (omega (arith, c .before .before .before .before .before .before .before .pre .0 .rules, c .before .before .before .before .before .before .before .pre .1 .0), rw (length-set, length-set, length-set, length-set) (omega (arith, c .before .before .before .before .before .before .before .pre .0 .rules, c .before .before .before .before .before .before .before .pre .1 .1 .1)))
+copy-requires c κs =
+    let q = c .before .before .before .before .before .before .before .pre in
+    (omega (arith, q .0 .rules, q .1 .0), rw (length-set, length-set, length-set, length-set) (omega (arith, q .0 .rules, q .1 .1 .1)))
 
 copy-requires-2 : tie.Need-copy-requires-2
-copy-requires-2 c κs = (omega (arith, c .before .before .before .before .before .before .before .before .before .before .before .pre .0 .bodies, c .before .before .before .before .before .before .before .before .before .before .before .pre .1 .1 .0), omega (arith, c .before .before .before .before .before .before .before .before .before .before .before .pre .0 .rules, c .before .before .before .before .before .before .before .before .before .before .before .pre .0 .bodies, c .before .before .before .copy .kept .1 .1 .0 ∙ length-four (c .before .before .before .before .before .before .before .before .before .before .before .args .image .now) _ _ _ _, c .before .before .before .before .before .before .before .before .before .before .before .pre .1 .1 .1))
+copy-requires-2 c κs =
+    let q = c .before .before .before .before .before .before .before .before .before .before .before .pre in
+    (omega (arith, q .0 .bodies, q .1 .1 .0), omega (arith, q .0 .rules, q .0 .bodies, c .before .before .before .copy .kept .1 .1 .0 ∙ length-four (c .before .before .before .before .before .before .before .before .before .before .before .args .image .now) _ _ _ _, q .1 .1 .1))
 
 add-result : tie.Need-add-result
 add-result c = search needs
@@ -55,7 +59,10 @@ same-length : tie.Need-same-length
 same-length c = c .before .before .copy2 .kept .1 .1 .0 ∙ c .before .before .before .before .before .before .copy .kept .1 .1 .0 ∙ length-four (c .before .before .before .before .before .before .before .before .before .before .before .before .before .before .args .image .now) _ _ _ _
 
 returns : tie.Need-returns
-returns c = λ a b s sound here k. (image-size sound here k (c .before .before .before .before .before .before .before .before .before .before .before .before .before .before .args .image .now) (c .before .before .before .before .before .before .before .before .before .before .before .before .before .before .pre .1 .1 .1), rw (c .before .before .copy2 .ensures, c .before .before .before .before .before .before .copy .ensures) (image-written sound here k (c .before .before .before .before .before .before .before .before .before .before .before .before .before .before .args .image .now) (c .before .before .before .before .before .before .before .before .before .before .before .before .before .before .pre .1 .1 .1)))
+returns c =
+    let lent = c .before .before .before .before .before .before .before .before .before .before .before .before .before .before .args in
+    let q = c .before .before .before .before .before .before .before .before .before .before .before .before .before .before .pre in
+    λ a b s sound here k. (image-size sound here k (lent .image .now) (q .1 .1 .1), rw (c .before .before .copy2 .ensures, c .before .before .before .before .before .before .copy .ensures) (image-written sound here k (lent .image .now) (q .1 .1 .1)))
 
 pub write-image-spec : {M : Type 1} → statement M
 write-image-spec =

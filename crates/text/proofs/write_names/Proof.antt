@@ -15,7 +15,10 @@ same-length : tie.Need-same-length
 same-length c = search needs
 
 returns : tie.Need-returns
-returns c = rw (c .before .before .copy2 .ensures, c .before .before .before .before .before .before .copy .ensures) (names-written (c .before .before .before .before .before .before .before .before .before .before .before .args .symbols .now) (c .before .before .before .before .before .before .before .before .before .before .before .args .words .now) (c .before .before .before .before .before .before .before .before .before .before .before .args .names .now) (c .before .before .before .before .before .before .before .before .before .before .before .pre .0) (c .before .before .before .before .before .before .before .before .before .before .before .pre .1 .0))
+returns c =
+    let a = c .before .before .before .before .before .before .before .before .before .before .before .args in
+    let q = c .before .before .before .before .before .before .before .before .before .before .before .pre in
+    rw (c .before .before .copy2 .ensures, c .before .before .before .before .before .before .copy .ensures) (names-written (a .symbols .now) (a .words .now) (a .names .now) (q .0) (q .1 .0))
 
 pub write-names-spec : {M : Type 1} → statement M
 write-names-spec = tie.close (tie.spec copy-requires copy-requires-2 same-length returns)

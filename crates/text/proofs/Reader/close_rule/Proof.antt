@@ -44,7 +44,9 @@ same-length c = search needs
 
 returns : tie.Need-returns
 unfolding closeRule
-returns c = λ a b d s closed k. rw (c .before .at .ensures, sets-four (c .before .before .before .before .args .contents .now) (4 * c .before .before .before .before .args .self .rules) (c .before .before .before .before .args .self .left) (c .before .before .before .before .args .self .kind) (c .before .before .before .before .args .self .side) 0) (keeps-rule k closed (c .before .before .before .before .pre))
+returns c =
+    let lent = c .before .before .before .before .args in
+    λ a b d s closed k. rw (c .before .at .ensures, sets-four (lent .contents .now) (4 * lent .self .rules) (lent .self .left) (lent .self .kind) (lent .self .side) 0) (keeps-rule k closed (c .before .before .before .before .pre))
 
 pub close-rule-spec : {M : Type 1} → statement M
 close-rule-spec =

@@ -22,7 +22,9 @@ enum-told-2 : tie.Need-enum-told-2
 enum-told-2 c = search needs
 
 event-requires : tie.Need-event-requires
-event-requires c κs = (omega (arith, symbol-room (c .before .before .before .before .before .before .pre .0), c .before .before .before .before .before .before .pre .1 .0), c .before .before .before .before .before .before .pre .1 .1 .1)
+event-requires c κs =
+    let q = c .before .before .before .before .before .before .pre in
+    (omega (arith, symbol-room (q .0), q .1 .0), q .1 .1 .1)
 
 enum-told-3 : tie.Need-enum-told-3
 enum-told-3 c = search needs
@@ -31,19 +33,25 @@ returns : tie.Need-returns
 returns c = λ b z s sound k. rw (rule-65 s (c .before .before .before .before .before .before .before .args .x .now) (place-at _ (s .place) (sym (place-number s (k .numbers)) ∙ c .before .before .enum-told3 .given .1)) (omega (arith, rules-number s (k .numbers), c .if1 .taken))) refl
 
 side-symbol-requires : tie.Need-side-symbol-requires
-side-symbol-requires c κs = (omega (arith, symbol-room (c .before .before .before .before .before .before .before .before .before .pre .0), c .before .before .before .before .before .before .before .before .before .pre .1 .0), (c .before .before .before .before .before .before .before .before .before .pre .1 .1 .1, λ low. omega (arith, first-room (c .before .before .before .before .before .before .before .before .before .pre .0) (c .before .before .before .before .enum-told3 .given .1) (c .before .before .if1 .left), c .before .before .before .before .before .before .before .before .before .pre .1 .1 .0)))
+side-symbol-requires c κs =
+    let q = c .before .before .before .before .before .before .before .before .before .pre in
+    (omega (arith, symbol-room (q .0), q .1 .0), (q .1 .1 .1, λ low. omega (arith, first-room (q .0) (c .before .before .before .before .enum-told3 .given .1) (c .before .before .if1 .left), q .1 .1 .0)))
 
 enum-told-4 : tie.Need-enum-told-4
 enum-told-4 c = search needs
 
 side-symbol-requires-2 : tie.Need-side-symbol-requires-2
-side-symbol-requires-2 c κs = (omega (arith, symbol-room (c .before .before .before .before .before .before .before .pre .0), c .before .before .before .before .before .before .before .pre .1 .0), (c .before .before .before .before .before .before .before .pre .1 .1 .1, λ low. omega (arith, left-room (c .before .before .before .before .before .before .before .pre .0) (c .before .before .enum-told4 .given .1) low, c .before .before .before .before .before .before .before .pre .1 .1 .0)))
+side-symbol-requires-2 c κs =
+    let q = c .before .before .before .before .before .before .before .pre in
+    (omega (arith, symbol-room (q .0), q .1 .0), (q .1 .1 .1, λ low. omega (arith, left-room (q .0) (c .before .before .enum-told4 .given .1) low, q .1 .1 .0)))
 
 enum-told-5 : tie.Need-enum-told-5
 enum-told-5 c = search needs
 
 side-symbol-requires-3 : tie.Need-side-symbol-requires-3
-side-symbol-requires-3 c κs = (omega (arith, symbol-room (c .before .before .before .before .before .before .before .pre .0), c .before .before .before .before .before .before .before .pre .1 .0), (c .before .before .before .before .before .before .before .pre .1 .1 .1, λ low. omega (arith, right-room (c .before .before .before .before .before .before .before .pre .0) (c .before .before .enum-told5 .given .1) low, c .before .before .before .before .before .before .before .pre .1 .1 .0)))
+side-symbol-requires-3 c κs =
+    let q = c .before .before .before .before .before .before .before .pre in
+    (omega (arith, symbol-room (q .0), q .1 .0), (q .1 .1 .1, λ low. omega (arith, right-room (q .0) (c .before .before .enum-told5 .given .1) low, q .1 .1 .0)))
 
 enum-told-6 : tie.Need-enum-told-6
 enum-told-6 c = search needs

@@ -25,13 +25,17 @@ returns-2 : tie.Need-returns-2
 returns-2 c = λ a z d told s sound k. let w = place-at _ (s .place) (sym (place-number s (k .numbers)) ∙ told) in rw (c .before .before .before .at .ensures) (word-epsilon k (w .0) (w .1 .0) (w .1 .1) (c .before .before .before .before .before .before .before .before .args .x .now) (c .before .before .before .before .if1 .left) (sym (c .before .is-same .ensures) ∙ c .if2 .taken))
 
 number-of-requires : tie.Need-number-of-requires
-number-of-requires c κs = (c .before .before .before .before .before .before .before .before .before .pre .0, name-short _ (c .before .before .before .before .before .before .before .before .before .pre .1))
+number-of-requires c κs =
+    let q = c .before .before .before .before .before .before .before .before .before .pre in
+    (q .0, name-short _ (q .1))
 
 same-length : tie.Need-same-length
 same-length c = search needs
 
 returns-3 : tie.Need-returns-3
-returns-3 c = λ a z d told s sound k. let w = place-at _ (s .place) (sym (place-number s (k .numbers)) ∙ told) in word-17 k (w .0) (w .1 .0) (w .1 .1) (c .before .before .before .before .before .before .before .before .before .before .before .before .before .before .args .x .now) sound (c .before .before .before .before .before .before .before .before .before .before .before .before .before .before .pre .1) (c .before .before .before .before .before .before .before .before .before .before .if1 .left) (sym (c .before .before .before .before .before .before .before .is-same .ensures) ∙ c .before .before .before .before .before .before .if2 .left) _ _ (c .before .before .before .before .number-of .ensures 16 (s .words) (k .word-slots) (words-number s (k .numbers)) (sound .few-words) (sound .words-named) (c .before .before .before .before .before .before .before .before .before .before .before .before .before .before .pre .1)) (c .if3 .taken)
+returns-3 c =
+    let q = c .before .before .before .before .before .before .before .before .before .before .before .before .before .before .pre in
+    λ a z d told s sound k. let w = place-at _ (s .place) (sym (place-number s (k .numbers)) ∙ told) in word-17 k (w .0) (w .1 .0) (w .1 .1) (c .before .before .before .before .before .before .before .before .before .before .before .before .before .before .args .x .now) sound (q .1) (c .before .before .before .before .before .before .before .before .before .before .if1 .left) (sym (c .before .before .before .before .before .before .before .is-same .ensures) ∙ c .before .before .before .before .before .before .if2 .left) _ _ (c .before .before .before .before .number-of .ensures 16 (s .words) (k .word-slots) (words-number s (k .numbers)) (sound .few-words) (sound .words-named) (q .1)) (c .if3 .taken)
 
 cast-next : tie.Need-cast-next
 cast-next c = search needs
@@ -40,7 +44,9 @@ same-length-2 : tie.Need-same-length-2
 same-length-2 c = search needs
 
 returns-4 : tie.Need-returns-4
-returns-4 c = λ a z d told s sound k. let w = place-at _ (s .place) (sym (place-number s (k .numbers)) ∙ told) in rw (c .before .before .before .before .before .before .before .before .before .before .at .ensures) (word-verdict k (w .0) (w .1 .0) (w .1 .1) (c .before .before .before .before .before .before .before .before .before .before .before .before .before .before .before .args .x .now) sound (c .before .before .before .before .before .before .before .before .before .before .before .before .before .before .before .pre .1) (c .before .before .before .before .before .before .before .before .before .before .before .if1 .left) (sym (c .before .before .before .before .before .before .before .before .is-same .ensures) ∙ c .before .before .before .before .before .before .before .if2 .left) _ _ (c .before .before .before .before .before .number-of .ensures 16 (s .words) (k .word-slots) (words-number s (k .numbers)) (sound .few-words) (sound .words-named) (c .before .before .before .before .before .before .before .before .before .before .before .before .before .before .before .pre .1)) (c .before .if3 .left))
+returns-4 c =
+    let q = c .before .before .before .before .before .before .before .before .before .before .before .before .before .before .before .pre in
+    λ a z d told s sound k. let w = place-at _ (s .place) (sym (place-number s (k .numbers)) ∙ told) in rw (c .before .before .before .before .before .before .before .before .before .before .at .ensures) (word-verdict k (w .0) (w .1 .0) (w .1 .1) (c .before .before .before .before .before .before .before .before .before .before .before .before .before .before .before .args .x .now) sound (q .1) (c .before .before .before .before .before .before .before .before .before .before .before .if1 .left) (sym (c .before .before .before .before .before .before .before .before .is-same .ensures) ∙ c .before .before .before .before .before .before .before .if2 .left) _ _ (c .before .before .before .before .before .number-of .ensures 16 (s .words) (k .word-slots) (words-number s (k .numbers)) (sound .few-words) (sound .words-named) (q .1)) (c .before .if3 .left))
 
 pub right-word-spec : {M : Type 1} → statement M
 right-word-spec =

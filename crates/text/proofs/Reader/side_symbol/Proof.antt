@@ -12,13 +12,17 @@ returns : tie.Need-returns
 returns c = λ b z side to s h sound k. ninth k (c .before .before .before .before .before .args .x .now) side to (h .size) (c .if1 .taken)
 
 number-of-requires : tie.Need-number-of-requires
-number-of-requires c κs = (c .before .before .before .before .before .before .pre .0, name-short _ (c .before .before .before .before .before .before .pre .1 .0))
+number-of-requires c κs =
+    let q = c .before .before .before .before .before .before .pre in
+    (q .0, name-short _ (q .1 .0))
 
 same-length : tie.Need-same-length
 same-length c = search needs
 
 returns-2 : tie.Need-returns-2
-returns-2 c = λ b z side to s h sound k. symbol-33 k (c .before .before .before .before .before .before .before .before .before .before .before .args .x .now) side to h sound (c .before .before .before .before .before .before .before .before .before .before .before .pre .1 .0) _ _ (c .before .before .before .before .number-of .ensures 32 (s .symbols) (k .symbol-slots) (symbols-number s (k .numbers)) (sound .few-symbols) (sound .symbols-named) (c .before .before .before .before .before .before .before .before .before .before .before .pre .1 .0)) (c .before .before .before .before .before .before .if1 .left) (c .if2 .taken)
+returns-2 c =
+    let q = c .before .before .before .before .before .before .before .before .before .before .before .pre in
+    λ b z side to s h sound k. symbol-33 k (c .before .before .before .before .before .before .before .before .before .before .before .args .x .now) side to h sound (q .1 .0) _ _ (c .before .before .before .before .number-of .ensures 32 (s .symbols) (k .symbol-slots) (symbols-number s (k .numbers)) (sound .few-symbols) (sound .symbols-named) (q .1 .0)) (c .before .before .before .before .before .before .if1 .left) (c .if2 .taken)
 
 cast-bodies : tie.Need-cast-bodies
 cast-bodies c = search needs
@@ -42,7 +46,9 @@ same-length-3 : tie.Need-same-length-3
 same-length-3 c = search needs
 
 returns-3 : tie.Need-returns-3
-returns-3 c = λ b z side to s h sound k. rw (c .before .at .ensures) (side-longer k (c .before .before .before .before .before .before .before .before .before .before .before .before .before .before .args .x .now) side to h sound (c .before .before .before .before .before .before .before .before .before .before .before .before .before .before .pre .1 .0) _ _ (c .before .before .before .before .before .before .before .number-of .ensures 32 (s .symbols) (k .symbol-slots) (symbols-number s (k .numbers)) (sound .few-symbols) (sound .symbols-named) (c .before .before .before .before .before .before .before .before .before .before .before .before .before .before .pre .1 .0)) (c .before .before .before .before .before .before .before .before .before .if1 .left) (c .before .before .before .if2 .left) (c .before .before .before .before .before .before .before .before .before .before .before .before .before .before .pre .1 .1 (c .before .before .before .before .before .before .before .before .before .if1 .left)))
+returns-3 c =
+    let q = c .before .before .before .before .before .before .before .before .before .before .before .before .before .before .pre in
+    λ b z side to s h sound k. rw (c .before .at .ensures) (side-longer k (c .before .before .before .before .before .before .before .before .before .before .before .before .before .before .args .x .now) side to h sound (q .1 .0) _ _ (c .before .before .before .before .before .before .before .number-of .ensures 32 (s .symbols) (k .symbol-slots) (symbols-number s (k .numbers)) (sound .few-symbols) (sound .symbols-named) (q .1 .0)) (c .before .before .before .before .before .before .before .before .before .if1 .left) (c .before .before .before .if2 .left) (q .1 .1 (c .before .before .before .before .before .before .before .before .before .if1 .left)))
 
 pub side-symbol-spec : {M : Type 1} → statement M
 side-symbol-spec =

@@ -23,13 +23,17 @@ returns : tie.Need-returns
 returns c = λ a b d s sound k. let here = place-at _ (s .place) (sym (place-number s (k .numbers)) ∙ c .before .before .enum-told2 .given .1) in stop-empty k (here .0) (here .1 .0) (here .1 .1) (c .if1 .taken)
 
 close-rule-requires : tie.Need-close-rule-requires
-close-rule-requires c κs = omega (arith, right-contents (c .before .before .before .before .before .before .pre .0) (c .before .before .before .enum-told2 .given .1), c .before .before .before .before .before .before .pre .1)
+close-rule-requires c κs =
+    let q = c .before .before .before .before .before .before .pre in
+    omega (arith, right-contents (q .0) (c .before .before .before .enum-told2 .given .1), q .1)
 
 enum-told-3 : tie.Need-enum-told-3
 enum-told-3 c = search needs
 
 close-rule-requires-2 : tie.Need-close-rule-requires-2
-close-rule-requires-2 c κs = omega (arith, ending-contents (c .before .before .before .before .pre .0) (c .before .enum-told3 .given .1), c .before .before .before .before .pre .1)
+close-rule-requires-2 c κs =
+    let q = c .before .before .before .before .pre in
+    omega (arith, ending-contents (q .0) (c .before .enum-told3 .given .1), q .1)
 
 returns-2 : tie.Need-returns-2
 returns-2 c = λ a b d s sound k. c .close-events .ensures a b _ d (c .before .enum-told .given .1) s sound k

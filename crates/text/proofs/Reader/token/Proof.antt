@@ -11,13 +11,17 @@ enum-told : tie.Need-enum-told
 enum-told c = search needs
 
 name-requires : tie.Need-name-requires
-name-requires c κs = (c .before .before .before .before .before .before .before .before .before .pre .0, (c .before .before .before .before .before .before .before .before .before .pre .1 .1 .0, (c .before .before .before .before .before .before .before .before .before .pre .1 .1 .3, rw (c .before .before .enum-told .given .1) at (c .before .before .before .before .before .before .before .before .before .pre .1 .0))))
+name-requires c κs =
+    let q = c .before .before .before .before .before .before .before .before .before .pre in
+    (q .0, (q .1 .1 .0, (q .1 .1 .3, rw (c .before .before .enum-told .given .1) at (q .1 .0))))
 
 enum-told-2 : tie.Need-enum-told-2
 enum-told-2 c = search needs
 
 word-requires : tie.Need-word-requires
-word-requires c κs = (c .before .before .before .before .before .before .before .before .pre .0, (c .before .before .before .before .before .before .before .before .pre .1 .1 .1, rw (c .before .enum-told2 .given .1) at (c .before .before .before .before .before .before .before .before .pre .1 .0)))
+word-requires c κs =
+    let q = c .before .before .before .before .before .before .before .before .pre in
+    (q .0, (q .1 .1 .1, rw (c .before .enum-told2 .given .1) at (q .1 .0)))
 
 enum-told-3 : tie.Need-enum-told-3
 enum-told-3 c = search needs

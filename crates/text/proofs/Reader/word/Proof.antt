@@ -13,7 +13,9 @@ enum-told : tie.Need-enum-told
 enum-told c = search needs
 
 right-word-requires : tie.Need-right-word-requires
-right-word-requires c κs = (omega (arith, word-room (c .before .before .before .before .before .pre .0), c .before .before .before .before .before .pre .1 .0), c .before .before .before .before .before .pre .1 .1)
+right-word-requires c κs =
+    let q = c .before .before .before .before .before .pre in
+    (omega (arith, word-room (q .0), q .1 .0), q .1 .1)
 
 same-length : tie.Need-same-length
 same-length c = search needs
