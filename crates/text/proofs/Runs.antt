@@ -13,7 +13,7 @@ use lib.Seq.{drop-cons, drop-drop}
 use borrow.Rule.Slice.PartAt.{part-to-end}
 use borrow.Author.Tests.{ltb-true, ltb-false}
 use Rattle.text.specs.declared.Run as code
-use Rattle.text.specs.Tokens.{separator, Run, unbroken, runsFrom}
+use Rattle.text.specs.Tokens.{separator, Run, unbroken, runsFrom, runs}
 use Rattle.text.specs.Scanned.{gap, firstRun}
 
 -- The separators are counted up to byte i.
@@ -184,6 +184,25 @@ module _
   pub run-first : _≡_ {A = code.Run} (record { start = start; end = start + size }) (firstRun t)
   unfolding firstRun
   run-first = λ i. record { start = s i; end = s i + sized i }
+
+-- The name reader finds the first of the runs of a part, or that there is none.
+pub first-none : (t : List ℕ) → firstRun t .start ≡ firstRun t .end → runs t ≡ []
+unfolding firstRun runs
+first-none t e = go (ltb (gap t) (length t)) refl
+  where
+    go : (b : Bool) → ltb (gap t) (length t) ≡ b → runs t ≡ []
+    go true more = absurd (omega (arith, e, run-some t (ltb-true (gap t) (length t) more)))
+    go false more = runs-none 0 t (omega (arith, ltb-false (gap t) (length t) more, gap-le t))
+
+pub first-some : (t : List ℕ) → firstRun t .start < firstRun t .end
+    → runs t
+    ≡ record { place = firstRun t .start; bytes = unbroken (drop (firstRun t .start) t) }
+    ∷ runsFrom true (firstRun t .end) (drop (firstRun t .end) t)
+unfolding firstRun runs
+first-some t h =
+    let here : 0 + gap t ≡ gap t = omega arith in
+    let last : 0 + endOf t ≡ endOf t = omega arith in
+    rw (here, last) at (runs-next 0 t (omega (arith, h, unbroken-le (drop (gap t) t), length-drop (gap t) t)))
 
 -- what is left of a run at the place i, and where it ends
 abbrev pub restOf : List ℕ → ℕ → List ℕ
