@@ -264,7 +264,7 @@ pub fn symbol(names: &[u8], x: &[u8]) -> Found
         return Found::None;
     }
     let key = names::slot_of(x);
-    let i = names::find(names, 32, &key);
+    let i = names::find(names, 32, &key, x.len());
     if i < 32 {
         return Found::Symbol(i);
     }

@@ -1,5 +1,5 @@
 // Name slots: 25 bytes each, a length byte, the name, zeros.
-ghost use Prim.Native.Nat.{ℕ, _+_, _*_, _≤_};
+ghost use Prim.Native.Nat.{ℕ, _+_, _*_, _≤_, _<_};
 ghost use mathlib.Core.Path.{_≡_};
 ghost use mathlib.Core.List.{List};
 ghost use lib.ListN.{length, take, drop};
@@ -25,7 +25,7 @@ pub fn slot_of(x: &[u8]) -> [u8; 25]
 
 // Whether the slot that begins at `at` is the one given. It looks at all bytes, whatever it finds, so that the loop
 // compares many at once.
-fn is_slot(area: &[u8], at: usize, key: &[u8]) -> bool
+fn is_same_slot(area: &[u8], at: usize, key: &[u8]) -> bool
     requires size { ⌜ length (now key) ≡ 25 ⌝ }
     requires slot { ⌜ at + 25 ≤ length (now area) ⌝ }
     ensures { λ r. ⌜ r ≡ same (now (key .entry)) (take 25 (drop at (now (area .entry)))) ⌝ }
@@ -39,14 +39,28 @@ fn is_slot(area: &[u8], at: usize, key: &[u8]) -> bool
     same
 }
 
-// The first of n slots that is the one given; n where none is.
-pub fn find(area: &[u8], n: usize, key: &[u8]) -> usize
+// The same. It looks at byte `last` first: where this is the last byte of the name, other slots mostly differ there.
+fn is_slot(area: &[u8], at: usize, key: &[u8], last: usize) -> bool
+    requires size { ⌜ length (now key) ≡ 25 ⌝ }
+    requires slot { ⌜ at + 25 ≤ length (now area) ⌝ }
+    requires last { ⌜ last < 25 ⌝ }
+    ensures { λ r. ⌜ r ≡ same (now (key .entry)) (take 25 (drop at (now (area .entry)))) ⌝ }
+{
+    if area[at + last] != key[last] {
+        return false;
+    }
+    is_same_slot(area, at, key)
+}
+
+// The first of n slots that is the one given, by its byte `last` first; n where none is.
+pub fn find(area: &[u8], n: usize, key: &[u8], last: usize) -> usize
     requires size { ⌜ length (now key) ≡ 25 ⌝ }
     requires slots { ⌜ 25 * n ≤ length (now area) ⌝ }
+    requires last { ⌜ last < 25 ⌝ }
     ensures { λ r. ⌜ r ≡ numberOr n (slotAt (now (key .entry)) n (now (area .entry))) ⌝ }
 {
     for i in 0..n {
-        if is_slot(area, 25 * i, key) {
+        if is_slot(area, 25 * i, key, last) {
             return i;
         }
     }
@@ -72,7 +86,7 @@ pub fn number_of(area: &mut [u8], count: usize, x: &[u8]) -> Numbered
     ensures { λ r. ⌜ ((most : ℕ) (names : List (List ℕ)) → NumberedAs most names count (now (area .entry)) (now (x .entry)) r (now (area .exit))) ⌝ }
 {
     let key = slot_of(x);
-    let i = find(area, count, &key);
+    let i = find(area, count, &key, x.len());
     if i < count {
         return Numbered {
             number: i,

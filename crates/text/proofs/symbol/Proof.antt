@@ -28,7 +28,7 @@ slice-aggregate-find : tie.Need-slice-aggregate-find
 slice-aggregate-find c = search needs
 
 find-requires : tie.Need-find-requires
-find-requires c κs = (ap length (c .before .slot-of .ensures) ∙ length-slot _ (c .before .before .before .if2 .left), search needs)
+find-requires c κs = (ap length (c .before .slot-of .ensures) ∙ length-slot _ (c .before .before .before .if2 .left), (search needs, search needs))
 
 returns-4 : tie.Need-returns-4
 unfolding foundAs

@@ -15,7 +15,7 @@ slice-aggregate-find : tie.Need-slice-aggregate-find
 slice-aggregate-find c = search needs
 
 find-requires : tie.Need-find-requires
-find-requires c κs = (ap length (c .before .before .slot-of .ensures) ∙ length-slot _ (c .before .before .before .before .before .pre .1), search needs)
+find-requires c κs = (ap length (c .before .before .slot-of .ensures) ∙ length-slot _ (c .before .before .before .before .before .pre .1), (search needs, search needs))
 
 same-length : tie.Need-same-length
 same-length c = search needs
@@ -41,8 +41,8 @@ slice-aggregate-keep c = search needs
 keep-requires : tie.Need-keep-requires
 keep-requires c κs = (ap length (c .before .before .before .before .before .before .before .slot-of .ensures) ∙ length-slot _ (c .before .before .before .before .before .before .before .before .before .before .pre .1), search needs)
 
-add-t13 : tie.Need-add-t13
-add-t13 c = search needs
+add-t12 : tie.Need-add-t12
+add-t12 c = search needs
 
 same-length-3 : tie.Need-same-length-3
 same-length-3 c = search needs
@@ -65,6 +65,6 @@ number-of-spec =
     returns-2
     slice-aggregate-keep
     keep-requires
-    add-t13
+    add-t12
     same-length-3
     returns-3)
