@@ -92,9 +92,11 @@ fn begin(words: &mut [u8]) -> Reader
     ensures { λ r. ⌜ r ≡ readerOf begun ⌝ }
     ensures { λ r. ⌜ now (words .exit) ≡ slots 16 (begun .words) ⌝ }
 {
-    let fail = names::slot_of(b"fail");
+    let mut fail: [u8; 25] = [0; 25];
+    names::make_slot(&mut fail, b"fail");
     names::keep(words, 0, &fail);
-    let succeed = names::slot_of(b"succeed");
+    let mut succeed: [u8; 25] = [0; 25];
+    names::make_slot(&mut succeed, b"succeed");
     names::keep(words, 25, &succeed);
     Reader {
         place: Place::First,
@@ -263,7 +265,8 @@ pub fn symbol(names: &[u8], x: &[u8]) -> Found
     if names.len() < 800 {
         return Found::None;
     }
-    let key = names::slot_of(x);
+    let mut key: [u8; 25] = [0; 25];
+    names::make_slot(&mut key, x);
     let i = names::find(names, 32, &key, x.len());
     if i < 32 {
         return Found::Symbol(i);

@@ -2,7 +2,7 @@
 ghost use Prim.Native.Nat.{ℕ, _+_, _*_, _≤_, _<_};
 ghost use mathlib.Core.Path.{_≡_};
 ghost use mathlib.Core.List.{List};
-ghost use lib.ListN.{length, take, drop};
+ghost use lib.ListN.{length, take, drop, replicate};
 ghost use lib.Seq.{paste};
 ghost use Rattle.rewriting.specs.Lists.{same};
 ghost use Rattle.text.specs.Names.{slot};
@@ -10,17 +10,16 @@ ghost use Rattle.text.specs.Lookup.{slotAt, numberOr};
 ghost use Rattle.text.specs.Held.{NumberedAs};
 use crate::Numbered;
 
-// The slot of a name.
-pub fn slot_of(x: &[u8]) -> [u8; 25]
+// Makes a slot of zeros the slot of a name. It is lent: one that is returned would be copied once more.
+pub fn make_slot(key: &mut [u8; 25], x: &[u8])
+    requires zeros { ⌜ now key ≡ replicate 25 0 ⌝ }
     requires short { ⌜ length (now x) ≤ 24 ⌝ }
-    ensures { λ r. ⌜ r ≡ slot (now (x .entry)) ⌝ }
+    ensures { λ _. ⌜ now (key .exit) ≡ slot (now (x .entry)) ⌝ }
 {
-    let mut key: [u8; 25] = [0; 25];
     key[0] = x.len() as u8;
     for i in 0..x.len() {
         key[1 + i] = x[i];
     }
-    key
 }
 
 // Whether the slot that begins at `at` is the one given. It looks at all bytes, whatever it finds, so that the loop
@@ -85,7 +84,8 @@ pub fn number_of(area: &mut [u8], count: usize, x: &[u8]) -> Numbered
     requires short { ⌜ length (now x) ≤ 24 ⌝ }
     ensures { λ r. ⌜ ((most : ℕ) (names : List (List ℕ)) → NumberedAs most names count (now (area .entry)) (now (x .entry)) r (now (area .exit))) ⌝ }
 {
-    let key = slot_of(x);
+    let mut key: [u8; 25] = [0; 25];
+    make_slot(&mut key, x);
     let i = find(area, count, &key, x.len());
     if i < count {
         return Numbered {

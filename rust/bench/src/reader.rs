@@ -136,9 +136,11 @@ struct Names<const N: usize> {
 
 impl<const N: usize> Names<N> {
     fn find(&self, slot: &Slot) -> Option<usize> {
+        // Other slots mostly differ in the last byte of the name.
+        let last = usize::from(slot[0]).min(MAX_NAME);
         self.slots[..self.count]
             .iter()
-            .position(|other| other == slot)
+            .position(|other| other[last] == slot[last] && other == slot)
     }
 
     /// The name's number, the next one if it is new; or refusal 5.

@@ -1,6 +1,6 @@
 -- `text::begin` meets its contract.
 -- Assumes nothing.
-use mathlib.Core.Path.{refl, ap, _∙_}
+use mathlib.Core.Path.{refl, sym, ap, _∙_}
 use mathlib.Core.List.{flatMap}
 use native.Mathlib.Omega.{arith}
 use lib.ListN.{length}
@@ -14,47 +14,47 @@ use Rattle.text.proofs.Slots.{length-slot}
 use Rattle.text.proofs.begin.Statement.{statement}
 use Rattle.text.proofs.begin.Tie as tie
 
-slice-aggregate-slot-of : tie.Need-slice-aggregate-slot-of
-slice-aggregate-slot-of c = search needs
+slice-aggregate-make-slot : tie.Need-slice-aggregate-make-slot
+slice-aggregate-make-slot c = search needs
 
-slot-of-requires : tie.Need-slot-of-requires
-slot-of-requires c κs = search needs
+make-slot-requires : tie.Need-make-slot-requires
+make-slot-requires c κs = search needs
 
 slice-aggregate-keep : tie.Need-slice-aggregate-keep
-slice-aggregate-keep c = search needs
+slice-aggregate-keep c = sym (ap length (c .before .before .make-slot .ensures) ∙ length-slot _ (omega arith))
 
 keep-requires : tie.Need-keep-requires
-keep-requires c κs = (ap length (c .before .before .slot-of .ensures) ∙ length-slot _ (omega arith), omega (arith, ap length (c .before .before .before .before .before .pre)))
+keep-requires c κs = (ap length (c .before .before .make-slot .ensures) ∙ length-slot _ (omega arith), omega (arith, ap length (c .before .before .before .before .before .before .pre)))
 
-slice-aggregate-slot-of-2 : tie.Need-slice-aggregate-slot-of-2
-slice-aggregate-slot-of-2 c = search needs
+slice-aggregate-make-slot-2 : tie.Need-slice-aggregate-make-slot-2
+slice-aggregate-make-slot-2 c = search needs
 
-slot-of-requires-2 : tie.Need-slot-of-requires-2
-slot-of-requires-2 c κs = search needs
+make-slot-requires-2 : tie.Need-make-slot-requires-2
+make-slot-requires-2 c κs = search needs
 
 slice-aggregate-keep-2 : tie.Need-slice-aggregate-keep-2
-slice-aggregate-keep-2 c = search needs
+slice-aggregate-keep-2 c = sym (ap length (c .before .before .make-slot2 .ensures) ∙ length-slot _ (omega arith))
 
 keep-requires-2 : tie.Need-keep-requires-2
-keep-requires-2 c κs = (ap length (c .before .before .slot-of2 .ensures) ∙ length-slot _ (omega arith), omega (arith, ap length (c .before .before .before .before .before .before .before .before .before .before .before .before .pre), c .before .before .before .before .before .before .keep .kept .0))
+keep-requires-2 c κs = (ap length (c .before .before .make-slot2 .ensures) ∙ length-slot _ (omega arith), omega (arith, ap length (c .before .before .before .before .before .before .before .before .before .before .before .before .before .before .pre), c .before .before .before .before .before .before .before .keep .kept .0))
 
 same-length : tie.Need-same-length
 same-length c = search needs
 
 returns : tie.Need-returns
 unfolding begun readerOf placeOf ruleAt leftOf sideOf body kind symbolsOf flatMap slot slots
-returns c = (refl, rw (c .before .before .keep2 .ensures, c .before .before .before .before .before .before .before .before .before .keep .ensures, c .before .before .before .before .before .before .before .before .before .before .before .before .slot-of .ensures, c .before .before .before .before .before .slot-of2 .ensures, c .before .before .before .before .before .before .before .before .before .before .before .before .before .before .before .pre) refl)
+returns c = (refl, rw (c .before .before .keep2 .ensures, c .before .before .before .before .before .before .before .before .before .before .keep .ensures, c .before .before .before .before .before .before .before .before .before .before .before .before .before .make-slot .ensures, c .before .before .before .before .before .make-slot2 .ensures, c .before .before .before .before .before .before .before .before .before .before .before .before .before .before .before .before .before .pre) refl)
 
 pub begin-spec : {M : Type 1} → statement M
 begin-spec =
     tie.close
     (tie.spec
-    slice-aggregate-slot-of
-    slot-of-requires
+    slice-aggregate-make-slot
+    make-slot-requires
     slice-aggregate-keep
     keep-requires
-    slice-aggregate-slot-of-2
-    slot-of-requires-2
+    slice-aggregate-make-slot-2
+    make-slot-requires-2
     slice-aggregate-keep-2
     keep-requires-2
     same-length

@@ -1,6 +1,6 @@
 -- `text::symbol` meets its contract.
 -- Assumes nothing.
-use mathlib.Core.Path.{ap, _∙_}
+use mathlib.Core.Path.{sym, ap, _∙_}
 use lib.ListN.{length}
 use borrow.Author.Needs.{needs}
 use Rattle.text.specs.Held.{foundAs}
@@ -21,22 +21,22 @@ returns-3 : tie.Need-returns-3
 unfolding foundAs
 returns-3 c = short-area _ _ (c .if3 .taken)
 
-slot-of-requires : tie.Need-slot-of-requires
-slot-of-requires c κs = search needs
+make-slot-requires : tie.Need-make-slot-requires
+make-slot-requires c κs = search needs
 
 slice-aggregate-find : tie.Need-slice-aggregate-find
-slice-aggregate-find c = search needs
+slice-aggregate-find c = sym (ap length (c .before .make-slot .ensures) ∙ length-slot _ (c .before .before .before .before .if2 .left))
 
 find-requires : tie.Need-find-requires
-find-requires c κs = (ap length (c .before .slot-of .ensures) ∙ length-slot _ (c .before .before .before .if2 .left), (search needs, search needs))
+find-requires c κs = (ap length (c .before .make-slot .ensures) ∙ length-slot _ (c .before .before .before .before .if2 .left), (search needs, search needs))
 
 returns-4 : tie.Need-returns-4
 unfolding foundAs
-returns-4 c = name-there _ _ _ _ (c .before .before .before .before .before .before .if1 .left) (c .before .before .before .before .before .if2 .left) (c .before .before .before .before .if3 .left) (c .before .before .before .slot-of .ensures) (c .before .find .ensures) (c .if4 .taken)
+returns-4 c = name-there _ _ _ _ (c .before .before .before .before .before .before .before .if1 .left) (c .before .before .before .before .before .before .if2 .left) (c .before .before .before .before .before .if3 .left) (c .before .before .before .make-slot .ensures) (c .before .find .ensures) (c .if4 .taken)
 
 returns-5 : tie.Need-returns-5
 unfolding foundAs
-returns-5 c = name-nowhere _ _ _ _ (c .before .before .before .before .before .before .if1 .left) (c .before .before .before .before .before .if2 .left) (c .before .before .before .before .if3 .left) (c .before .before .before .slot-of .ensures) (c .before .find .ensures) (c .if4 .left)
+returns-5 c = name-nowhere _ _ _ _ (c .before .before .before .before .before .before .before .if1 .left) (c .before .before .before .before .before .before .if2 .left) (c .before .before .before .before .before .if3 .left) (c .before .before .before .make-slot .ensures) (c .before .find .ensures) (c .if4 .left)
 
 pub symbol-spec : {M : Type 1} → statement M
 symbol-spec =
@@ -45,7 +45,7 @@ symbol-spec =
     returns
     returns-2
     returns-3
-    slot-of-requires
+    make-slot-requires
     slice-aggregate-find
     find-requires
     returns-4
