@@ -2,19 +2,7 @@
 
 mod common;
 
-use common::{expect_check, expect_compile};
-
-/// lock take → held; held free → empty; take → fail. The symbols are lock, take, free, held.
-const SAMPLE_IMAGE: [u8; 22] = [
-    4, 3, 2, 3, // four symbols, three rules, two verdicts, three events
-    2, 0, 1, 0, // two symbols become a string of one
-    2, 0, 0, 0, // two symbols become a string of none
-    1, 1, 0, 0, // one symbol becomes verdict 0
-    0, 1, // lock take
-    3, // held
-    3, 2, // held free
-    1, // take
-];
+use common::{expect_check, expect_compile, SAMPLE_IMAGE};
 
 const SAMPLE_TABLE: [u16; 32] = [
     6, 4, // six states, four symbols

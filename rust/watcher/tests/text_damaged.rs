@@ -3,12 +3,10 @@
 mod common;
 
 use common::texts::{read, Tally};
+use common::SAMPLE;
 use reference::random::{self, Habit, Random};
 use reference::texts::{self, Naming, Spacing};
 use watcher::MAX_TEXT_BYTES;
-
-const SAMPLE: &[u8] =
-    b"events lock take free . lock take -> held . held free -> #epsilon . take -> #fail .";
 
 /// Bytes that mean something in a text, the neighbours of letters and digits, and bytes that mean
 /// nothing.
@@ -94,7 +92,12 @@ fn full_texts_with_one_byte_damaged() {
         }
         // At every place one byte changed, dropped and added.
         for place in 0..text.len() {
-            damage(text, place..=place, &[FEW[random.below(FEW.len())]], &mut tally);
+            damage(
+                text,
+                place..=place,
+                &[FEW[random.below(FEW.len())]],
+                &mut tally,
+            );
         }
     }
     tally.expect(100, [1_000, 20, 500, 0]);

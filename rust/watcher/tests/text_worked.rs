@@ -3,23 +3,9 @@
 mod common;
 
 use common::texts::{expect, expect_refused, read, read_into_all};
+use common::{SAMPLE, SAMPLE_IMAGE};
 use reference::reader::{Reading, Refused, IMAGE_AREA, NAME_AREA};
 use watcher::raw;
-
-/// The sample of document 01.
-const SAMPLE: &[u8] =
-    b"events lock take free . lock take -> held . held free -> #epsilon . take -> #fail .";
-
-const SAMPLE_IMAGE: [u8; 22] = [
-    4, 3, 2, 3, // four symbols, three rules, two verdicts, three events
-    2, 0, 1, 0, // two symbols become a string of one
-    2, 0, 0, 0, // two symbols become a string of none
-    1, 1, 0, 0, // one symbol becomes verdict 0
-    0, 1, // lock take
-    3, // held
-    3, 2, // held free
-    1, // take
-];
 
 /// Slots with these names: symbols from slot 0 on, verdicts from slot 32 on.
 fn slots(symbols: &[&str], verdicts: &[&str]) -> Vec<u8> {

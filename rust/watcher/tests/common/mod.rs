@@ -9,6 +9,22 @@ pub mod texts;
 
 use reference::RuleSet;
 
+/// The text of document 01's sample: lock take → held; held free → empty; take → fail.
+pub const SAMPLE: &[u8] =
+    b"events lock take free . lock take -> held . held free -> #epsilon . take -> #fail .";
+
+/// Its image. The symbols are lock, take, free, held.
+pub const SAMPLE_IMAGE: [u8; 22] = [
+    4, 3, 2, 3, // four symbols, three rules, two verdicts, three events
+    2, 0, 1, 0, // two symbols become a string of one
+    2, 0, 0, 0, // two symbols become a string of none
+    1, 1, 0, 0, // one symbol becomes verdict 0
+    0, 1, // lock take
+    3, // held
+    3, 2, // held free
+    1, // take
+];
+
 /// Words kept on both sides of a lent area, which no call may touch.
 const MARGIN: usize = 8;
 
