@@ -16,7 +16,8 @@ unfoldable pub gap : List ℕ → ℕ
 gap [] = 0
 gap (b ∷ t) = cond (separator b) (suc (gap t)) 0
 
--- the first run of a part of a text; at its end, and empty, where there is none
+-- The first run of a part of a text; at its end, and empty, where there is none. That it is the first of `runs`: `first-some`,
+-- `first-none` (proofs/Runs.antt).
 unfoldable pub firstRun : List ℕ → code.Run
 firstRun part =
     record { start = gap part; end = gap part + length (unbroken (drop (gap part) part)) }
