@@ -6,9 +6,12 @@ use Prim.Native.Nat.{ℕ, zero, suc}
 use mathlib.Core.Path.{_≡_, refl}
 use mathlib.Core.List.{List, [], _∷_, _++_, flatMap}
 use lib.ListN.{length, take, drop, replicate}
+use Rattle.rewriting.specs.Lists.{over}
 use Rattle.rewriting.specs.Rules.{Put, Close, _⇒_, symbolsOf}
 use Rattle.rewriting.specs.Sample.{sample}
 use Rattle.image.specs.Image.{kind, lengthOrVerdict, contents, body, imageOf}
+use Rattle.image.specs.Refusals.{refusal}
+use Rattle.text.specs.declared.Read.the-variants.{Image, Refused}
 use Rattle.text.specs.Tokens.{separator, letter, digit, nameByte, isName, tokenOf, unbroken, runsFrom, runs}
 use Rattle.text.specs.Names.{numberOf, orNew, numbered, slot, slots}
 use Rattle.text.specs.Grammar.{
@@ -33,7 +36,7 @@ use Rattle.text.specs.Grammar.{
   complete,
   ruleSetOf,
 }
-use Rattle.text.specs.Read.{Result, Good, Bad, ended, orBroken, readRuns, readText, namesOf}
+use Rattle.text.specs.Read.{Result, Good, Bad, ended, orBroken, readRuns, readText, namesOf, readChecks, written, unless, readOf}
 
 -- the bytes of a text in ASCII
 unfoldable pub bytes : String → List ℕ
@@ -47,6 +50,12 @@ unfolding
     begun placed withSymbol symbol event sideSymbol name withVerdict rightWord word arrow closeEvents closeRule stop
     afterToken afterRun complete ruleSetOf ended orBroken readRuns readText
 computes = tt
+
+-- the same for the two areas
+whole : Unit {0}
+unfolding
+    slot slots namesOf imageOf kind lengthOrVerdict contents body symbolsOf flatMap over refusal readChecks written unless readOf
+whole = tt
 
 -- The sample of document 01.
 abbrev pub sampleText : List ℕ
@@ -215,3 +224,34 @@ pub word-15 :
     × (readText (fourteen ++ bytes "a -> #o .") ≡ Bad 5 156)
 unfolding computes sizes
 word-15 = (refl, refl)
+
+-- "It returns the image's length; bytes beyond either stay.": the sample into areas that are one byte longer than needed
+pub sample-taken :
+    (readOf sampleText (replicate 1285 9) (replicate 1201 9) .answer ≡ Image 22)
+    × (drop 22 (readOf sampleText (replicate 1285 9) (replicate 1201 9) .image) ≡ replicate 1263 9)
+    × (drop 1200 (readOf sampleText (replicate 1285 9) (replicate 1201 9) .names) ≡ 9 ∷ [])
+unfolding computes whole
+sample-taken = (refl, refl, refl)
+
+-- a refused text, and both areas as they were
+pub text-refused :
+    readOf (bytes "events a b a .") (replicate 1284 9) (replicate 1200 9)
+    ≡ record { answer = Refused 6 11; image = replicate 1284 9; names = replicate 1200 9 }
+unfolding computes whole
+text-refused = refl
+
+-- "2, image area under 1,284 or name area under 1,200", also where the text breaks
+pub area-short :
+    (readOf sampleText (replicate 1283 9) (replicate 1200 9) .answer ≡ Refused 2 0)
+    × (readOf sampleText (replicate 1284 9) (replicate 1199 9) .answer ≡ Refused 2 0)
+    × (readOf (bytes "events .") (replicate 1283 9) (replicate 1200 9) .answer ≡ Refused 2 0)
+unfolding computes whole
+area-short = (refl, refl, refl)
+
+-- "1, over 16,384 bytes", before 2; 16,384 are read
+pub long-text :
+    (readOf (replicate 16385 32) [] [] .answer ≡ Refused 1 0)
+    × (readOf (replicate 16384 32) [] [] .answer ≡ Refused 2 0)
+    × (readOf (replicate 16384 32) (replicate 1284 9) (replicate 1200 9) .answer ≡ Refused 4 16384)
+unfolding computes whole
+long-text = (refl, refl, refl)
