@@ -1,0 +1,10 @@
+pub mod Writing
+pub mod Decimals
+pub mod Split
+pub mod SlotNames
+pub mod Joining
+pub mod Starting
+pub mod Offered
+pub mod Walking
+pub mod WatchTheorem
+pub mod Computed

@@ -1,0 +1,120 @@
+-- `Walk::named` meets its contract: the parts of the line, and what the offer gives back.
+-- Assumes nothing.
+use Prim.Native.Nat.{ℕ}
+use mathlib.Core.Path.{_≡_, refl, sym, ap, _∙_}
+use native.Mathlib.Omega.{arith}
+use mathlib.Core.Option.{Option, none, some}
+use mathlib.Core.List.{List}
+use borrow.Author.Needs.{needs}
+use Rattle.monitor.specs.Areas.{Monitor, documentCapacity}
+use Rattle.monitor.specs.Calls.{Outcome, offerOf}
+use Rattle.monitor.specs.Lent.{outcomeFrom}
+use Rattle.text.specs.declared.Found.{Found}
+use Rattle.text.specs.Held.{foundAs}
+use Rattle.text.proofs.Numbering.{lookup-below}
+use Rattle.text.specs.Lookup.{symbolNamed}
+use Rattle.report.specs.Watch.{Watch, offered, offeredName}
+use Rattle.report.specs.Turns.{offering, watchWith}
+use Rattle.report.proofs.Writing.{writes-then, writes-as, writes-all, reaches}
+use Rattle.report.proofs.Walking.{turn-is}
+use Rattle.report.proofs.Offered.{named-short, made-slot, made-small, line-unknown, line-offered}
+use Rattle.report.proofs.Walk.named.Statement.{statement}
+use Rattle.report.proofs.Walk.named.Tie as tie
+
+found : (o : Option ℕ) (r : Found) (i : ℕ) → foundAs r ≡ o → r ≡ Found.Symbol i → o ≡ some i
+unfolding foundAs
+found o r i e p = sym e ∙ ap foundAs p
+
+missing : (o : Option ℕ) (r : Found) → foundAs r ≡ o → r ≡ Found.None → o ≡ none
+unfolding foundAs
+missing o r e p = sym e ∙ ap foundAs p
+
+-- the monitor that the offer of a known name leaves
+left-by :
+    (w : Watch) (x : List ℕ) (a : ℕ) (m : Monitor) → symbolNamed (w .names) x ≡ some a
+    → m ≡ offerOf documentCapacity (w .image) (w .table) (w .monitor) a 1000 .monitor → m ≡ offeredName w x .monitor
+unfolding offeredName offered
+left-by w x a m known e = rw known e
+
+put-requires : tie.Need-put-requires
+put-requires c κs = search needs
+
+put-byte-requires : tie.Need-put-byte-requires
+put-byte-requires c κs =
+    let put = reaches 20480 (c .before .put .ensures) (c .before .put .kept .0) (omega arith) (c .before .before .before .before .before .before .pre) in
+    omega (arith, put .end, put .size, c .before .before .put-arg .given .0 .1)
+
+symbol-requires : tie.Need-symbol-requires
+symbol-requires c κs = search needs
+
+enum-told : tie.Need-enum-told
+enum-told c = search needs
+
+put-refused-requires : tie.Need-put-refused-requires
+put-refused-requires c κs =
+    let put = reaches 20480 (c .before .before .before .before .before .before .before .before .put .ensures) (c .before .before .before .before .before .before .before .before .put .kept .0) (omega arith) (c .before .before .before .before .before .before .before .before .before .before .before .before .before .pre) in
+    let size = c .before .before .before .before .before .before .before .before .before .put-arg .given .0 .1 in
+    let byte = reaches 1 (c .before .before .before .before .before .before .put-byte .ensures) (c .before .before .before .before .before .before .put-byte .kept .0) (omega (arith, put .end, put .size, size)) (omega arith) in
+    omega (arith, put .end, put .size, size, byte .end, byte .size)
+
+enum-known-a : tie.Need-enum-known-a
+enum-known-a c = search needs
+
+cast-offer : tie.Need-cast-offer
+cast-offer c = omega (arith, lookup-below _ _ _ (found _ _ _ (c .before .before .before .before .before .symbol .ensures) (c .before .before .before .a .given .1)))
+
+offer-requires : tie.Need-offer-requires
+offer-requires c κs = search needs
+
+put-told-requires : tie.Need-put-told-requires
+put-told-requires c κs =
+    let offer = c .before .before .before .before in
+    let short = named-short _ _ _ (found _ _ _ (c .before .before .before .before .before .before .before .before .before .before .symbol .ensures) (c .before .before .before .before .before .before .before .before .a .given .1)) in
+    let put = reaches 24 (c .before .before .before .before .before .before .before .before .before .before .before .before .before .before .before .put .ensures) (c .before .before .before .before .before .before .before .before .before .before .before .before .before .before .before .put .kept .0) (omega arith) short in
+    let size = c .before .before .before .before .before .before .before .before .before .before .before .before .before .before .before .before .put-arg .given .0 .1 in
+    let byte = reaches 1 (c .before .before .before .before .before .before .before .before .before .before .before .before .before .put-byte .ensures) (c .before .before .before .before .before .before .before .before .before .before .before .before .before .put-byte .kept .0) (omega (arith, put .end, put .size, size)) (omega arith) in (
+      made-slot _ _ _ _ _ _ _ (offer .offer .ensures),
+      (
+        made-small _ _ _ _ _ _ _ (offer .offer .ensures),
+        (c .before .before .put-told-arg2 .given .0, (offer .offer .kept .1 .1 .1 .0 ∙ c .before .before .before .before .before .before .offer-arg .given .0 .1, (omega (arith, put .end, byte .end), omega (arith, put .size, size, byte .size)))),
+      ),
+    )
+
+returns : tie.Need-returns
+unfolding offering offeredName offered
+returns c =
+    let start = c .before .before .before .before .before .before .before .before .before .before .before .before .before .before in
+    let w = watchWith (start .args .self) (start .args .image .now) (start .args .table .now) (start .args .names .now) (start .args .bytes .now) (start .args .words .now) in
+    let unknown = missing _ _ (c .before .before .before .before .symbol .ensures) (c .before .before .enum-told .given .1) in
+    let all = writes-all (writes-as (line-unknown w (start .args .x .now) unknown) (writes-then (c .before .before .before .before .before .before .before .before .before .put .ensures) (writes-then (c .before .before .before .before .before .before .before .put-byte .ensures) (c .put-refused .ensures)))) in
+    turn-is _ _ _ _ _ _ (all .0) refl (rw unknown) (all .1) (c .put-refused .kept .0 ∙ c .before .before .before .before .before .before .before .put-byte .kept .0 ∙ c .before .before .before .before .before .before .before .before .before .put .kept .0) (c .before .before .before .before .before .before .before .before .before .before .put-arg .given .0 .1)
+
+returns-2 : tie.Need-returns-2
+unfolding offering offeredName offered
+returns-2 c =
+    let start = c .before .before .before .before .before .before .before .before .before .before .before .before .before .before .before .before .before .before .before .before .before .before in
+    let w = watchWith (start .args .self) (start .args .image .now) (start .args .table .now) (start .args .names .now) (start .args .bytes .now) (start .args .words .now) in
+    let known = found _ _ _ (c .before .before .before .before .before .before .before .before .before .before .before .before .symbol .ensures) (c .before .before .before .before .before .before .before .before .before .before .a .given .1) in
+    let line = line-offered w (start .args .x .now) _ _ _ _ known (c .before .before .before .before .before .before .offer .ensures) in
+    let all = writes-all (writes-as line (writes-then (c .before .before .before .before .before .before .before .before .before .before .before .before .before .before .before .before .before .put .ensures) (writes-then (c .before .before .before .before .before .before .before .before .before .before .before .before .before .before .before .put-byte .ensures) (c .before .put-told .ensures)))) in
+    turn-is _ _ _ _ _ _ (all .0) refl
+    (left-by w (start .args .x .now) _ _ known (ap (λ (o : Outcome). o .monitor) (c .before .before .before .before .before .before .offer .ensures)))
+    (all .1)
+    (c .before .put-told .kept .0 ∙ c .before .before .before .before .before .before .before .before .before .before .before .before .before .before .before .put-byte .kept .0 ∙ c .before .before .before .before .before .before .before .before .before .before .before .before .before .before .before .before .before .put .kept .0)
+    (c .before .before .before .before .before .before .before .before .before .before .before .before .before .before .before .before .before .before .put-arg .given .0 .1)
+
+pub named-spec : {M : Type 1} → statement M
+named-spec =
+    tie.close
+    (tie.spec
+    put-requires
+    put-byte-requires
+    symbol-requires
+    enum-told
+    put-refused-requires
+    enum-known-a
+    cast-offer
+    offer-requires
+    put-told-requires
+    returns
+    returns-2)

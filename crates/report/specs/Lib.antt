@@ -1,0 +1,6 @@
+-- Document 01, "Program `watch`". Read in this order.
+pub mod Lines
+pub mod Watch
+pub mod Turns
+pub mod Wrote
+pub mod Sample

@@ -1,0 +1,97 @@
+-- The lines that `watch` prints, as bytes: "No header."
+use Prim.Native.Nat.{ℕ, zero, suc, _+_, _*_, _/_, _%_}
+use mathlib.Core.Bool.{cond}
+use mathlib.Core.List.{List, [], _∷_, _++_, flatMap}
+use lib.Dec.{ltb}
+use lib.ListN.{getD, take, drop}
+use Rattle.monitor.specs.declared.Answer.{Answer}
+use Rattle.monitor.specs.Calls.{Outcome}
+use Rattle.monitor.specs.Play.{stringOf}
+
+-- a space, `#`, `,`, `-` and the end of a line
+abbrev pub space : ℕ
+space = 32
+
+abbrev pub hash : ℕ
+hash = 35
+
+abbrev pub comma : ℕ
+comma = 44
+
+abbrev pub dash : ℕ
+dash = 45
+
+abbrev pub newline : ℕ
+newline = 10
+
+-- `quiet`, `spent`, `full`, `refused`, `rules`, `input too long`
+abbrev pub quietWord : List ℕ
+quietWord = 113 ∷ 117 ∷ 105 ∷ 101 ∷ 116 ∷ []
+
+abbrev pub spentWord : List ℕ
+spentWord = 115 ∷ 112 ∷ 101 ∷ 110 ∷ 116 ∷ []
+
+abbrev pub fullWord : List ℕ
+fullWord = 102 ∷ 117 ∷ 108 ∷ 108 ∷ []
+
+abbrev pub refusedWord : List ℕ
+refusedWord = 114 ∷ 101 ∷ 102 ∷ 117 ∷ 115 ∷ 101 ∷ 100 ∷ []
+
+abbrev pub rulesWord : List ℕ
+rulesWord = 114 ∷ 117 ∷ 108 ∷ 101 ∷ 115 ∷ []
+
+abbrev pub tooLongWords : List ℕ
+tooLongWords = 105 ∷ 110 ∷ 112 ∷ 117 ∷ 116 ∷ 32 ∷ 116 ∷ 111 ∷ 111 ∷ 32 ∷ 108 ∷ 111 ∷ 110 ∷ 103 ∷ []
+
+-- the digits of a number below 10 ^ k, the first one other than 0
+unfoldable pub digits : ℕ → ℕ → List ℕ
+digits zero n = []
+digits (suc k) n = cond (ltb n 10) ((48 + n) ∷ []) (digits k (n / 10) ++ (48 + n % 10) ∷ [])
+
+-- "Numbers are in base ten."
+unfoldable pub decimal : ℕ → List ℕ
+decimal n = digits (suc n) n
+
+-- the name in slot i of an area of name slots: "length byte, name, zeros". A name has at most 24 bytes. That it is the name
+-- that the text gives symbol i, and in slot 32 + v verdict v: `symbol-name`, `verdict-name` (proofs/SlotNames.antt).
+unfoldable pub nameIn : List ℕ → ℕ → List ℕ
+nameIn names i = take (getD names (25 * i) 0) (take 24 (drop (25 * i + 1) names))
+
+-- "joined by commas or `-`"
+unfoldable pub joined : List ℕ → List ℕ → List ℕ
+joined names [] = dash ∷ []
+joined names (a ∷ string) = nameIn names a ++ flatMap (λ b. comma ∷ nameIn names b) string
+
+-- "`quiet`, `spent`, `full` or `#` with the verdict's name", `refused`; "32..47 verdicts"
+unfoldable pub answerWord : List ℕ → Answer → List ℕ
+answerWord names Answer.Quiet = quietWord
+answerWord names Answer.Spent = spentWord
+answerWord names Answer.Full = fullWord
+answerWord names (Answer.Verdict v) = hash ∷ nameIn names (32 + v)
+answerWord names (Answer.Refused n) = refusedWord
+
+-- "steps, rewrites, the string's names (settled, then waiting) joined by commas or `-`"
+unfoldable pub counted : List ℕ → Outcome → List ℕ
+counted names o =
+    decimal (o .counts .steps) ++ space ∷ (decimal (o .counts .rewrites) ++ space ∷ joined names (stringOf (o .monitor)))
+
+-- what is told behind the answer: that, or "number" where it is `refused`
+unfoldable pub told : List ℕ → Outcome → Answer → List ℕ
+told names o Answer.Quiet = counted names o
+told names o Answer.Spent = counted names o
+told names o Answer.Full = counted names o
+told names o (Answer.Verdict v) = counted names o
+told names o (Answer.Refused n) = decimal n
+
+-- "one line each: name, .."; "A refused event prints name, `refused`, number"
+unfoldable pub eventLine : List ℕ → List ℕ → Outcome → List ℕ
+eventLine names x o = x ++ space ∷ (answerWord names (o .answer) ++ space ∷ (told names o (o .answer) ++ newline ∷ []))
+
+-- "A refused text prints `rules refused`, number, place."
+unfoldable pub refusedLine : ℕ → ℕ → List ℕ
+refusedLine n place =
+    rulesWord ++ space ∷ (refusedWord ++ space ∷ (decimal n ++ space ∷ (decimal place ++ newline ∷ [])))
+
+-- "else prints `input too long`"
+unfoldable pub tooLongLine : List ℕ
+tooLongLine = tooLongWords ++ newline ∷ []

@@ -1,0 +1,189 @@
+-- `begin` and `next`, as functions of all that is lent to them; and that what they write, line after line, is what `watch` prints.
+use Prim.Native.Nat.{ℕ, zero, suc, _+_, _*_, _-_, _≤_, _<_}
+use mathlib.Core.Path.{_≡_}
+use mathlib.Core.Bool.{cond}
+use mathlib.Core.List.{List, [], _∷_, _++_}
+use lib.Dec.{leb}
+use lib.ListN.{length, take, drop, replicate}
+use Rattle.rewriting.specs.Lists.{over}
+use Rattle.image.specs.Image.{imageOf}
+use Rattle.table.specs.Table.{tableOf}
+use Rattle.monitor.specs.Areas.{Monitor}
+use Rattle.text.specs.Tokens.{unbroken}
+use Rattle.text.specs.Scanned.{gap}
+use Rattle.text.specs.Grammar.{Reading, ruleSetOf}
+use Rattle.text.specs.Read.{Result, Good, Bad, namesOf}
+use Rattle.report.specs.declared.Begun.{Begun}
+use Rattle.report.specs.declared.Begun.the-variants as begun-as
+use Rattle.report.specs.declared.Start.{Start}
+use Rattle.report.specs.declared.Walk.{Walk}
+use Rattle.report.specs.declared.Line.{Line}
+use Rattle.report.specs.Lines.{refusedLine, tooLongLine}
+use Rattle.report.specs.Watch.{rulePart, eventPart, Watch, holding, freshMonitor, offeredName, lineFor, ruleTextRead, printed}
+
+-- The most bytes that a line has: a name of 24 bytes, `#` and 24 bytes, two numbers of four digits, each with a space behind
+-- it, and 2,048 names of 24 bytes, each with a comma or the line's end behind it.
+abbrev pub lineMost : ℕ
+lineMost = 25 + 26 + 5 + 5 + 2048 * 25
+
+-- a line, where the next name is looked for in the input, and the monitor then
+pub record Next : Type 0 where
+  pub line : List ℕ
+  pub at : ℕ
+  pub monitor : Monitor
+
+-- no name is left: nothing is written
+unfoldable pub nothing : Watch → ℕ → Next
+nothing w at = record { line = []; at = at; monitor = w .monitor }
+
+-- the name x is offered, and ends before the place `end`
+unfoldable pub offering : Watch → ℕ → List ℕ → Next
+offering w end x = record { line = lineFor w x; at = end; monitor = offeredName w x .monitor }
+
+unfoldable pub named : Watch → ℕ → ℕ → List ℕ → Next
+named w at end [] = nothing w at
+named w at end (b ∷ x) = offering w end (b ∷ x)
+
+-- the first name of a part of the input that begins at this place
+unfoldable pub firstNamed : Watch → ℕ → List ℕ → Next
+firstNamed w at part =
+    named w at (at + (gap part + length (unbroken (drop (gap part) part)))) (unbroken (drop (gap part) part))
+
+-- The next line of whatever input, from whatever place. An input that is too long has no names.
+unfoldable pub nextOf : Watch → List ℕ → ℕ → Next
+nextOf w input at = cond (leb (length input) 20480) (firstNamed w at (drop at input)) (nothing w at)
+
+-- what `next` answers, the monitor that it leaves, and the buffer: its line stands at the beginning
+pub record Turn : Type 0 where
+  pub length : ℕ
+  pub at : ℕ
+  pub monitor : Monitor
+  pub buffer : List ℕ
+
+unfoldable pub turnOf : Next → List ℕ → Turn
+turnOf n buffer = record { length = length (n .line); at = n .at; monitor = n .monitor; buffer = over (n .line) buffer }
+
+abbrev pub turnFrom : Line → List ℕ → List ℕ → List ℕ → Turn
+turnFrom r bytes words buffer =
+    record {
+      length = r .length;
+      at = r .walk .at;
+      monitor = record { head = r .walk .head; bytes = bytes; words = words };
+      buffer = buffer;
+    }
+
+-- what is lent to `next`
+abbrev pub watchWith : Walk → List ℕ → List ℕ → List ℕ → List ℕ → List ℕ → Watch
+watchWith walk image table names bytes words =
+    record { image = image; table = table; names = names; monitor = record { head = walk .head; bytes = bytes; words = words } }
+
+-- what is lent to `begin`
+pub record Areas : Type 0 where
+  pub image : List ℕ
+  pub names : List ℕ
+  pub table : List ℕ
+  pub bytes : List ℕ
+  pub words : List ℕ
+  pub line : List ℕ
+
+abbrev pub areas : List ℕ → List ℕ → List ℕ → List ℕ → List ℕ → List ℕ → Areas
+areas image names table bytes words line =
+    record { image = image; names = names; table = table; bytes = bytes; words = words; line = line }
+
+-- what it answers, and the areas as it leaves them
+pub record Begins : Type 0 where
+  pub answer : Begun
+  pub areas : Areas
+
+abbrev pub beginsFrom : Begun → Areas → Begins
+beginsFrom answer l = record { answer = answer; areas = l }
+
+-- what it answers is inside its areas
+abbrev pub Inside : Begun → Type 0
+Inside (begun-as.Message n) = n ≤ lineMost
+Inside (begun-as.Events start) = (start .image ≤ 1284) × (start .table ≤ 16931)
+
+-- nothing but a message is written
+unfoldable pub message : List ℕ → Areas → Begins
+message m l =
+    record {
+      answer = begun-as.Message (length m);
+      areas =
+          record {
+            image = l .image;
+            names = l .names;
+            table = l .table;
+            bytes = l .bytes;
+            words = l .words;
+            line = over m (l .line);
+          };
+    }
+
+-- where the event part begins; without a `%` at the end of the input
+unfoldable pub eventsAt : List ℕ → ℕ
+eventsAt input = length input - length (eventPart input)
+
+-- image, table and names of a good text, and a fresh monitor
+unfoldable pub started : Reading → ℕ → Areas → Begins
+started s at l =
+    record {
+      answer =
+          begun-as.Events
+          (record {
+            walk = record { head = freshMonitor .head; at = at };
+            image = length (imageOf (ruleSetOf s));
+            table = length (tableOf (ruleSetOf s));
+          });
+      areas =
+          record {
+            image = over (imageOf (ruleSetOf s)) (l .image);
+            names = over (namesOf s) (l .names);
+            table = over (tableOf (ruleSetOf s)) (l .table);
+            bytes = freshMonitor .bytes;
+            words = freshMonitor .words;
+            line = l .line;
+          };
+    }
+
+unfoldable pub beginRead : Result → ℕ → Areas → Begins
+beginRead (Bad n place) at l = message (refusedLine n place) l
+beginRead (Good s) at l = started s at l
+
+unfoldable pub beginOf : List ℕ → Areas → Begins
+beginOf input l =
+    cond (leb (length input) 20480) (beginRead (ruleTextRead (rulePart input)) (eventsAt input) l) (message tooLongLine l)
+
+-- the image and the table are the first parts of their areas
+abbrev pub watchIn : Start → Areas → Watch
+watchIn start l =
+    watchWith (start .walk) (take (start .image) (l .image)) (take (start .table) (l .table)) (l .names) (l .bytes) (l .words)
+
+-- a line and then the rest, unless it is empty
+unfoldable pub thenRest : (Next → List ℕ) → Next → List ℕ → List ℕ
+thenRest rest n [] = []
+thenRest rest n (b ∷ line) = b ∷ line ++ rest n
+
+-- What is written by asking for the next line over and over, up to the first that is empty, k times at most.
+unfoldable pub linesFrom : ℕ → Watch → List ℕ → ℕ → List ℕ
+linesFrom zero w input at = []
+linesFrom (suc k) w input at =
+    thenRest (λ n. linesFrom k (holding w (n .monitor)) input (n .at)) (nextOf w input at) (nextOf w input at .line)
+
+-- a message, or the lines of the events
+unfoldable pub writtenBy : ℕ → List ℕ → Begun → Areas → List ℕ
+writtenBy k input (begun-as.Message n) l = take n (l .line)
+writtenBy k input (begun-as.Events start) l = linesFrom k (watchIn start l) input (start .walk .at)
+
+-- areas of the lengths that `begin` asks for
+pub record Sized (l : Areas) : Type 0 where
+  pub image : length (l .image) ≡ 1284
+  pub names : length (l .names) ≡ 1200
+  pub table : length (l .table) ≡ 16931
+  pub line : length (l .line) ≡ lineMost
+
+-- What `begin`, and then `next` until it writes nothing, give for an input is what `watch` prints for it, whatever the areas
+-- held: `watch-theorem` (proofs/WatchTheorem.antt).
+abbrev pub WatchPrints : Type 0
+WatchPrints =
+    (input : List ℕ) (l : Areas) → Sized l → (k : ℕ) → length input < k
+    → writtenBy k input (beginOf input l .answer) (beginOf input l .areas) ≡ printed input

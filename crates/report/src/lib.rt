@@ -1,0 +1,225 @@
+// What `watch` prints: lines, written one at a time into a lent buffer.
+ghost use Prim.Native.Nat.{_≤_, _<_};
+ghost use mathlib.Core.Path.{_≡_};
+ghost use mathlib.Core.Bool.{true};
+ghost use lib.ListN.{length};
+ghost use Rattle.rewriting.specs.Lists.{over};
+ghost use Rattle.image.specs.Image.{read, valid};
+ghost use Rattle.table.specs.Table.{tableOf};
+ghost use Rattle.report.specs.declared.Begun.{Begun};
+ghost use Rattle.report.specs.Watch.{rulePart, freshMonitor};
+ghost use Rattle.report.specs.Turns.{lineMost, offering, nextOf, turnOf, turnFrom, watchWith, eventsAt, areas, beginOf, beginsFrom, Inside};
+use monitor::Head;
+use table::Compiled;
+use text::Found;
+use text::Read;
+
+mod lines;
+
+// The walk over the event names: the monitor's head, and where in the input the next name is looked for.
+pub struct Walk {
+    pub head: Head,
+    pub at: usize,
+}
+
+// The walk before the first name, and how long the image and the table are.
+pub struct Start {
+    pub walk: Walk,
+    pub image: usize,
+    pub table: usize,
+}
+
+// How the reading of an input begins: with a message of so many bytes, or with events to offer.
+pub enum Begun {
+    Message(usize),
+    Events(Start),
+}
+
+// A line of so many bytes, 0 where no name is left, and the walk behind it.
+pub struct Line {
+    pub walk: Walk,
+    pub length: usize,
+}
+
+// How long the rule text is: up to the first `%`, or the whole input.
+fn rule_length(input: &[u8]) -> usize
+    ensures { λ r. ⌜ r ≡ length (rulePart (now (input .entry))) ⌝ }
+{
+    let mut i: usize = 0;
+    while i < input.len() {
+        if input[i] == b'%' {
+            return i;
+        }
+        i += 1;
+    }
+    i
+}
+
+// Where the event names begin: behind the `%` at the end of the rule text, or at the end of the input.
+fn events_start(input: &[u8], end: usize) -> usize
+    requires { ⌜ end ≡ length (rulePart (now input)) ⌝ }
+    ensures { λ r. ⌜ r ≡ eventsAt (now (input .entry)) ⌝ }
+{
+    if end < input.len() {
+        return end + 1;
+    }
+    end
+}
+
+// Compiles the image and makes the monitor fresh: the events that begin at `at` are to be offered.
+fn make_ready(
+    at: usize,
+    image: &[u8],
+    table: &mut [u16; 16931],
+    bytes: &mut [u8; 2048],
+    words: &mut [u16; 2048],
+) -> Begun
+    requires { ⌜ valid (now image) ≡ true ⌝ }
+    ensures answer { λ r. ⌜ r ≡ Begun.Events (record { walk = record { head = freshMonitor .head; at = at }; image = length (now (image .entry)); table = length (tableOf (read (now (image .entry)))) }) ⌝ }
+    ensures table { λ r. ⌜ now (table .exit) ≡ over (tableOf (read (now (image .entry)))) (now (table .entry)) ⌝ }
+    ensures bytes { λ r. ⌜ now (bytes .exit) ≡ freshMonitor .bytes ⌝ }
+    ensures words { λ r. ⌜ now (words .exit) ≡ freshMonitor .words ⌝ }
+{
+    match table::compile(image, table) {
+        Compiled::Refused(_) => Begun::Message(0),
+        Compiled::Words(size) => {
+            let begun = monitor::fresh(bytes, words);
+            let head = begun.head;
+            Begun::Events(Start {
+                walk: Walk { head: head, at: at },
+                image: image.len(),
+                table: size,
+            })
+        }
+    }
+}
+
+// Begins with an input: what is wrong with it or its rule text goes into the line; else the rules go into their areas, and the
+// events are to be offered one by one, by `next`.
+pub fn begin(
+    input: &[u8],
+    image: &mut [u8; 1284],
+    names: &mut [u8; 1200],
+    table: &mut [u16; 16931],
+    bytes: &mut [u8; 2048],
+    words: &mut [u16; 2048],
+    line: &mut [u8; 51261],
+) -> Begun
+    ensures outcome { λ r. ⌜ beginsFrom r (areas (now (image .exit)) (now (names .exit)) (now (table .exit)) (now (bytes .exit)) (now (words .exit)) (now (line .exit)))
+        ≡ beginOf (now (input .entry)) (areas (now (image .entry)) (now (names .entry)) (now (table .entry)) (now (bytes .entry)) (now (words .entry)) (now (line .entry))) ⌝ }
+    ensures inside { λ r. ⌜ Inside r ⌝ }
+{
+    if 20480 < input.len() {
+        return Begun::Message(lines::put(line, 0, b"input too long\n"));
+    }
+    let end = rule_length(input);
+    match text::read_rules(&input[..end], image, names) {
+        Read::Refused(n, place) => Begun::Message(lines::put_rules_refused(line, n, place)),
+        Read::Image(size) => {
+            let at = events_start(input, end);
+            let area: &[u8] = image;
+            make_ready(at, &area[..size], table, bytes, words)
+        }
+    }
+}
+
+impl Walk {
+    // No name is left.
+    fn over(self) -> Line
+        ensures { λ r. ⌜ r ≡ record { walk = self; length = 0 } ⌝ }
+    {
+        Line {
+            walk: self,
+            length: 0,
+        }
+    }
+
+    // Offers the name x, which ends at `end`, and writes its line.
+    fn named(
+        self,
+        end: usize,
+        x: &[u8],
+        image: &[u8],
+        table: &[u16],
+        names: &[u8; 1200],
+        bytes: &mut [u8; 2048],
+        words: &mut [u16; 2048],
+        line: &mut [u8; 51261],
+    ) -> Line
+        requires { ⌜ length (now x) ≤ 20480 ⌝ }
+        ensures { λ r. ⌜ turnFrom r (now (bytes .exit)) (now (words .exit)) (now (line .exit))
+            ≡ turnOf (offering (watchWith self (now (image .entry)) (now (table .entry)) (now (names .entry)) (now (bytes .entry)) (now (words .entry)))
+            end (now (x .entry))) (now (line .entry)) ⌝ }
+        ensures { λ r. ⌜ r .length ≤ lineMost ⌝ }
+    {
+        let mut at = lines::put(line, 0, x);
+        at = lines::put_byte(line, at, b' ');
+        let head = self.head;
+        match text::symbol(names, x) {
+            Found::None => {
+                let length = lines::put_refused(line, at, 12);
+                Line {
+                    walk: Walk {
+                        head: head,
+                        at: end,
+                    },
+                    length: length,
+                }
+            }
+            Found::Symbol(a) => {
+                let called = head.offer(image, table, bytes, words, a as u8, 1000);
+                let length = lines::put_told(line, at, names, called, bytes);
+                let left = called.head;
+                Line {
+                    walk: Walk {
+                        head: left,
+                        at: end,
+                    },
+                    length: length,
+                }
+            }
+        }
+    }
+
+    // The next line: the first name from here on is offered. Its length is 0 where no name is left.
+    pub fn next(
+        self,
+        input: &[u8],
+        image: &[u8],
+        table: &[u16],
+        names: &[u8; 1200],
+        bytes: &mut [u8; 2048],
+        words: &mut [u16; 2048],
+        line: &mut [u8; 51261],
+    ) -> Line
+        ensures turn { λ r. ⌜ turnFrom r (now (bytes .exit)) (now (words .exit)) (now (line .exit))
+            ≡ turnOf (nextOf (watchWith self (now (image .entry)) (now (table .entry)) (now (names .entry)) (now (bytes .entry)) (now (words .entry)))
+            (now (input .entry)) (self .at)) (now (line .entry)) ⌝ }
+        ensures fits { λ r. ⌜ r .length ≤ lineMost ⌝ }
+        ensures onward { λ r. ⌜ ((r .length ≡ 0 → ⊥) → (self .at < r .walk .at) × (r .walk .at ≤ length (now (input .entry)))) ⌝ }
+    {
+        if 20480 < input.len() {
+            return self.over();
+        }
+        let at = self.at;
+        if input.len() <= at {
+            return self.over();
+        }
+        let run = text::first_run(&input[at..]);
+        let from = at + run.start;
+        let to = at + run.end;
+        if from == to {
+            return self.over();
+        }
+        self.named(
+            to,
+            &input[from..to],
+            image,
+            table,
+            names,
+            bytes,
+            words,
+            line,
+        )
+    }
+}
