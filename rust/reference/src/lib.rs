@@ -12,6 +12,7 @@ so that a mistake in the one is not a mistake in the other.
 * [`reader`]: the reader of rule texts.
 * [`rewriter`]: the plain rewriter.
 * [`monitor`]: the monitor's operations.
+* [`watch`]: the program.
 * [`random`]: a generator of pseudo-random numbers and of rule sets.
 * [`texts`]: a writer of rule texts.
 */
@@ -24,6 +25,7 @@ pub mod random;
 pub mod reader;
 pub mod rewriter;
 pub mod texts;
+pub mod watch;
 
 /// A symbol: a number below the number of symbols.
 pub type Symbol = u8;

@@ -242,7 +242,7 @@ impl State {
     }
 
     /// The refusal of an event offered to this state: 12, 14 or 15.
-    fn refuses(&self, set: &RuleSet, event: u8) -> Option<u32> {
+    pub fn refuses(&self, set: &RuleSet, event: u8) -> Option<u32> {
         if event >= set.events {
             Some(NO_EVENT)
         } else if self.verdict.is_some() {
