@@ -15,7 +15,7 @@ use std::time::{Duration, Instant};
 /// The signal that ends a process that writes where nobody reads.
 const SIGPIPE: i32 = 13;
 
-/// How the process ended. It is ended here, and the test fails, if it is still there after two minutes.
+/// How the process ended. It is ended here, and the test fails, if it is still there after a minute.
 #[track_caller]
 fn end(child: &mut Child) -> ExitStatus {
     let begin = Instant::now();
@@ -23,7 +23,7 @@ fn end(child: &mut Child) -> ExitStatus {
         if let Some(status) = child.try_wait().expect("a status") {
             return status;
         }
-        if begin.elapsed() > Duration::from_secs(120) {
+        if begin.elapsed() > Duration::from_secs(60) {
             child.kill().expect("it is ended");
             child.wait().expect("a status");
             panic!("it hangs");
@@ -275,24 +275,22 @@ fn very_long_inputs() {
     }
 }
 
-/// Inputs that never end: the program does not wait for their end.
+/// An input that is too long and never ends: the program does not wait for its end.
 #[test]
 fn endless_input() {
-    let (mut child, stdin, stdout) = spawn(&mut redirected("</dev/zero"));
-    let reader = take(stdout);
-    assert!(end(&mut child).success());
-    let output = reader.join().expect("an output");
-    expect_same(b"zeros without end", &output, b"input too long\n");
-    drop(stdin);
-
-    // A pipe that is written until nobody reads it.
-    let (mut child, mut stdin, stdout) = spawn(&mut piped());
-    let writer = thread::spawn(move || while stdin.write_all(&[b' '; 1_000]).is_ok() {});
-    let reader = take(stdout);
-    assert!(end(&mut child).success());
-    let output = reader.join().expect("an output");
-    expect_same(b"spaces without end", &output, b"input too long\n");
-    writer.join().expect("the writer ends");
+    for length in [100_000, 1_000_000] {
+        let (mut child, mut stdin, stdout) = spawn(&mut piped());
+        let writer = thread::spawn(move || {
+            // The write fails where the program has ended before it has read all. The pipe stays open.
+            drop(stdin.write_all(&vec![b' '; length]));
+            stdin
+        });
+        let reader = take(stdout);
+        assert!(end(&mut child).success());
+        let output = reader.join().expect("an output");
+        expect_same(b"spaces without end", &output, b"input too long\n");
+        drop(writer.join().expect("the writer ends"));
+    }
 }
 
 /// A reader that is slow, and takes little at a time. The pipe is full meanwhile.

@@ -66,7 +66,7 @@ fn run(random: &mut Random, length: usize) -> Name {
     while run.len() < length {
         let byte = match random.below(4) {
             0 => random.byte(),
-            1 => one(random, &[b"\0%#.-,>_\x80\xff"])[random.below(10)],
+            1 => b"\0%#.-,>_\x80\xff"[random.below(10)],
             _ => b'a' + random.below(26) as u8,
         };
         if !b" \t\r\n".contains(&byte) {
@@ -161,7 +161,7 @@ fn rule_sets_and_names() {
     seen.expect("nothing quiet spent full verdict 12 14 15");
 }
 
-/// Rule sets that hold much: few names, so that most of a run is steps.
+/// Rule sets that grow, loop and chain, mostly without verdicts, and many names.
 #[test]
 fn long_runs() {
     let mut random = Random::new(102);
@@ -179,7 +179,7 @@ fn long_runs() {
     seen.expect("quiet spent full verdict 12 14 15");
 }
 
-/// Texts with 64 rules of eight symbols and short names, so that they are read.
+/// Texts with 64 rules of eight symbols. Those with long names are too long.
 #[test]
 fn the_most_rules() {
     let mut random = Random::new(103);
