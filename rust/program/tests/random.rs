@@ -154,7 +154,7 @@ fn input(random: &mut Random, set: &RuleSet, most: usize) -> Vec<u8> {
 fn rule_sets_and_names() {
     let mut random = Random::new(101);
     let mut seen = Seen::default();
-    for _ in 0..2_500 {
+    for _ in 0..2_000 {
         let set = rule_set(&mut random);
         seen.compare(&input(&mut random, &set, 40));
     }
@@ -238,7 +238,7 @@ fn damage(random: &mut Random, bytes: &mut Vec<u8>) {
 fn damaged() {
     let mut random = Random::new(104);
     let mut seen = Seen::default();
-    for _ in 0..2_000 {
+    for _ in 0..1_500 {
         let set = rule_set(&mut random);
         let mut input = input(&mut random, &set, 20);
         for _ in 0..random.within(1, 3) {
