@@ -149,6 +149,11 @@ fn the_rules_are_the_published_ones() {
         let input = read(&root().join("examples").join(name).join("input"));
         assert_eq!(rule_lines(&input)[1..], *rules, "{name}");
     }
+    let rules_of = |name: &str| read(&root().join("examples").join(name).join("input"));
+    let (published, here) = (rules_of("counting"), rules_of("counting-here"));
+    let mut fewer = rule_lines(&published);
+    fewer.retain(|&rule| rule != "three zero -> zero three .");
+    assert_eq!(rule_lines(&here), fewer, "counting-here");
 }
 
 /// A page has a table with each line of the rule text, blocks with lines of the output, and other inputs
