@@ -213,3 +213,8 @@ pub use refusal::Refusal;
 pub use rules::Rules;
 pub use table::{check_table, compile, MAX_IMAGE_BYTES, MAX_TABLE_WORDS};
 pub use text::{read_rules, Names, TextRefusal, MAX_TEXT_BYTES, NAMES_BYTES};
+
+// The examples of the workspace's README are tests.
+#[cfg(doctest)]
+#[doc = include_str!("../../README.md")]
+struct Readme;
