@@ -1,15 +1,15 @@
 -- What an offer gives back fits its line, and the line is put together from its parts.
 -- Assumes nothing.
-use Prim.Native.Nat.{ℕ, _+_, _≤_, _<_}
-use mathlib.Core.Path.{_≡_, refl, sym, ap, _∙_}
+use Prim.Native.Nat.{ℕ, _+_, _≤_}
+use mathlib.Core.Path.{_≡_, refl, ap}
 use mathlib.Core.Bool.{Bool, true, false, cond, _&&_}
-use mathlib.Core.Option.{Option, none, some}
+use mathlib.Core.Option.{none, some}
 use mathlib.Core.List.{List, [], _∷_, _++_}
 use native.Mathlib.Omega.{arith}
 use lib.Dec.{leb}
 use lib.ListN.{length}
 use borrow.Author.Tests.{leb-true}
-use Rattle.rewriting.specs.Lists.{below, between}
+use Rattle.rewriting.specs.Lists.{between}
 use Rattle.rewriting.proofs.Lists.{and-left, between-high, below-weaken}
 use Rattle.rewriting.proofs.Ranges.{ranges}
 use Rattle.image.specs.Image.{read}

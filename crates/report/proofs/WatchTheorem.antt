@@ -12,12 +12,11 @@ use lib.Seq.{take-append-seam, drop-drop}
 use borrow.Author.Tests.{leb-true, le-leb, ltb-true, ltb-false}
 use Rattle.rewriting.specs.Lists.{over}
 use Rattle.image.specs.Image.{imageOf}
-use Rattle.image.specs.Refusals.{refusal}
 use Rattle.table.specs.Table.{tableOf}
 use Rattle.text.specs.Tokens.{unbroken, runsFrom, runs}
 use Rattle.text.specs.Scanned.{gap}
 use Rattle.text.specs.Grammar.{Reading, ruleSetOf}
-use Rattle.text.specs.Read.{Result, Good, Bad, readText, namesOf, unless}
+use Rattle.text.specs.Read.{Result, Good, Bad, readText, namesOf}
 use Rattle.text.proofs.Runs.{gap-le, unbroken-le, run-some, runs-none, runs-next, endOf}
 use Rattle.text.proofs.Sound.{read-length-names}
 use Rattle.report.specs.Lines.{eventLine, refusedLine, tooLongLine}

@@ -6,7 +6,7 @@ use mathlib.Core.List.{List, [], _∷_, _++_, append-assoc}
 use native.Mathlib.Numerals.{add-one}
 use native.Mathlib.Omega.{arith}
 use lib.ListN.{length, set, take, drop, length-append, take-append-drop}
-use lib.Seq.{paste, length-take-le, take-append-seam, take-length, drop-append-add, drop-drop, drop-append-seam, set-split}
+use lib.Seq.{paste, length-take-le, take-append-seam, take-length, drop-append-add, drop-drop, set-split}
 use Rattle.rewriting.specs.Lists.{over}
 use Rattle.report.specs.Wrote.{Wrote, Writes}
 

@@ -16,6 +16,23 @@ use text::Read;
 
 mod lines;
 
+// Document 01's 20,480 bytes of input, and fuel 1,000 for each name.
+pub const INPUT_BYTES: usize = 20480;
+
+const FUEL: u32 = 1000;
+
+// What an image, the names' slots and a table need at most, and what a monitor holds.
+pub const IMAGE_BYTES: usize = 1284;
+
+pub const NAMES_BYTES: usize = 1200;
+
+pub const TABLE_WORDS: usize = 16931;
+
+pub const CAPACITY: usize = 2048;
+
+// The most bytes that a line has: `lineMost`, specs/Turns.antt.
+pub const LINE_BYTES: usize = 51261;
+
 // The walk over the event names: the monitor's head, and where in the input the next name is looked for.
 pub struct Walk {
     pub head: Head,
@@ -70,9 +87,9 @@ fn events_start(input: &[u8], end: usize) -> usize
 fn make_ready(
     at: usize,
     image: &[u8],
-    table: &mut [u16; 16931],
-    bytes: &mut [u8; 2048],
-    words: &mut [u16; 2048],
+    table: &mut [u16; TABLE_WORDS],
+    bytes: &mut [u8; CAPACITY],
+    words: &mut [u16; CAPACITY],
 ) -> Begun
     requires { ⌜ valid (now image) ≡ true ⌝ }
     ensures answer { λ r. ⌜ r ≡ Begun.Events (record { walk = record { head = freshMonitor .head; at = at }; image = length (now (image .entry)); table = length (tableOf (read (now (image .entry)))) }) ⌝ }
@@ -98,18 +115,18 @@ fn make_ready(
 // events are to be offered one by one, by `next`.
 pub fn begin(
     input: &[u8],
-    image: &mut [u8; 1284],
-    names: &mut [u8; 1200],
-    table: &mut [u16; 16931],
-    bytes: &mut [u8; 2048],
-    words: &mut [u16; 2048],
-    line: &mut [u8; 51261],
+    image: &mut [u8; IMAGE_BYTES],
+    names: &mut [u8; NAMES_BYTES],
+    table: &mut [u16; TABLE_WORDS],
+    bytes: &mut [u8; CAPACITY],
+    words: &mut [u16; CAPACITY],
+    line: &mut [u8; LINE_BYTES],
 ) -> Begun
     ensures outcome { λ r. ⌜ beginsFrom r (areas (now (image .exit)) (now (names .exit)) (now (table .exit)) (now (bytes .exit)) (now (words .exit)) (now (line .exit)))
         ≡ beginOf (now (input .entry)) (areas (now (image .entry)) (now (names .entry)) (now (table .entry)) (now (bytes .entry)) (now (words .entry)) (now (line .entry))) ⌝ }
     ensures inside { λ r. ⌜ Inside r ⌝ }
 {
-    if 20480 < input.len() {
+    if INPUT_BYTES < input.len() {
         return Begun::Message(lines::put(line, 0, b"input too long\n"));
     }
     let end = rule_length(input);
@@ -141,10 +158,10 @@ impl Walk {
         x: &[u8],
         image: &[u8],
         table: &[u16],
-        names: &[u8; 1200],
-        bytes: &mut [u8; 2048],
-        words: &mut [u16; 2048],
-        line: &mut [u8; 51261],
+        names: &[u8; NAMES_BYTES],
+        bytes: &mut [u8; CAPACITY],
+        words: &mut [u16; CAPACITY],
+        line: &mut [u8; LINE_BYTES],
     ) -> Line
         requires { ⌜ length (now x) ≤ 20480 ⌝ }
         ensures { λ r. ⌜ turnFrom r (now (bytes .exit)) (now (words .exit)) (now (line .exit))
@@ -167,7 +184,7 @@ impl Walk {
                 }
             }
             Found::Symbol(a) => {
-                let called = head.offer(image, table, bytes, words, a as u8, 1000);
+                let called = head.offer(image, table, bytes, words, a as u8, FUEL);
                 let length = lines::put_told(line, at, names, called, bytes);
                 let left = called.head;
                 Line {
@@ -187,10 +204,10 @@ impl Walk {
         input: &[u8],
         image: &[u8],
         table: &[u16],
-        names: &[u8; 1200],
-        bytes: &mut [u8; 2048],
-        words: &mut [u16; 2048],
-        line: &mut [u8; 51261],
+        names: &[u8; NAMES_BYTES],
+        bytes: &mut [u8; CAPACITY],
+        words: &mut [u16; CAPACITY],
+        line: &mut [u8; LINE_BYTES],
     ) -> Line
         ensures turn { λ r. ⌜ turnFrom r (now (bytes .exit)) (now (words .exit)) (now (line .exit))
             ≡ turnOf (nextOf (watchWith self (now (image .entry)) (now (table .entry)) (now (names .entry)) (now (bytes .entry)) (now (words .entry)))
@@ -198,7 +215,7 @@ impl Walk {
         ensures fits { λ r. ⌜ r .length ≤ lineMost ⌝ }
         ensures onward { λ r. ⌜ ((r .length ≡ 0 → ⊥) → (self .at < r .walk .at) × (r .walk .at ≤ length (now (input .entry)))) ⌝ }
     {
-        if 20480 < input.len() {
+        if INPUT_BYTES < input.len() {
             return self.over();
         }
         let at = self.at;

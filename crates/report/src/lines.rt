@@ -1,11 +1,11 @@
 // The parts of a line, written one behind the other into a lent buffer. Each function answers where its part ends.
 // The module is private: that there is room, its callers show.
-ghost use Prim.Native.Nat.{ℕ, _+_, _*_, _≤_, _<_};
+ghost use Prim.Native.Nat.{_+_, _*_, _≤_, _<_};
 ghost use mathlib.Core.Path.{_≡_};
 ghost use mathlib.Core.Bool.{true};
 ghost use mathlib.Core.Option.{none};
-ghost use mathlib.Core.List.{List, [], _∷_, _++_, flatMap};
-ghost use lib.ListN.{length, take, drop};
+ghost use mathlib.Core.List.{[], _∷_, _++_, flatMap};
+ghost use lib.ListN.{length};
 ghost use Rattle.rewriting.specs.Lists.{below};
 ghost use Rattle.monitor.specs.Calls.{refusedBy};
 ghost use Rattle.monitor.specs.Lent.{outcomeFrom};

@@ -4,11 +4,17 @@ ghost use Prim.Native.Nat.{_≤_};
 use libc::STDIN_FILENO;
 use libc::STDOUT_FILENO;
 use report::Begun;
+use report::CAPACITY;
+use report::IMAGE_BYTES;
+use report::INPUT_BYTES;
+use report::LINE_BYTES;
+use report::NAMES_BYTES;
 use report::Start;
+use report::TABLE_WORDS;
 use report::Walk;
 
 // Writes the first n bytes of the line.
-fn write_line(line: &[u8; 51261], n: usize) -> bool
+fn write_line(line: &[u8; LINE_BYTES], n: usize) -> bool
     requires { ⌜ n ≤ 51261 ⌝ }
 {
     let all: &[u8] = line;
@@ -21,10 +27,10 @@ fn write_lines(
     input: &[u8],
     image: &[u8],
     table: &[u16],
-    names: &[u8; 1200],
-    bytes: &mut [u8; 2048],
-    words: &mut [u16; 2048],
-    line: &mut [u8; 51261],
+    names: &[u8; NAMES_BYTES],
+    bytes: &mut [u8; CAPACITY],
+    words: &mut [u16; CAPACITY],
+    line: &mut [u8; LINE_BYTES],
 ) {
     let mut walk = first;
     loop {
@@ -44,12 +50,12 @@ fn write_lines(
 fn write_events(
     start: Start,
     input: &[u8],
-    image: &[u8; 1284],
-    table: &[u16; 16931],
-    names: &[u8; 1200],
-    bytes: &mut [u8; 2048],
-    words: &mut [u16; 2048],
-    line: &mut [u8; 51261],
+    image: &[u8; IMAGE_BYTES],
+    table: &[u16; TABLE_WORDS],
+    names: &[u8; NAMES_BYTES],
+    bytes: &mut [u8; CAPACITY],
+    words: &mut [u16; CAPACITY],
+    line: &mut [u8; LINE_BYTES],
 )
     requires image { ⌜ start .image ≤ 1284 ⌝ }
     requires table { ⌜ start .table ≤ 16931 ⌝ }
@@ -72,14 +78,14 @@ fn write_events(
 }
 
 fn main() {
-    let mut input = [0u8; 20481];
+    let mut input = [0u8; INPUT_BYTES + 1];
     let n = io::read_full(STDIN_FILENO, &mut input);
-    let mut image = [0u8; 1284];
-    let mut names = [0u8; 1200];
-    let mut table = [0u16; 16931];
-    let mut bytes = [0u8; 2048];
-    let mut words = [0u16; 2048];
-    let mut line = [0u8; 51261];
+    let mut image = [0u8; IMAGE_BYTES];
+    let mut names = [0u8; NAMES_BYTES];
+    let mut table = [0u16; TABLE_WORDS];
+    let mut bytes = [0u8; CAPACITY];
+    let mut words = [0u16; CAPACITY];
+    let mut line = [0u8; LINE_BYTES];
     match report::begin(
         &input[..n],
         &mut image,

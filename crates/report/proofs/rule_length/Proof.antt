@@ -1,7 +1,7 @@
 -- `rule_length` meets its contract. The loop's invariant: the bytes of the rule text are counted up to byte i.
 -- Assumes nothing.
 use Prim.Native.Nat.{_+_, _-_}
-use mathlib.Core.Path.{_≡_, refl}
+use mathlib.Core.Path.{_≡_}
 use native.Mathlib.Omega.{arith}
 use lib.ListN.{length, drop}
 use borrow.Author.Needs.{needs}

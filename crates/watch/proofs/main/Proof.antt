@@ -1,6 +1,5 @@
 -- `main` takes from its areas no more than `begin` says.
 -- Assumes nothing.
-use Rattle.report.specs.Turns.{Inside}
 use borrow.Author.Needs.{needs}
 use Rattle.watch.proofs.main.Statement.{statement}
 use Rattle.watch.proofs.main.Tie as tie

@@ -8,7 +8,6 @@ use mathlib.Core.List.{List}
 use borrow.Author.Needs.{needs}
 use Rattle.monitor.specs.Areas.{Monitor, documentCapacity}
 use Rattle.monitor.specs.Calls.{Outcome, offerOf}
-use Rattle.monitor.specs.Lent.{outcomeFrom}
 use Rattle.text.specs.declared.Found.{Found}
 use Rattle.text.specs.Held.{foundAs}
 use Rattle.text.proofs.Numbering.{lookup-below}

@@ -1,6 +1,5 @@
 -- `lines::put_answer` meets its contract.
 -- Assumes nothing.
-use mathlib.Core.Path.{sym, ap}
 use native.Mathlib.Omega.{arith}
 use Rattle.report.specs.Lines.{answerWord}
 use Rattle.report.proofs.Writing.{writes-then, writes-end}

@@ -1,6 +1,5 @@
 -- `lines::put_refused` meets its contract.
 -- Assumes nothing.
-use mathlib.Core.Path.{refl}
 use native.Mathlib.Omega.{arith}
 use borrow.Author.Needs.{needs}
 use Rattle.report.proofs.Decimals.{decimal-length}

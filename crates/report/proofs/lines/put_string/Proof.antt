@@ -3,7 +3,7 @@
 use mathlib.Core.Path.{_∙_}
 use native.Mathlib.Omega.{arith}
 use lib.Dec.{ltb}
-use lib.ListN.{length, length-set}
+use lib.ListN.{length-set}
 use borrow.Author.Needs.{needs}
 use Rattle.rewriting.proofs.Lists.{all-left, all-right}
 use Rattle.report.proofs.Writing.{writes-end}
