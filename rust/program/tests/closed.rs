@@ -171,29 +171,18 @@ fn a_reader_that_goes_away() {
     }
 }
 
-/// Standard output is closed from the beginning.
+/// Standard output is closed from the beginning, or a device on which there is never room.
 #[test]
 fn no_output() {
-    for input in inputs() {
-        let (mut child, stdin, stdout) = spawn(&mut redirected(">&-"));
-        let writer = feed(stdin, vec![input.clone()], 0);
-        let status = end(&mut child);
-        assert!(status.success(), "{status}");
-        expect_same(&input, &take(stdout).join().expect("nothing"), b"");
-        writer.join().expect("the writer ends");
-    }
-}
-
-/// Standard output is a device on which there is never room.
-#[test]
-fn no_room_for_output() {
-    for input in inputs() {
-        let (mut child, stdin, stdout) = spawn(&mut redirected(">/dev/full"));
-        let writer = feed(stdin, vec![input.clone()], 0);
-        let status = end(&mut child);
-        assert!(status.success(), "{status}");
-        expect_same(&input, &take(stdout).join().expect("nothing"), b"");
-        writer.join().expect("the writer ends");
+    for redirections in [">&-", ">/dev/full"] {
+        for input in inputs() {
+            let (mut child, stdin, stdout) = spawn(&mut redirected(redirections));
+            let writer = feed(stdin, vec![input.clone()], 0);
+            let status = end(&mut child);
+            assert!(status.success(), "{status}");
+            expect_same(&input, &take(stdout).join().expect("nothing"), b"");
+            writer.join().expect("the writer ends");
+        }
     }
 }
 
