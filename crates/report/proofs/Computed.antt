@@ -2,10 +2,13 @@
 -- Assumes nothing.
 use Prim.Native.String.{String}
 use Prim.Native.Nat.{ℕ, zero, suc}
-use mathlib.Core.Path.{_≡_, refl}
+use mathlib.Core.Path.{_≡_, refl, _∙_}
+use mathlib.Core.Bool.{true}
 use mathlib.Core.Option.{orElse}
 use mathlib.Core.List.{List, [], _++_, flatMap}
-use lib.ListN.{replicate}
+use lib.Dec.{ltb}
+use lib.ListN.{length, replicate, length-replicate}
+use borrow.Author.Tests.{ltb-true}
 use Rattle.rewriting.specs.Rules.{symbolsOf, rule, rightInRange, ruleInRange, inRange}
 use Rattle.rewriting.specs.Occurrences.{lowest, tie, ending}
 use Rattle.image.specs.Image.{kind, lengthOrVerdict, contents, body, imageOf, readRight, readRule, readRules, read, valid}
@@ -26,7 +29,10 @@ use Rattle.report.specs.Lines as Lines
 use Rattle.report.specs.Lines.{decimal}
 use Rattle.report.specs.Watch as Watch
 use Rattle.report.specs.Watch.{printed}
-use Rattle.report.specs.Sample.{bytes, sampleInput, sampleOutput}
+use Rattle.report.specs.Turns.{Areas, areas, beginOf, lineMost, writtenBy, Sized}
+use Rattle.report.specs.Ascii.{bytes}
+use Rattle.report.specs.Sample.{sampleInput, sampleOutput}
+use Rattle.report.proofs.WatchTheorem.{watch-theorem}
 
 -- Three names of no fact: `unfolding reads` opens every definition that it names at once, and so do the others.
 
@@ -141,3 +147,24 @@ pub input-long :
     × (printed (bytes "events a .%" ++ replicate 20468 32 ++ bytes "a") ≡ bytes "a quiet 1 0 a\n")
 unfolding reads runs-on prints
 input-long = (refl, refl, refl, refl, refl)
+
+-- Areas of the lengths that `watch-theorem` asks for, and what `begin` and `next` write for the sample with them.
+abbrev zeros : Areas
+zeros = areas (replicate 1284 0) (replicate 1200 0) (replicate 16931 0) (replicate 2048 0) (replicate 2048 0) (replicate lineMost 0)
+
+zeros-sized : Sized zeros
+zeros-sized =
+    record {
+      image = length-replicate {A = ℕ} 1284 0;
+      names = length-replicate {A = ℕ} 1200 0;
+      table = length-replicate {A = ℕ} 16931 0;
+      line = length-replicate {A = ℕ} lineMost 0;
+    }
+
+sample-short : ltb (length sampleInput) 200 ≡ true
+unfolding bytes
+sample-short = refl
+
+pub sample-written :
+    writtenBy 200 sampleInput (beginOf sampleInput zeros .answer) (beginOf sampleInput zeros .areas) ≡ sampleOutput
+sample-written = watch-theorem sampleInput zeros zeros-sized 200 (ltb-true (length sampleInput) 200 sample-short) ∙ sample-printed

@@ -10,7 +10,7 @@ use lib.Dec.{leb}
 use lib.ListN.{length}
 use borrow.Author.Tests.{leb-true}
 use Rattle.rewriting.specs.Lists.{between}
-use Rattle.rewriting.proofs.Lists.{and-left, between-high, below-weaken}
+use Rattle.rewriting.proofs.Lists.{between-high, below-weaken}
 use Rattle.rewriting.proofs.Ranges.{ranges}
 use Rattle.image.specs.Image.{read}
 use Rattle.image.proofs.Image.{valid-in-range}

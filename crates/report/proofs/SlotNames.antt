@@ -18,6 +18,7 @@ use Rattle.text.specs.Held.{Sound}
 use Rattle.text.proofs.Slots.{name-short, length-slot, length-slots}
 use Rattle.text.proofs.Sound.{read-sound}
 use Rattle.monitor.specs.declared.Answer.{Answer}
+use Rattle.report.specs.Ascii.{bytes}
 use Rattle.report.specs.Lines.{nameIn, answerWord}
 
 -- Behind n slots the slots are counted from there.
@@ -108,7 +109,7 @@ name-length names i =
 
 -- the word for an answer is no longer than `#` and a name
 pub answer-length : (names : List ℕ) (a : Answer) → length (answerWord names a) ≤ 25
-unfolding answerWord
+unfolding answerWord bytes
 answer-length names Answer.Quiet = omega arith
 answer-length names Answer.Spent = omega arith
 answer-length names Answer.Full = omega arith

@@ -7,6 +7,7 @@ use lib.ListN.{getD, take, drop}
 use Rattle.monitor.specs.declared.Answer.{Answer}
 use Rattle.monitor.specs.Calls.{Outcome}
 use Rattle.monitor.specs.Play.{stringOf}
+use Rattle.report.specs.Ascii.{bytes}
 
 -- a space, `#`, `,`, `-` and the end of a line
 abbrev pub space : ℕ
@@ -24,26 +25,10 @@ dash = 45
 abbrev pub newline : ℕ
 newline = 10
 
--- `quiet`, `spent`, `full`, `refused`, `rules`, `input too long`
-abbrev pub quietWord : List ℕ
-quietWord = 113 ∷ 117 ∷ 105 ∷ 101 ∷ 116 ∷ []
-
-abbrev pub spentWord : List ℕ
-spentWord = 115 ∷ 112 ∷ 101 ∷ 110 ∷ 116 ∷ []
-
-abbrev pub fullWord : List ℕ
-fullWord = 102 ∷ 117 ∷ 108 ∷ 108 ∷ []
-
 abbrev pub refusedWord : List ℕ
-refusedWord = 114 ∷ 101 ∷ 102 ∷ 117 ∷ 115 ∷ 101 ∷ 100 ∷ []
+refusedWord = bytes "refused"
 
-abbrev pub rulesWord : List ℕ
-rulesWord = 114 ∷ 117 ∷ 108 ∷ 101 ∷ 115 ∷ []
-
-abbrev pub tooLongWords : List ℕ
-tooLongWords = 105 ∷ 110 ∷ 112 ∷ 117 ∷ 116 ∷ 32 ∷ 116 ∷ 111 ∷ 111 ∷ 32 ∷ 108 ∷ 111 ∷ 110 ∷ 103 ∷ []
-
--- the digits of a number below 10 ^ k, the first one other than 0
+-- the digits of n, at most k of them, with no 0 before others
 unfoldable pub digits : ℕ → ℕ → List ℕ
 digits zero n = []
 digits (suc k) n = cond (ltb n 10) ((48 + n) ∷ []) (digits k (n / 10) ++ (48 + n % 10) ∷ [])
@@ -64,9 +49,9 @@ joined names (a ∷ string) = nameIn names a ++ flatMap (λ b. comma ∷ nameIn 
 
 -- "`quiet`, `spent`, `full` or `#` with the verdict's name", `refused`; "32..47 verdicts"
 unfoldable pub answerWord : List ℕ → Answer → List ℕ
-answerWord names Answer.Quiet = quietWord
-answerWord names Answer.Spent = spentWord
-answerWord names Answer.Full = fullWord
+answerWord names Answer.Quiet = bytes "quiet"
+answerWord names Answer.Spent = bytes "spent"
+answerWord names Answer.Full = bytes "full"
 answerWord names (Answer.Verdict v) = hash ∷ nameIn names (32 + v)
 answerWord names (Answer.Refused n) = refusedWord
 
@@ -90,8 +75,8 @@ eventLine names x o = x ++ space ∷ (answerWord names (o .answer) ++ space ∷ 
 -- "A refused text prints `rules refused`, number, place."
 unfoldable pub refusedLine : ℕ → ℕ → List ℕ
 refusedLine n place =
-    rulesWord ++ space ∷ (refusedWord ++ space ∷ (decimal n ++ space ∷ (decimal place ++ newline ∷ [])))
+    bytes "rules refused" ++ space ∷ (decimal n ++ space ∷ (decimal place ++ newline ∷ []))
 
 -- "else prints `input too long`"
 unfoldable pub tooLongLine : List ℕ
-tooLongLine = tooLongWords ++ newline ∷ []
+tooLongLine = bytes "input too long" ++ newline ∷ []

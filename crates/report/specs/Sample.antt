@@ -1,14 +1,8 @@
 -- Document 01's sample: an input, and what `watch` prints for it. `sample-printed` (proofs/Computed.antt) computes the one
 -- from the other.
-use Prim.Native.Char.{code}
-use Prim.Native.String.{String, [] as no-text, _∷_ as _then_}
 use Prim.Native.Nat.{ℕ}
-use mathlib.Core.List.{List, [], _∷_}
-
--- the bytes of a text in ASCII
-unfoldable pub bytes : String → List ℕ
-bytes no-text = []
-bytes (c then s) = code c ∷ bytes s
+use mathlib.Core.List.{List}
+use Rattle.report.specs.Ascii.{bytes}
 
 abbrev pub sampleInput : List ℕ
 sampleInput =

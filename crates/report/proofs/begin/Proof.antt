@@ -4,6 +4,7 @@ use mathlib.Core.Path.{refl, sym, ap, _∙_}
 use native.Mathlib.Omega.{arith}
 use lib.Seq.{length-take-le}
 use borrow.Author.Needs.{needs}
+use Rattle.report.specs.Ascii.{bytes}
 use Rattle.report.specs.Lines.{refusedLine, tooLongLine}
 use Rattle.report.specs.Watch.{ruleTextRead}
 use Rattle.report.specs.Turns.{areas}
@@ -20,7 +21,7 @@ put-requires : tie.Need-put-requires
 put-requires c κs = search needs
 
 returns : tie.Need-returns
-unfolding tooLongLine
+unfolding tooLongLine bytes
 returns c =
     let start = c .before .before .before .before .before in
     let l = (areas (start .args .image .now) (start .args .names .now) (start .args .table .now) (start .args .bytes .now) (start .args .words .now) (start .args .line .now)) in

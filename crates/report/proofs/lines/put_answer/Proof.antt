@@ -1,6 +1,7 @@
 -- `lines::put_answer` meets its contract.
 -- Assumes nothing.
 use native.Mathlib.Omega.{arith}
+use Rattle.report.specs.Ascii.{bytes}
 use Rattle.report.specs.Lines.{answerWord}
 use Rattle.report.proofs.Writing.{writes-then, writes-end}
 use borrow.Author.Needs.{needs}
@@ -67,35 +68,35 @@ same-length : tie.Need-same-length
 same-length c = search needs
 
 returns : tie.Need-returns
-unfolding answerWord
+unfolding answerWord bytes
 returns c = rw (c .before .before .before .before .before .enum-told .given .1) (c .before .before .put .ensures)
 
 same-length-2 : tie.Need-same-length-2
 same-length-2 c = search needs
 
 returns-2 : tie.Need-returns-2
-unfolding answerWord
+unfolding answerWord bytes
 returns-2 c = rw (c .before .before .before .before .before .enum-told2 .given .1) (c .before .before .put2 .ensures)
 
 same-length-3 : tie.Need-same-length-3
 same-length-3 c = search needs
 
 returns-3 : tie.Need-returns-3
-unfolding answerWord
+unfolding answerWord bytes
 returns-3 c = rw (c .before .before .before .before .before .enum-told3 .given .1) (c .before .before .put3 .ensures)
 
 same-length-4 : tie.Need-same-length-4
 same-length-4 c = search needs
 
 returns-4 : tie.Need-returns-4
-unfolding answerWord
+unfolding answerWord bytes
 returns-4 c = rw (c .before .before .before .before .before .before .before .before .before .answer .given .1) (writes-then (c .before .before .before .before .before .before .put-byte .ensures) (c .before .before .put-name .ensures))
 
 same-length-5 : tie.Need-same-length-5
 same-length-5 c = search needs
 
 returns-5 : tie.Need-returns-5
-unfolding answerWord
+unfolding answerWord bytes
 returns-5 c = rw (c .before .before .before .before .before .enum-told4 .given .1) (c .before .before .put4 .ensures)
 
 pub put-answer-spec : {M : Type 1} → statement M

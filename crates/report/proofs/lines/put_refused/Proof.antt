@@ -2,6 +2,7 @@
 -- Assumes nothing.
 use native.Mathlib.Omega.{arith}
 use borrow.Author.Needs.{needs}
+use Rattle.report.specs.Ascii.{bytes}
 use Rattle.report.proofs.Decimals.{decimal-length}
 use Rattle.report.proofs.Writing.{writes-then, writes-end}
 use Rattle.report.proofs.lines.put_refused.Statement.{statement}
@@ -31,6 +32,7 @@ same-length : tie.Need-same-length
 same-length c = search needs
 
 returns : tie.Need-returns
+unfolding bytes
 returns c = writes-then (c .before .before .before .before .before .before .before .before .before .before .put .ensures) (writes-then (c .before .before .before .before .before .before .put-decimal .ensures) (c .before .before .put-byte .ensures))
 
 pub put-refused-spec : {M : Type 1} → statement M

@@ -2,6 +2,7 @@
 -- Assumes nothing.
 use native.Mathlib.Omega.{arith}
 use borrow.Author.Needs.{needs}
+use Rattle.report.specs.Ascii.{bytes}
 use Rattle.report.specs.Lines.{refusedLine}
 use Rattle.report.proofs.Decimals.{decimal-length}
 use Rattle.report.proofs.Writing.{writes-then, writes-end}
@@ -55,7 +56,7 @@ same-length : tie.Need-same-length
 same-length c = search needs
 
 returns : tie.Need-returns
-unfolding refusedLine
+unfolding refusedLine bytes
 returns c =
     writes-then (c .before .before .before .before .before .before .before .before .before .before .before .before .before .before .before .before .before .before .put .ensures)
     (writes-then (c .before .before .before .before .before .before .before .before .before .before .before .before .before .before .put-decimal .ensures)
