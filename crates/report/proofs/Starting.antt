@@ -10,7 +10,6 @@ use lib.ListN.{length, take, drop, length-append}
 use lib.Seq.{take-append-seam}
 use borrow.Author.Tests.{leb-true, le-leb, lt-leb, eq-eqb}
 use Rattle.rewriting.specs.Lists.{over}
-use Rattle.rewriting.specs.Rules.{RuleSet}
 use Rattle.image.specs.Image.{imageOf, read, valid}
 use Rattle.image.specs.Refusals.{refusal}
 use Rattle.image.proofs.Image.{valid-in-range, read-image}
@@ -194,22 +193,13 @@ message-is input l m n image names line e same-image same-names size written kep
 pub ready-is :
     (input : List ℕ) (l : Areas) (s : Reading) (at : ℕ) (r : Begun) (part image names table bytes words : List ℕ)
     → beginOf input l ≡ started s (eventsAt input) l → part ≡ imageOf (ruleSetOf s)
-    → read (imageOf (ruleSetOf s)) ≡ ruleSetOf s → valid (imageOf (ruleSetOf s)) ≡ true
-    → length (imageOf (ruleSetOf s)) ≤ 1284 → at ≡ eventsAt input
+    → read (imageOf (ruleSetOf s)) ≡ ruleSetOf s → at ≡ eventsAt input
     → r
     ≡ begun-as.Events
-    (record {
-      walk = record { head = freshMonitor .head; at = at };
-      image = length part;
-      table = length (tableOf (read part));
-    })
+    (record { head = freshMonitor .head; at = at; image = length part; table = length (tableOf (read part)) })
     → image ≡ over (imageOf (ruleSetOf s)) (l .image) → names ≡ over (namesOf s) (l .names)
     → table ≡ over (tableOf (read part)) (l .table) → bytes ≡ freshMonitor .bytes → words ≡ freshMonitor .words
     → (beginsFrom r (areas image names table bytes words (l .line)) ≡ beginOf input l) × Inside r
 unfolding started
-ready-is input l s at r part image names table bytes words begins is-image back good short place answer i n t b w =
-    let set : RuleSet = ruleSetOf s in
-    let few : length (tableOf set) ≤ 16931 =
-    rw back at (table-length (read (imageOf set)) (valid-in-range (imageOf set) good))
-    in
-    rw (begins, answer, t, i, n, b, w, is-image, back, place) (refl, (short, few))
+ready-is input l s at r part image names table bytes words begins is-image back place answer i n t b w =
+    rw (begins, answer, t, i, n, b, w, is-image, back, place) (refl, tt)

@@ -1,16 +1,17 @@
 -- The next name of an input, as the code finds it.
 -- Assumes nothing.
-use Prim.Native.Nat.{ℕ, zero, suc, _+_, _-_, _≤_, _<_}
-use mathlib.Core.Path.{_≡_, refl, sym, ap}
+use Prim.Native.Nat.{ℕ, zero, suc, _+_, _-_, _≤_, _<_, min}
+use mathlib.Core.Path.{_≡_, refl, sym, ap, _∙_}
 use mathlib.Core.Bool.{Bool, true, false, cond}
 use mathlib.Core.List.{List, [], _∷_}
 use native.Mathlib.Omega.{arith}
-use lib.Dec.{leb}
+use lib.Dec.{leb, ltb}
 use lib.ListN.{length, take, drop, length-append, length-drop, drop-of-length-le}
-use lib.Seq.{drop-drop}
-use borrow.Author.Tests.{le-leb, lt-leb}
+use lib.Seq.{take-all, drop-drop}
+use borrow.Author.Tests.{le-leb, lt-leb, ltb-true, ltb-false}
 use borrow.Rule.Slice.PartAt.{part-to-end}
 use Rattle.rewriting.specs.Lists.{over}
+use Rattle.monitor.specs.declared.Head.{Head}
 use Rattle.monitor.specs.Lent.{lent}
 use Rattle.text.specs.declared.Run.{Run}
 use Rattle.text.specs.Tokens.{unbroken}
@@ -94,13 +95,21 @@ module _ (input : List ℕ) (at : ℕ) (r : Run) (found : r ≡ firstRun (take (
 
 -- What the code gave back, by its parts. A line that was written is no longer than its buffer.
 pub turn-is :
-    (n : Next) (buffer : List ℕ) (r : Line) (bytes words buffer′ : List ℕ) → r .length ≡ length (n .line)
-    → r .walk .at ≡ n .at → lent (r .walk .head) bytes words ≡ n .monitor → buffer′ ≡ over (n .line) buffer
-    → length buffer′ ≡ length buffer → length buffer ≡ lineMost
-    → (turnFrom r bytes words buffer′ ≡ turnOf n buffer) × (r .length ≤ lineMost)
+    (n : Next) (walk : Walk) (buffer : List ℕ) (r : Line) (head : Head) (bytes words buffer′ : List ℕ)
+    → r .length ≡ length (n .line) → r .walk ≡ record { head = head; at = n .at; image = walk .image; table = walk .table }
+    → lent head bytes words ≡ n .monitor → buffer′ ≡ over (n .line) buffer → length buffer′ ≡ length buffer
+    → length buffer ≡ lineMost → (turnFrom r bytes words buffer′ ≡ turnOf walk n buffer) × (r .length ≤ lineMost)
 unfolding turnOf over
-turn-is n buffer r bytes words buffer′ size place monitor line kept most = (
-  λ i. record { length = size i; at = place i; monitor = monitor i; buffer = line i },
+turn-is n walk buffer r head bytes words buffer′ size place monitor line kept most = (
+  rw place
+      (λ i.
+      record {
+        walk = record { head = monitor i .head; at = n .at; image = walk .image; table = walk .table };
+        length = size i;
+        bytes = monitor i .bytes;
+        words = monitor i .words;
+        buffer = line i;
+      }),
   omega (arith, size, kept, most, ap length line, length-append (n .line) (drop (length (n .line)) buffer)),
 )
 
@@ -108,14 +117,32 @@ turn-is n buffer r bytes words buffer′ size place monitor line kept most = (
 pub turn-nothing :
     (n : Next) (w : Watch) (walk : Walk) (r : Line) (bytes words buffer : List ℕ) → n ≡ nothing w (walk .at)
     → r ≡ record { walk = walk; length = 0 } → lent (walk .head) bytes words ≡ w .monitor
-    → turnFrom r bytes words buffer ≡ turnOf n buffer
+    → turnFrom r bytes words buffer ≡ turnOf walk n buffer
 unfolding turnOf over nothing
 turn-nothing n w walk r bytes words buffer e p monitor =
-    rw (e, p) (λ i. record { length = 0; at = walk .at; monitor = monitor i; buffer = buffer })
+    rw (e, p)
+    (λ i.
+    record {
+      walk = record { head = monitor i .head; at = walk .at; image = walk .image; table = walk .table };
+      length = 0;
+      bytes = monitor i .bytes;
+      words = monitor i .words;
+      buffer = buffer;
+    })
 
 -- the walk goes on where the name ends
 pub turn-place :
-    (w : Watch) (end : ℕ) (x buffer : List ℕ) (r : Line) (bytes words buffer′ : List ℕ)
-    → turnFrom r bytes words buffer′ ≡ turnOf (offering w end x) buffer → r .walk .at ≡ end
+    (w : Watch) (walk : Walk) (end : ℕ) (x buffer : List ℕ) (r : Line) (bytes words buffer′ : List ℕ)
+    → turnFrom r bytes words buffer′ ≡ turnOf walk (offering w end x) buffer → r .walk .at ≡ end
 unfolding turnOf offering
-turn-place w end x buffer r bytes words buffer′ e = ap (λ (t : Turn). t .at) e
+turn-place w walk end x buffer r bytes words buffer′ e = ap (λ (t : Turn). t .walk .at) e
+
+-- the first part of an area, as the code takes it
+pub first-part : (n most : ℕ) (area : List ℕ) → length area ≡ most → take (min n most) area ≡ take n area
+first-part n most area size = go (ltb n most) refl
+  where
+    go : (b : Bool) → ltb n most ≡ b → take (min n most) area ≡ take n area
+    go true e = let m : min n most ≡ n = omega (arith, ltb-true n most e) in rw m
+    go false e =
+        let m : min n most ≡ most = omega (arith, ltb-false n most e) in
+        rw m (take-all most area (omega arith) ∙ sym (take-all n area (omega (arith, ltb-false n most e))))

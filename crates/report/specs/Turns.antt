@@ -15,7 +15,6 @@ use Rattle.text.specs.Grammar.{Reading, ruleSetOf}
 use Rattle.text.specs.Read.{Result, Good, Bad, namesOf}
 use Rattle.report.specs.declared.Begun.{Begun}
 use Rattle.report.specs.declared.Begun.the-variants as begun-as
-use Rattle.report.specs.declared.Start.{Start}
 use Rattle.report.specs.declared.Walk.{Walk}
 use Rattle.report.specs.declared.Line.{Line}
 use Rattle.report.specs.Lines.{refusedLine, tooLongLine}
@@ -53,29 +52,36 @@ firstNamed w at part =
 unfoldable pub nextOf : Watch → List ℕ → ℕ → Next
 nextOf w input at = cond (leb (length input) 20480) (firstNamed w at (drop at input)) (nothing w at)
 
--- what `next` answers, the monitor that it leaves, and the buffer: its line stands at the beginning
+-- what `next` answers, and the areas that it leaves: its line stands at the beginning of the buffer
 pub record Turn : Type 0 where
+  pub walk : Walk
   pub length : ℕ
-  pub at : ℕ
-  pub monitor : Monitor
+  pub bytes : List ℕ
+  pub words : List ℕ
   pub buffer : List ℕ
 
-unfoldable pub turnOf : Next → List ℕ → Turn
-turnOf n buffer = record { length = length (n .line); at = n .at; monitor = n .monitor; buffer = over (n .line) buffer }
+unfoldable pub turnOf : Walk → Next → List ℕ → Turn
+turnOf walk n buffer =
+    record {
+      walk = record { head = n .monitor .head; at = n .at; image = walk .image; table = walk .table };
+      length = length (n .line);
+      bytes = n .monitor .bytes;
+      words = n .monitor .words;
+      buffer = over (n .line) buffer;
+    }
 
 abbrev pub turnFrom : Line → List ℕ → List ℕ → List ℕ → Turn
 turnFrom r bytes words buffer =
-    record {
-      length = r .length;
-      at = r .walk .at;
-      monitor = record { head = r .walk .head; bytes = bytes; words = words };
-      buffer = buffer;
-    }
+    record { walk = r .walk; length = r .length; bytes = bytes; words = words; buffer = buffer }
 
--- what is lent to `next`
+-- image, table, names and monitor, as they are lent
 abbrev pub watchWith : Walk → List ℕ → List ℕ → List ℕ → List ℕ → List ℕ → Watch
 watchWith walk image table names bytes words =
     record { image = image; table = table; names = names; monitor = record { head = walk .head; bytes = bytes; words = words } }
+
+-- the image and the table are the first parts of their areas
+abbrev pub watchIn : Walk → List ℕ → List ℕ → List ℕ → List ℕ → List ℕ → Watch
+watchIn walk image table names bytes words = watchWith walk (take (walk .image) image) (take (walk .table) table) names bytes words
 
 -- what is lent to `begin`
 pub record Areas : Type 0 where
@@ -98,10 +104,10 @@ pub record Begins : Type 0 where
 abbrev pub beginsFrom : Begun → Areas → Begins
 beginsFrom answer l = record { answer = answer; areas = l }
 
--- what it answers is inside its areas
+-- a message is inside the buffer
 abbrev pub Inside : Begun → Type 0
 Inside (begun-as.Message n) = n ≤ lineMost
-Inside (begun-as.Events start) = (start .image ≤ 1284) × (start .table ≤ 16931)
+Inside (begun-as.Events walk) = Unit {0}
 
 -- nothing but a message is written
 unfoldable pub message : List ℕ → Areas → Begins
@@ -130,7 +136,8 @@ started s at l =
       answer =
           begun-as.Events
           (record {
-            walk = record { head = freshMonitor .head; at = at };
+            head = freshMonitor .head;
+            at = at;
             image = length (imageOf (ruleSetOf s));
             table = length (tableOf (ruleSetOf s));
           });
@@ -153,11 +160,6 @@ unfoldable pub beginOf : List ℕ → Areas → Begins
 beginOf input l =
     cond (leb (length input) 20480) (beginRead (ruleTextRead (rulePart input)) (eventsAt input) l) (message tooLongLine l)
 
--- the image and the table are the first parts of their areas
-abbrev pub watchIn : Start → Areas → Watch
-watchIn start l =
-    watchWith (start .walk) (take (start .image) (l .image)) (take (start .table) (l .table)) (l .names) (l .bytes) (l .words)
-
 -- a line and then the rest, unless it is empty
 unfoldable pub thenRest : (Next → List ℕ) → Next → List ℕ → List ℕ
 thenRest rest n [] = []
@@ -172,7 +174,8 @@ linesFrom (suc k) w input at =
 -- a message, or the lines of the events
 unfoldable pub writtenBy : ℕ → List ℕ → Begun → Areas → List ℕ
 writtenBy k input (begun-as.Message n) l = take n (l .line)
-writtenBy k input (begun-as.Events start) l = linesFrom k (watchIn start l) input (start .walk .at)
+writtenBy k input (begun-as.Events walk) l =
+    linesFrom k (watchIn walk (l .image) (l .table) (l .names) (l .bytes) (l .words)) input (walk .at)
 
 -- areas of the lengths that `begin` asks for
 pub record Sized (l : Areas) : Type 0 where

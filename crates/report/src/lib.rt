@@ -1,5 +1,5 @@
 // What `watch` prints: lines, written one at a time into a lent buffer.
-ghost use Prim.Native.Nat.{_≤_, _<_};
+ghost use Prim.Native.Nat.{_≤_, _<_, min};
 ghost use mathlib.Core.Path.{_≡_};
 ghost use mathlib.Core.Bool.{true};
 ghost use lib.ListN.{length};
@@ -8,7 +8,7 @@ ghost use Rattle.image.specs.Image.{read, valid};
 ghost use Rattle.table.specs.Table.{tableOf};
 ghost use Rattle.report.specs.declared.Begun.{Begun};
 ghost use Rattle.report.specs.Watch.{rulePart, freshMonitor};
-ghost use Rattle.report.specs.Turns.{lineMost, offering, nextOf, turnOf, turnFrom, watchWith, eventsAt, areas, beginOf, beginsFrom, Inside};
+ghost use Rattle.report.specs.Turns.{lineMost, offering, nextOf, turnOf, turnFrom, watchWith, watchIn, eventsAt, areas, beginOf, beginsFrom, Inside};
 use monitor::Head;
 use table::Compiled;
 use text::Found;
@@ -33,23 +33,19 @@ pub const CAPACITY: usize = 2048;
 // The most bytes that a line has: `lineMost`, specs/Turns.antt.
 pub const LINE_BYTES: usize = 51261;
 
-// The walk over the event names: the monitor's head, and where in the input the next name is looked for.
+// The walk over the event names: the monitor's head, where in the input the next name is looked for, and how long the image and
+// the table are.
 pub struct Walk {
     pub head: Head,
     pub at: usize,
-}
-
-// The walk before the first name, and how long the image and the table are.
-pub struct Start {
-    pub walk: Walk,
     pub image: usize,
     pub table: usize,
 }
 
-// How the reading of an input begins: with a message of so many bytes, or with events to offer.
+// How an input begins: with a message of so many bytes and nothing else, or with events to offer.
 pub enum Begun {
     Message(usize),
-    Events(Start),
+    Events(Walk),
 }
 
 // A line of so many bytes, 0 where no name is left, and the walk behind it.
@@ -83,6 +79,16 @@ fn events_start(input: &[u8], end: usize) -> usize
     end
 }
 
+// The lesser of the two.
+fn within(n: usize, most: usize) -> usize
+    ensures { λ r. ⌜ r ≡ min n most ⌝ }
+{
+    if n < most {
+        return n;
+    }
+    most
+}
+
 // Compiles the image and makes the monitor fresh: the events that begin at `at` are to be offered.
 fn make_ready(
     at: usize,
@@ -92,7 +98,7 @@ fn make_ready(
     words: &mut [u16; CAPACITY],
 ) -> Begun
     requires { ⌜ valid (now image) ≡ true ⌝ }
-    ensures answer { λ r. ⌜ r ≡ Begun.Events (record { walk = record { head = freshMonitor .head; at = at }; image = length (now (image .entry)); table = length (tableOf (read (now (image .entry)))) }) ⌝ }
+    ensures answer { λ r. ⌜ r ≡ Begun.Events (record { head = freshMonitor .head; at = at; image = length (now (image .entry)); table = length (tableOf (read (now (image .entry)))) }) ⌝ }
     ensures table { λ r. ⌜ now (table .exit) ≡ over (tableOf (read (now (image .entry)))) (now (table .entry)) ⌝ }
     ensures bytes { λ r. ⌜ now (bytes .exit) ≡ freshMonitor .bytes ⌝ }
     ensures words { λ r. ⌜ now (words .exit) ≡ freshMonitor .words ⌝ }
@@ -102,8 +108,9 @@ fn make_ready(
         Compiled::Words(size) => {
             let begun = monitor::fresh(bytes, words);
             let head = begun.head;
-            Begun::Events(Start {
-                walk: Walk { head: head, at: at },
+            Begun::Events(Walk {
+                head: head,
+                at: at,
                 image: image.len(),
                 table: size,
             })
@@ -141,6 +148,18 @@ pub fn begin(
 }
 
 impl Walk {
+    // The walk with this head, from this place on.
+    fn onward(self, head: Head, at: usize) -> Walk
+        ensures { λ r. ⌜ r ≡ record { head = head; at = at; image = self .image; table = self .table } ⌝ }
+    {
+        Walk {
+            head: head,
+            at: at,
+            image: self.image,
+            table: self.table,
+        }
+    }
+
     // No name is left.
     fn over(self) -> Line
         ensures { λ r. ⌜ r ≡ record { walk = self; length = 0 } ⌝ }
@@ -165,7 +184,7 @@ impl Walk {
     ) -> Line
         requires { ⌜ length (now x) ≤ 20480 ⌝ }
         ensures { λ r. ⌜ turnFrom r (now (bytes .exit)) (now (words .exit)) (now (line .exit))
-            ≡ turnOf (offering (watchWith self (now (image .entry)) (now (table .entry)) (now (names .entry)) (now (bytes .entry)) (now (words .entry)))
+            ≡ turnOf self (offering (watchWith self (now (image .entry)) (now (table .entry)) (now (names .entry)) (now (bytes .entry)) (now (words .entry)))
             end (now (x .entry))) (now (line .entry)) ⌝ }
         ensures { λ r. ⌜ r .length ≤ lineMost ⌝ }
     {
@@ -176,10 +195,7 @@ impl Walk {
             Found::None => {
                 let length = lines::put_refused(line, at, 12);
                 Line {
-                    walk: Walk {
-                        head: head,
-                        at: end,
-                    },
+                    walk: self.onward(head, end),
                     length: length,
                 }
             }
@@ -188,18 +204,15 @@ impl Walk {
                 let length = lines::put_told(line, at, names, called, bytes);
                 let left = called.head;
                 Line {
-                    walk: Walk {
-                        head: left,
-                        at: end,
-                    },
+                    walk: self.onward(left, end),
                     length: length,
                 }
             }
         }
     }
 
-    // The next line: the first name from here on is offered. Its length is 0 where no name is left.
-    pub fn next(
+    // The next line, with the image and the table themselves.
+    fn turn(
         self,
         input: &[u8],
         image: &[u8],
@@ -210,7 +223,7 @@ impl Walk {
         line: &mut [u8; LINE_BYTES],
     ) -> Line
         ensures turn { λ r. ⌜ turnFrom r (now (bytes .exit)) (now (words .exit)) (now (line .exit))
-            ≡ turnOf (nextOf (watchWith self (now (image .entry)) (now (table .entry)) (now (names .entry)) (now (bytes .entry)) (now (words .entry)))
+            ≡ turnOf self (nextOf (watchWith self (now (image .entry)) (now (table .entry)) (now (names .entry)) (now (bytes .entry)) (now (words .entry)))
             (now (input .entry)) (self .at)) (now (line .entry)) ⌝ }
         ensures fits { λ r. ⌜ r .length ≤ lineMost ⌝ }
         ensures onward { λ r. ⌜ ((r .length ≡ 0 → ⊥) → (self .at < r .walk .at) × (r .walk .at ≤ length (now (input .entry)))) ⌝ }
@@ -233,6 +246,38 @@ impl Walk {
             &input[from..to],
             image,
             table,
+            names,
+            bytes,
+            words,
+            line,
+        )
+    }
+
+    // The next line: the first name from here on is offered. Its length is 0 where no name is left.
+    pub fn next(
+        self,
+        input: &[u8],
+        image: &[u8; IMAGE_BYTES],
+        table: &[u16; TABLE_WORDS],
+        names: &[u8; NAMES_BYTES],
+        bytes: &mut [u8; CAPACITY],
+        words: &mut [u16; CAPACITY],
+        line: &mut [u8; LINE_BYTES],
+    ) -> Line
+        ensures turn { λ r. ⌜ turnFrom r (now (bytes .exit)) (now (words .exit)) (now (line .exit))
+            ≡ turnOf self (nextOf (watchIn self (now (image .entry)) (now (table .entry)) (now (names .entry)) (now (bytes .entry)) (now (words .entry)))
+            (now (input .entry)) (self .at)) (now (line .entry)) ⌝ }
+        ensures fits { λ r. ⌜ r .length ≤ lineMost ⌝ }
+        ensures onward { λ r. ⌜ ((r .length ≡ 0 → ⊥) → (self .at < r .walk .at) × (r .walk .at ≤ length (now (input .entry)))) ⌝ }
+    {
+        let image_end = within(self.image, IMAGE_BYTES);
+        let table_end = within(self.table, TABLE_WORDS);
+        let images: &[u8] = image;
+        let tables: &[u16] = table;
+        self.turn(
+            input,
+            &images[..image_end],
+            &tables[..table_end],
             names,
             bytes,
             words,

@@ -9,7 +9,6 @@ use report::IMAGE_BYTES;
 use report::INPUT_BYTES;
 use report::LINE_BYTES;
 use report::NAMES_BYTES;
-use report::Start;
 use report::TABLE_WORDS;
 use report::Walk;
 
@@ -25,8 +24,8 @@ fn write_line(line: &[u8; LINE_BYTES], n: usize) -> bool
 fn write_lines(
     first: Walk,
     input: &[u8],
-    image: &[u8],
-    table: &[u16],
+    image: &[u8; IMAGE_BYTES],
+    table: &[u16; TABLE_WORDS],
     names: &[u8; NAMES_BYTES],
     bytes: &mut [u8; CAPACITY],
     words: &mut [u16; CAPACITY],
@@ -44,37 +43,6 @@ fn write_lines(
         }
         walk = next.walk;
     }
-}
-
-// The same, with the image and the table at the beginning of their areas.
-fn write_events(
-    start: Start,
-    input: &[u8],
-    image: &[u8; IMAGE_BYTES],
-    table: &[u16; TABLE_WORDS],
-    names: &[u8; NAMES_BYTES],
-    bytes: &mut [u8; CAPACITY],
-    words: &mut [u16; CAPACITY],
-    line: &mut [u8; LINE_BYTES],
-)
-    requires image { ⌜ start .image ≤ 1284 ⌝ }
-    requires table { ⌜ start .table ≤ 16931 ⌝ }
-{
-    let walk = start.walk;
-    let image_end = start.image;
-    let table_end = start.table;
-    let images: &[u8] = image;
-    let tables: &[u16] = table;
-    write_lines(
-        walk,
-        input,
-        &images[..image_end],
-        &tables[..table_end],
-        names,
-        bytes,
-        words,
-        line,
-    )
 }
 
 fn main() {
@@ -98,9 +66,9 @@ fn main() {
         Begun::Message(size) => {
             write_line(&line, size);
         }
-        Begun::Events(start) => {
-            write_events(
-                start,
+        Begun::Events(walk) => {
+            write_lines(
+                walk,
                 &input[..n],
                 &image,
                 &table,

@@ -85,8 +85,6 @@ returns-3 c =
     ready-is _ l (good .reading) _ _ _ _ _ _ _ _ (begin-good _ l (good .reading) (c .before .before .before .before .before .before .before .before .before .before .before .before .before .before .before .before .if1 .left) (ap ruleTextRead (sym text) ∙ good .good-text))
     (rw image (good .image-there))
     (good .rules-back)
-    (good .rules-valid)
-    (omega (arith, good .image-size, good .image-short))
     (c .before .before .before .before .before .before .before .events-start .ensures)
     (made .0)
     (image ∙ good .image-over)

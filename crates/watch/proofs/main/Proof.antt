@@ -1,4 +1,4 @@
--- `main` takes from its areas no more than `begin` says.
+-- `main` writes of a message no more than the buffer holds.
 -- Assumes nothing.
 use borrow.Author.Needs.{needs}
 use Rattle.watch.proofs.main.Statement.{statement}
@@ -25,17 +25,17 @@ enum-known-size c = search needs
 write-line-requires : tie.Need-write-line-requires
 write-line-requires c κs = rw (c .before .before .size .given .1) at (c .before .before .before .before .begin .ensures .1)
 
-enum-known-start : tie.Need-enum-known-start
-enum-known-start c = search needs
+enum-known-walk : tie.Need-enum-known-walk
+enum-known-walk c = search needs
 
 array-share-prefix-input-2 : tie.Need-array-share-prefix-input-2
 array-share-prefix-input-2 c = search needs
 
-slice-aggregate-write-events : tie.Need-slice-aggregate-write-events
-slice-aggregate-write-events c = search needs
+slice-aggregate-write-lines : tie.Need-slice-aggregate-write-lines
+slice-aggregate-write-lines c = search needs
 
-write-events-requires : tie.Need-write-events-requires
-write-events-requires c κs = rw (c .before .before .before .before .before .before .before .before .start .given .1) at (c .before .before .before .before .before .before .before .before .before .before .begin .ensures .1)
+write-lines-requires : tie.Need-write-lines-requires
+write-lines-requires c κs = search needs
 
 returns : tie.Need-returns
 returns c = search needs
@@ -54,9 +54,9 @@ main-spec =
     begin-requires
     enum-known-size
     write-line-requires
-    enum-known-start
+    enum-known-walk
     array-share-prefix-input-2
-    slice-aggregate-write-events
-    write-events-requires
+    slice-aggregate-write-lines
+    write-lines-requires
     returns
     returns-2)

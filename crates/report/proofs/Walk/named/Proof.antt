@@ -1,7 +1,7 @@
 -- `Walk::named` meets its contract: the parts of the line, and what the offer gives back.
 -- Assumes nothing.
 use Prim.Native.Nat.{ℕ}
-use mathlib.Core.Path.{_≡_, refl, sym, ap, _∙_}
+use mathlib.Core.Path.{_≡_, sym, ap, _∙_}
 use native.Mathlib.Omega.{arith}
 use mathlib.Core.Option.{Option, none, some}
 use mathlib.Core.List.{List}
@@ -56,6 +56,9 @@ put-refused-requires c κs =
     let byte = reaches 1 (c .before .before .before .before .before .before .put-byte .ensures) (c .before .before .before .before .before .before .put-byte .kept .0) (omega (arith, put .end, put .size, size)) (omega arith) in
     omega (arith, put .end, put .size, size, byte .end, byte .size)
 
+onward-requires : tie.Need-onward-requires
+onward-requires c κs = search needs
+
 enum-known-a : tie.Need-enum-known-a
 enum-known-a c = search needs
 
@@ -79,28 +82,39 @@ put-told-requires c κs =
       ),
     )
 
+onward-requires-2 : tie.Need-onward-requires-2
+onward-requires-2 c κs = search needs
+
 returns : tie.Need-returns
 unfolding offering offeredName offered
 returns c =
-    let start = c .before .before .before .before .before .before .before .before .before .before .before .before .before .before in
+    let start = c .before .before .before .before .before .before .before .before .before .before .before .before .before .before .before in
     let w = watchWith (start .args .self) (start .args .image .now) (start .args .table .now) (start .args .names .now) (start .args .bytes .now) (start .args .words .now) in
-    let unknown = missing _ _ (c .before .before .before .before .symbol .ensures) (c .before .before .enum-told .given .1) in
-    let all = writes-all (writes-as (line-unknown w (start .args .x .now) unknown) (writes-then (c .before .before .before .before .before .before .before .before .before .put .ensures) (writes-then (c .before .before .before .before .before .before .before .put-byte .ensures) (c .put-refused .ensures)))) in
-    turn-is _ _ _ _ _ _ (all .0) refl (rw unknown) (all .1) (c .put-refused .kept .0 ∙ c .before .before .before .before .before .before .before .put-byte .kept .0 ∙ c .before .before .before .before .before .before .before .before .before .put .kept .0) (c .before .before .before .before .before .before .before .before .before .before .put-arg .given .0 .1)
+    let unknown = missing _ _ (c .before .before .before .before .before .symbol .ensures) (c .before .before .before .enum-told .given .1) in
+    let all =
+    writes-all
+    (writes-as (line-unknown w (start .args .x .now) unknown)
+    (writes-then (c .before .before .before .before .before .before .before .before .before .before .put .ensures) (writes-then (c .before .before .before .before .before .before .before .before .put-byte .ensures) (c .before .put-refused .ensures))))
+    in
+    turn-is _ _ _ _ _ _ _ _ (all .0) (c .onward .ensures) (rw unknown) (all .1)
+    (c .before .put-refused .kept .0 ∙ c .before .before .before .before .before .before .before .before .put-byte .kept .0 ∙ c .before .before .before .before .before .before .before .before .before .before .put .kept .0)
+    (c .before .before .before .before .before .before .before .before .before .before .before .put-arg .given .0 .1)
 
 returns-2 : tie.Need-returns-2
 unfolding offering offeredName offered
 returns-2 c =
-    let start = c .before .before .before .before .before .before .before .before .before .before .before .before .before .before .before .before .before .before .before .before .before .before in
+    let start = c .before .before .before .before .before .before .before .before .before .before .before .before .before .before .before .before .before .before .before .before .before .before .before in
     let w = watchWith (start .args .self) (start .args .image .now) (start .args .table .now) (start .args .names .now) (start .args .bytes .now) (start .args .words .now) in
-    let known = found _ _ _ (c .before .before .before .before .before .before .before .before .before .before .before .before .symbol .ensures) (c .before .before .before .before .before .before .before .before .before .before .a .given .1) in
-    let line = line-offered w (start .args .x .now) _ _ _ _ known (c .before .before .before .before .before .before .offer .ensures) in
-    let all = writes-all (writes-as line (writes-then (c .before .before .before .before .before .before .before .before .before .before .before .before .before .before .before .before .before .put .ensures) (writes-then (c .before .before .before .before .before .before .before .before .before .before .before .before .before .before .before .put-byte .ensures) (c .before .put-told .ensures)))) in
-    turn-is _ _ _ _ _ _ (all .0) refl
-    (left-by w (start .args .x .now) _ _ known (ap (λ (o : Outcome). o .monitor) (c .before .before .before .before .before .before .offer .ensures)))
+    let known = found _ _ _ (c .before .before .before .before .before .before .before .before .before .before .before .before .before .symbol .ensures) (c .before .before .before .before .before .before .before .before .before .before .before .a .given .1) in
+    let line = line-offered w (start .args .x .now) _ _ _ _ known (c .before .before .before .before .before .before .before .offer .ensures) in
+    let all =
+    writes-all (writes-as line (writes-then (c .before .before .before .before .before .before .before .before .before .before .before .before .before .before .before .before .before .before .put .ensures) (writes-then (c .before .before .before .before .before .before .before .before .before .before .before .before .before .before .before .before .put-byte .ensures) (c .before .before .put-told .ensures))))
+    in
+    turn-is _ _ _ _ _ _ _ _ (all .0) (c .onward2 .ensures)
+    (left-by w (start .args .x .now) _ _ known (ap (λ (o : Outcome). o .monitor) (c .before .before .before .before .before .before .before .offer .ensures)))
     (all .1)
-    (c .before .put-told .kept .0 ∙ c .before .before .before .before .before .before .before .before .before .before .before .before .before .before .before .put-byte .kept .0 ∙ c .before .before .before .before .before .before .before .before .before .before .before .before .before .before .before .before .before .put .kept .0)
-    (c .before .before .before .before .before .before .before .before .before .before .before .before .before .before .before .before .before .before .put-arg .given .0 .1)
+    (c .before .before .put-told .kept .0 ∙ c .before .before .before .before .before .before .before .before .before .before .before .before .before .before .before .before .put-byte .kept .0 ∙ c .before .before .before .before .before .before .before .before .before .before .before .before .before .before .before .before .before .before .put .kept .0)
+    (c .before .before .before .before .before .before .before .before .before .before .before .before .before .before .before .before .before .before .before .put-arg .given .0 .1)
 
 pub named-spec : {M : Type 1} → statement M
 named-spec =
@@ -111,9 +125,11 @@ named-spec =
     symbol-requires
     enum-told
     put-refused-requires
+    onward-requires
     enum-known-a
     cast-offer
     offer-requires
     put-told-requires
+    onward-requires-2
     returns
     returns-2)
