@@ -1,4 +1,5 @@
--- The names in the slots that the reader wrote are the text's names: `symbol-name`, `verdict-name`.
+-- Laws of the name in a slot: in the slots that the reader wrote it is the text's (`symbol-name`, `verdict-name`), and it is
+-- short.
 -- Assumes nothing.
 use Prim.Native.Nat.{ℕ, zero, suc, _+_, _*_, _-_, _≤_, _<_}
 use mathlib.Core.Path.{_≡_, sym, _∙_}

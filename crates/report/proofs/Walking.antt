@@ -1,4 +1,4 @@
--- The next name of an input, as the code finds it.
+-- The walk over the names of an input: the next name, as the code finds it, and what a turn gives back.
 -- Assumes nothing.
 use Prim.Native.Nat.{ℕ, zero, suc, _+_, _-_, _≤_, _<_, min}
 use mathlib.Core.Path.{_≡_, refl, sym, ap, _∙_}

@@ -1,6 +1,7 @@
 // The program `watch`: it reads a rule text and event names from standard input and writes a line for each name. All that it
 // writes comes from `report`; reading and writing are left here.
 ghost use Prim.Native.Nat.{_≤_};
+ghost use Rattle.report.specs.Turns.{lineMost};
 use libc::STDIN_FILENO;
 use libc::STDOUT_FILENO;
 use report::Begun;
@@ -14,7 +15,7 @@ use report::Walk;
 
 // Writes the first n bytes of the line.
 fn write_line(line: &[u8; LINE_BYTES], n: usize) -> bool
-    requires { ⌜ n ≤ 51261 ⌝ }
+    requires { ⌜ n ≤ lineMost ⌝ }
 {
     let all: &[u8] = line;
     io::write_all(STDOUT_FILENO, &all[..n])
