@@ -29,7 +29,7 @@ use Rattle.report.specs.Lines as Lines
 use Rattle.report.specs.Lines.{decimal}
 use Rattle.report.specs.Watch as Watch
 use Rattle.report.specs.Watch.{printed}
-use Rattle.report.specs.Turns.{Areas, areas, beginOf, lineMost, writtenBy, Sized}
+use Rattle.report.specs.Turns.{Areas, areas, beginOf, lineMost, writtenBy}
 use Rattle.report.specs.Ascii.{bytes}
 use Rattle.report.specs.Sample.{sampleInput, sampleOutput}
 use Rattle.report.proofs.WatchTheorem.{watch-theorem}
@@ -148,18 +148,9 @@ pub input-long :
 unfolding reads runs-on prints
 input-long = (refl, refl, refl, refl, refl)
 
--- Areas of the lengths that `watch-theorem` asks for, and what `begin` and `next` write for the sample with them.
+-- Areas as the program has them, and what `begin` and `next` write for the sample with them: a case of `watch-theorem`.
 abbrev zeros : Areas
 zeros = areas (replicate 1284 0) (replicate 1200 0) (replicate 16931 0) (replicate 2048 0) (replicate 2048 0) (replicate lineMost 0)
-
-zeros-sized : Sized zeros
-zeros-sized =
-    record {
-      image = length-replicate {A = ℕ} 1284 0;
-      names = length-replicate {A = ℕ} 1200 0;
-      table = length-replicate {A = ℕ} 16931 0;
-      line = length-replicate {A = ℕ} lineMost 0;
-    }
 
 sample-short : ltb (length sampleInput) 200 ≡ true
 unfolding bytes
@@ -167,4 +158,6 @@ sample-short = refl
 
 pub sample-written :
     writtenBy 200 sampleInput (beginOf sampleInput zeros .answer) (beginOf sampleInput zeros .areas) ≡ sampleOutput
-sample-written = watch-theorem sampleInput zeros zeros-sized 200 (ltb-true (length sampleInput) 200 sample-short) ∙ sample-printed
+sample-written =
+    watch-theorem sampleInput zeros (length-replicate {A = ℕ} 1200 0) 200 (ltb-true (length sampleInput) 200 sample-short)
+    ∙ sample-printed

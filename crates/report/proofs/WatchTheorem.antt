@@ -49,7 +49,6 @@ use Rattle.report.specs.Turns.{
   thenRest,
   linesFrom,
   writtenBy,
-  Sized,
   WatchPrints,
 }
 use Rattle.report.proofs.Split.{drop-events}
@@ -132,7 +131,7 @@ unfolding writtenBy message
 written-message k input m l = over-there m (l .line)
 
 -- what is lent to `next` is the good text's
-started-watch : (text : List ℕ) (s : Reading) (l : Areas) → Sized l → readText text ≡ Good s
+started-watch : (text : List ℕ) (s : Reading) (l : Areas) → length (l .names) ≡ 1200 → readText text ≡ Good s
     → (k : ℕ) (input : List ℕ) (at : ℕ)
     → writtenBy k input (started s at l .answer) (started s at l .areas) ≡ linesFrom k (begun s) input at
 unfolding writtenBy started begun
@@ -142,7 +141,7 @@ started-watch text s l sized e k input at =
     rw (
       over-there image (l .image),
       over-there table (l .table),
-      over-all (namesOf s) (l .names) (omega (arith, sized .names, read-length-names text s e)),
+      over-all (namesOf s) (l .names) (omega (arith, sized, read-length-names text s e)),
     )
 
 pub watch-theorem : WatchPrints

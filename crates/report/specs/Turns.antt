@@ -177,16 +177,9 @@ writtenBy k input (begun-as.Message n) l = take n (l .line)
 writtenBy k input (begun-as.Events walk) l =
     linesFrom k (watchIn walk (l .image) (l .table) (l .names) (l .bytes) (l .words)) input (walk .at)
 
--- areas of the lengths that `begin` asks for
-pub record Sized (l : Areas) : Type 0 where
-  pub image : length (l .image) ≡ 1284
-  pub names : length (l .names) ≡ 1200
-  pub table : length (l .table) ≡ 16931
-  pub line : length (l .line) ≡ lineMost
-
 -- What `begin`, and then `next` until it writes nothing, give for an input is what `watch` prints for it, whatever the areas
--- held: `watch-theorem` (proofs/WatchTheorem.antt).
+-- held: `watch-theorem` (proofs/WatchTheorem.antt). The names have just their 48 slots.
 abbrev pub WatchPrints : Type 0
 WatchPrints =
-    (input : List ℕ) (l : Areas) → Sized l → (k : ℕ) → length input < k
+    (input : List ℕ) (l : Areas) → length (l .names) ≡ 1200 → (k : ℕ) → length input < k
     → writtenBy k input (beginOf input l .answer) (beginOf input l .areas) ≡ printed input
