@@ -10,14 +10,15 @@ use Rattle.rewriting.specs.Lists.{prefix}
 use Rattle.image.specs.Image.{read, valid}
 use Rattle.image.specs.Refusals.{refusal}
 use Rattle.table.specs.Table.{tableOf}
-use Rattle.monitor.specs.State.{empty}
-use Rattle.monitor.specs.Run.{noCounts}
-use Rattle.monitor.specs.Areas.{Monitor, headOf}
-use Rattle.monitor.specs.Calls.{Call, Fresh, sized, freshOf, freshened}
+use Rattle.machine.specs.State.{empty}
+use Rattle.machine.specs.Run.{noCounts}
+use Rattle.machine.specs.Areas.{Monitor, headOf}
+use Rattle.machine.specs.Calls.{Call, Fresh, sized, freshOf, freshened}
+use Rattle.machine.specs.Lent.{monitorIn}
 use Rattle.monitor.specs.Lent.{lent}
-use Rattle.monitor.specs.Play.{Log, noCalls, play}
-use Rattle.monitor.specs.Promise.{Agrees, Kept, Promise}
-use Rattle.monitor.proofs.ListTheorem.{list-theorem}
+use Rattle.machine.specs.Play.{Log, noCalls, play}
+use Rattle.machine.specs.Promise.{Agrees, Kept, Promise}
+use Rattle.machine.proofs.ListTheorem.{list-theorem}
 use Rattle.calls.specs.declared.Played.{Played}
 use Rattle.calls.specs.Encoding.{encodes, callsIn}
 use Rattle.calls.specs.Played.{PlayEnded, playedFrom, logged, playChecks, playEnded, playOf, gaveBack, DemandThreeOf}
@@ -25,7 +26,7 @@ use Rattle.calls.specs.Played.{PlayEnded, playedFrom, logged, playChecks
 module _ (capacity : ℕ) (image table bytes words numbers : List ℕ) where
   -- 30
   pub not-a-list : encodes numbers ≡ false
-      → record { refused = some 30; monitor = lent (headOf empty) bytes words; accepted = 0; counts = noCounts }
+      → record { refused = some 30; monitor = monitorIn (headOf empty) bytes words; accepted = 0; counts = noCounts }
       ≡ playOf capacity image table bytes words numbers
   unfolding playOf playEnded playChecks refusal
   not-a-list e = rw e
@@ -33,7 +34,7 @@ module _ (capacity : ℕ) (image table bytes words numbers : List ℕ) where
   module _ (list : encodes numbers ≡ true) (f : Fresh) (is : f ≡ freshOf capacity bytes words) where
     -- 10, from fresh
     pub not-fresh : (n : ℕ) → f .refused ≡ some n
-        → record { refused = some n; monitor = lent (headOf empty) (f .monitor .bytes) (f .monitor .words); accepted = 0; counts = noCounts }
+        → record { refused = some n; monitor = monitorIn (headOf empty) (f .monitor .bytes) (f .monitor .words); accepted = 0; counts = noCounts }
         ≡ playOf capacity image table bytes words numbers
     unfolding playOf playEnded playChecks freshOf freshened refusal
     not-fresh n e = rw list (rw is (go (sized capacity bytes words) (ap (λ (x : Fresh). x .refused) (sym is) ∙ e)))
@@ -41,7 +42,7 @@ module _ (capacity : ℕ) (image table bytes words numbers : List ℕ) where
         go : (b : Bool) → freshened capacity bytes words (cond b none (some 10)) .refused ≡ some n
             → record {
               refused = some n;
-              monitor = lent (headOf empty) (freshened capacity bytes words (cond b none (some 10)) .monitor .bytes)
+              monitor = monitorIn (headOf empty) (freshened capacity bytes words (cond b none (some 10)) .monitor .bytes)
                   (freshened capacity bytes words (cond b none (some 10)) .monitor .words);
               accepted = 0;
               counts = noCounts;

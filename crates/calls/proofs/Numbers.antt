@@ -11,7 +11,7 @@ use lib.Seq.{drop-cons}
 use borrow.Author.Tests.{leb-true, le-leb, lt-leb, ltb-true, ltb-false}
 use Rattle.rewriting.specs.Lists.{all}
 use Rattle.rewriting.proofs.Lists.{and-both, and-left, and-right}
-use Rattle.monitor.specs.Calls.{Call, Offer, GoOn}
+use Rattle.machine.specs.Calls.{Call, Offer, GoOn}
 use Rattle.calls.specs.Encoding.{callFrom, callsIn, pairs, encodes}
 
 drop-two : (l : List ℕ) (k : ℕ) → k + 1 < length l → drop k l ≡ getD l k 0 ∷ getD l (k + 1) 0 ∷ drop (k + 2) l

@@ -13,15 +13,14 @@ use Rattle.rewriting.specs.Rules.{RuleSet}
 use Rattle.image.specs.Image.{read}
 use Rattle.image.specs.Refusals.{Check, refusal}
 use Rattle.image.proofs.Refusals.{refusal-passed, refusal-rest, refusal-none-right}
-use Rattle.monitor.specs.declared.Head.{Head}
-use Rattle.monitor.specs.declared.Counts.{Counts}
-use Rattle.monitor.specs.Run.{Run, noCounts, plus, run}
-use Rattle.monitor.specs.Areas.{Monitor, stateOf}
-use Rattle.monitor.specs.Calls.{Call, Offer, GoOn, Outcome, fuelOf, lentChecks, fuelCheck, callChecks, offered, outcome, decided, callOf, refusedBy}
-use Rattle.monitor.specs.Play.{Log, noCalls, eventsOf, logged, play}
-use Rattle.monitor.specs.Promise.{Ended}
-use Rattle.monitor.proofs.Runs.{ran}
-use Rattle.monitor.proofs.CallTheorem.{call-theorem}
+use Rattle.machine.specs.declared.Counts.{Counts}
+use Rattle.machine.specs.Run.{Run, noCounts, plus, run}
+use Rattle.machine.specs.Areas.{Head, Monitor, stateOf}
+use Rattle.machine.specs.Calls.{Call, Offer, GoOn, Outcome, fuelOf, lentChecks, fuelCheck, callChecks, offered, outcome, decided, callOf, refusedBy}
+use Rattle.machine.specs.Play.{Log, noCalls, eventsOf, logged, play}
+use Rattle.machine.specs.Promise.{Ended}
+use Rattle.machine.proofs.Runs.{ran}
+use Rattle.machine.proofs.CallTheorem.{call-theorem}
 use Rattle.calls.specs.Encoding.{callFrom, callsIn, pairs, encodes}
 use Rattle.calls.proofs.Numbers.{few, paired, CallAt, call-at, calls-end}
 use Rattle.calls.specs.Played as Played

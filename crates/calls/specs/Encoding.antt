@@ -5,7 +5,7 @@ use mathlib.Core.Bool.{Bool, true, false, _&&_}
 use mathlib.Core.List.{List, [], _∷_}
 use lib.Dec.{leb}
 use lib.ListN.{length}
-use Rattle.monitor.specs.Calls.{Call, Offer, GoOn}
+use Rattle.machine.specs.Calls.{Call, Offer, GoOn}
 
 unfoldable pub callFrom : ℕ → ℕ → Call
 callFrom zero fuel = GoOn fuel

@@ -9,14 +9,15 @@ use Rattle.rewriting.specs.Lists.{prefix}
 use Rattle.image.specs.Image.{read, valid}
 use Rattle.image.specs.Refusals.{Check, refusal}
 use Rattle.table.specs.Table.{tableOf}
-use Rattle.monitor.specs.declared.Counts.{Counts}
-use Rattle.monitor.specs.State.{empty}
-use Rattle.monitor.specs.Run.{noCounts}
-use Rattle.monitor.specs.Areas.{Monitor, headOf}
-use Rattle.monitor.specs.Calls.{Call, sized, freshOf}
+use Rattle.machine.specs.declared.Counts.{Counts}
+use Rattle.machine.specs.State.{empty}
+use Rattle.machine.specs.Run.{noCounts}
+use Rattle.machine.specs.Areas.{Monitor, headOf}
+use Rattle.machine.specs.Calls.{Call, sized, freshOf}
+use Rattle.machine.specs.Lent.{monitorIn}
 use Rattle.monitor.specs.Lent.{lent, refusedAs}
-use Rattle.monitor.specs.Play.{Log, noCalls, play}
-use Rattle.monitor.specs.Promise.{Agrees, Promise}
+use Rattle.machine.specs.Play.{Log, noCalls, play}
+use Rattle.machine.specs.Promise.{Agrees, Promise}
 use Rattle.calls.specs.declared.Played.{Played}
 use Rattle.calls.specs.Encoding.{encodes, callsIn}
 
@@ -49,7 +50,7 @@ playChecks capacity bytes words numbers = (encodes numbers, 30) ∷ (sized capac
 -- a refusal changes nothing lent, and has the empty head beside it
 unfoldable pub playEnded : Option ℕ → List ℕ → List ℕ → Log → PlayEnded
 playEnded (some n) bytes words g =
-    record { refused = some n; monitor = lent (headOf empty) bytes words; accepted = 0; counts = noCounts }
+    record { refused = some n; monitor = monitorIn (headOf empty) bytes words; accepted = 0; counts = noCounts }
 playEnded none bytes words g = logged g
 
 -- the calls that the numbers are, from the head and areas that fresh leaves

@@ -6,20 +6,20 @@ ghost use mathlib.Core.Bool.{true};
 ghost use mathlib.Core.Option.{none};
 ghost use lib.ListN.{length};
 ghost use Rattle.monitor.specs.declared.Refusal.{Refusal};
-ghost use Rattle.monitor.specs.State as State;
-ghost use Rattle.monitor.specs.Areas.{documentCapacity, headOf};
-ghost use Rattle.monitor.specs.Run.{noCounts};
-ghost use Rattle.monitor.specs.Calls.{callOf, refusedBy};
-ghost use Rattle.monitor.specs.Play.{eventsOf, noCalls, play};
-ghost use Rattle.monitor.specs.Lent.{lent, refusedAs, outcomeFrom};
+ghost use Rattle.machine.specs.State as State;
+ghost use Rattle.machine.specs.Areas.{documentCapacity, headOf};
+ghost use Rattle.machine.specs.Run.{noCounts};
+ghost use Rattle.machine.specs.Calls.{callOf, refusedBy};
+ghost use Rattle.machine.specs.Play.{eventsOf, noCalls, play};
+ghost use Rattle.monitor.specs.Lent.{headOut, lent, refusedAs, outcomeFrom};
 ghost use Rattle.calls.specs.Encoding.{callFrom, encodes, callsIn};
 ghost use Rattle.calls.specs.Played.{logged, playedFrom, playOf, DemandThreeOf};
-use monitor::Answer;
+use machine::Answer;
+use machine::Counts;
+use machine::Standing;
 use monitor::Called;
-use monitor::Counts;
 use monitor::Head;
 use monitor::Refusal;
-use monitor::Standing;
 
 // What play gives back: the head that the calls leave, whether the list was refused, how many events were accepted, and
 // the summed counts.
@@ -32,7 +32,7 @@ pub struct Played {
 
 // A refusal of the list, beside the empty head.
 fn refused(n: u32) -> Played
-    ensures { λ r. ⌜ r ≡ record { head = headOf State.empty; refusal = Refusal.Number n; accepted = 0; counts = noCounts } ⌝ }
+    ensures { λ r. ⌜ r ≡ record { head = headOut (headOf State.empty); refusal = Refusal.Number n; accepted = 0; counts = noCounts } ⌝ }
 {
     Played {
         head: Head {

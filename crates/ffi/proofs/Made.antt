@@ -7,12 +7,12 @@ use mathlib.Core.Option.{Option, none, some}
 use mathlib.Core.List.{List, [], _∷_}
 use native.Mathlib.Omega.{arith}
 use Rattle.image.specs.Refusals.{refusal, refusalNumber}
-use Rattle.monitor.specs.declared.Standing.{Standing}
-use Rattle.monitor.specs.State.{empty, active}
-use Rattle.monitor.specs.Areas.{Monitor, headOf}
-use Rattle.monitor.specs.Calls.{Call, Fresh, Outcome, freshOf, freshened, sized, callOf, refusedBy, answerNumber}
-use Rattle.monitor.specs.Batch.{Batched, batchOf}
-use Rattle.monitor.proofs.AnswerNumbers.{answer-number-below, accepted-verdict, batch-verdict}
+use Rattle.machine.specs.declared.Standing.{Standing}
+use Rattle.machine.specs.State.{empty, active}
+use Rattle.machine.specs.Areas.{Monitor, headOf}
+use Rattle.machine.specs.Calls.{Call, Fresh, Outcome, freshOf, freshened, sized, callOf, refusedBy, answerNumber}
+use Rattle.machine.specs.Batch.{Batched, batchOf}
+use Rattle.machine.proofs.AnswerNumbers.{answer-number-below, accepted-verdict, batch-verdict}
 use Rattle.ffi.specs.Heads.{standingFrom, standingWord, headWords, headAfter, freshMade, callWords, callMade, batchMade}
 
 -- the verdict that a word is

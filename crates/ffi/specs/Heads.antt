@@ -5,12 +5,13 @@ use mathlib.Core.Option.{Option, none, some}
 use mathlib.Core.List.{List, [], _∷_}
 use lib.ListN.{getD}
 use Rattle.image.specs.Refusals.{refusalNumber}
-use Rattle.monitor.specs.declared.Standing.{Standing}
+use Rattle.machine.specs.declared.Standing.{Standing}
 use Rattle.monitor.specs.declared.Head.{Head}
-use Rattle.monitor.specs.declared.Answer.{Answer}
-use Rattle.monitor.specs.declared.Counts.{Counts}
-use Rattle.monitor.specs.Calls.{Fresh, Outcome, refusedBy, answerNumber}
-use Rattle.monitor.specs.Batch.{Batched}
+use Rattle.machine.specs.declared.Answer.{Answer}
+use Rattle.machine.specs.declared.Counts.{Counts}
+use Rattle.machine.specs.Areas as Areas
+use Rattle.machine.specs.Calls.{Fresh, Outcome, refusedBy, answerNumber}
+use Rattle.machine.specs.Batch.{Batched}
 
 unfoldable pub standingFrom : ℕ → Standing
 standingFrom zero = Standing.None
@@ -25,11 +26,11 @@ unfoldable pub headFrom : List ℕ → Head
 headFrom w =
     record { settled = getD w 0 0; waiting = getD w 1 0; verdict = standingFrom (getD w 2 0); rule = getD w 3 0 }
 
-unfoldable pub headWords : Head → List ℕ
+unfoldable pub headWords : Areas.Head → List ℕ
 headWords h = h .settled ∷ h .waiting ∷ standingWord (h .verdict) ∷ h .rule ∷ []
 
 -- the head's words behind a call: as they were beside a refusal, else those of the new head
-unfoldable pub headAfter : Option ℕ → List ℕ → Head → List ℕ
+unfoldable pub headAfter : Option ℕ → List ℕ → Areas.Head → List ℕ
 headAfter (some n) w h = w
 headAfter none w h = headWords h
 

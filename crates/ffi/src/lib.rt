@@ -8,17 +8,17 @@ ghost use Rattle.table.specs.Compile.{compileOf, wordCount};
 ghost use Rattle.table.specs.Check.{checkOf};
 ghost use Rattle.text.specs.Read.{readOf};
 ghost use Rattle.text.specs.Lookup.{numberOr, symbolNamed};
-ghost use Rattle.monitor.specs.Areas.{documentCapacity};
-ghost use Rattle.monitor.specs.Calls.{freshOf, offerOf, goOnOf, refusedBy, answerNumber};
-ghost use Rattle.monitor.specs.Batch.{batchOf};
-ghost use Rattle.monitor.specs.Lent.{lent};
+ghost use Rattle.machine.specs.Areas.{documentCapacity};
+ghost use Rattle.machine.specs.Calls.{freshOf, offerOf, goOnOf, refusedBy, answerNumber};
+ghost use Rattle.machine.specs.Batch.{batchOf};
+ghost use Rattle.monitor.specs.Lent.{headIn, lent};
 ghost use Rattle.ffi.specs.Numbers.{readNumber, readWords, compiledNumber, checkedNumber};
 ghost use Rattle.ffi.specs.Heads.{standingWord, headFrom, headWords, headAfter, callWords, freshMade, callMade, batchMade};
-use monitor::Answer;
+use machine::Answer;
+use machine::Standing;
 use monitor::Called;
 use monitor::Head;
 use monitor::Refusal;
-use monitor::Standing;
 use table::Checked;
 use table::Compiled;
 use text::Found;
@@ -127,7 +127,7 @@ fn standing_word(verdict: Standing) -> u64
 // Writes a head as four words.
 fn set_head(words: &mut [u64; 4], head: Head)
     requires { ⌜ standingWord (head .verdict) ≤ 16 ⌝ }
-    ensures { λ _. ⌜ now (words .exit) ≡ headWords head ⌝ }
+    ensures { λ _. ⌜ now (words .exit) ≡ headWords (headIn head) ⌝ }
 {
     let verdict = head.verdict;
     let word = standing_word(verdict);
@@ -158,7 +158,7 @@ fn told(called: Called, head: &mut [u64; 4], out: &mut [u64; 4]) -> u32
     requires answer { ⌜ answerNumber (called .answer) < 256 ⌝ }
     requires verdict { ⌜ (refusedBy (called .answer) ≡ none → standingWord (called .head .verdict) ≤ 16) ⌝ }
     ensures refusal { λ r. ⌜ r ≡ refusalNumber (refusedBy (called .answer)) ⌝ }
-    ensures head { λ _. ⌜ now (head .exit) ≡ headAfter (refusedBy (called .answer)) (now (head .entry)) (called .head) ⌝ }
+    ensures head { λ _. ⌜ now (head .exit) ≡ headAfter (refusedBy (called .answer)) (now (head .entry)) (headIn (called .head)) ⌝ }
     ensures out { λ _. ⌜ now (out .exit) ≡ callWords (called .answer) (called .counts) ⌝ }
 {
     let answer = called.answer;

@@ -8,72 +8,18 @@ ghost use lib.Dec.{eqb, ltb};
 ghost use lib.ListN.{length};
 ghost use Rattle.image.specs.Image.{read, valid};
 ghost use Rattle.monitor.specs.declared.Refusal.{Refusal};
-ghost use Rattle.monitor.specs.Calls.{callChecks, callOf, decided, answerNumber};
-ghost use Rattle.monitor.specs.Batch.{inTurn, batched};
-ghost use Rattle.monitor.specs.Lent.{lent, Passed, outcomeFrom, batchFrom, Starts, rowsIn, widthIn, appended, oneMore, callWith, callsWith, answerFrom};
-use crate::Answer;
+ghost use Rattle.machine.specs.Calls.{callChecks, callOf, decided, answerNumber};
+ghost use Rattle.machine.specs.Batch.{inTurn, batched};
+ghost use Rattle.machine.specs.Lent.{Passed, Starts, rowsIn, widthIn, appended, oneMore, callWith, callsWith, answerFrom};
+ghost use Rattle.monitor.specs.Lent.{headIn, lent, outcomeFrom, batchFrom};
 use crate::BatchCalled;
 use crate::Called;
-use crate::Counts;
 use crate::Head;
 use crate::Refusal;
-use crate::Standing;
-use crate::held;
-
-// An answer as a byte.
-fn answer_byte(answer: Answer) -> u8
-    requires { ⌜ answerNumber answer < 256 ⌝ }
-    ensures { λ r. ⌜ r ≡ answerNumber answer ⌝ }
-{
-    match answer {
-        Answer::Quiet => 0,
-        Answer::Spent => 1,
-        Answer::Full => 2,
-        Answer::Verdict(v) => (16 + v) as u8,
-        Answer::Refused(_) => 0,
-    }
-}
-
-// An answer from its byte. No call has a byte from 3 to 15, and Quiet stands for these.
-fn answer_from(byte: u8) -> Answer
-    ensures { λ r. ⌜ r ≡ answerFrom byte ⌝ }
-{
-    if byte == 0 {
-        return Answer::Quiet;
-    }
-    if byte == 1 {
-        return Answer::Spent;
-    }
-    if byte == 2 {
-        return Answer::Full;
-    }
-    if byte < 16 {
-        return Answer::Quiet;
-    }
-    Answer::Verdict((byte - 16) as u64)
-}
-
-// Whether refusal 12 is not called for: the event of an offer is one.
-fn allowed(image: &[u8], offering: bool, event: u8) -> bool
-    requires { ⌜ valid (now image) ≡ true ⌝ }
-    ensures { λ r. ⌜ r ≡ (not offering || ltb event (read (now (image .entry)) .events)) ⌝ }
-{
-    if offering {
-        return (event as usize) < image::events(image);
-    }
-    true
-}
-
-// Whether refusal 15 is not called for: there is room for the event of an offer.
-fn has_room(offering: bool, settled: usize, waiting: usize, capacity: usize) -> bool
-    requires { ⌜ settled + waiting ≤ capacity ⌝ }
-    ensures { λ r. ⌜ r ≡ (not offering || not (eqb (settled + waiting) capacity)) ⌝ }
-{
-    if offering {
-        return settled + waiting != capacity;
-    }
-    true
-}
+use areas::held;
+use machine::Answer;
+use machine::Counts;
+use machine::Standing;
 
 impl Head {
     // The same head, put together anew. The loop over calls keeps a head in registers where it is put together from its
@@ -101,7 +47,7 @@ impl Head {
     // The head with the event as the last waiting symbol, for an offer; for a go-on the head as it is.
     fn taking(self, bytes: &mut [u8], offering: bool, event: u8) -> Head
         requires room { ⌜ (offering ≡ true → self .waiting < length (now bytes)) ⌝ }
-        ensures head { λ r. ⌜ r ≡ cond offering (oneMore self) self ⌝ }
+        ensures head { λ r. ⌜ headIn r ≡ cond offering (oneMore (headIn self)) (headIn self) ⌝ }
         ensures bytes { λ r. ⌜ now (bytes .exit)
             ≡ cond offering (appended (length (now (bytes .entry))) event (length (now (bytes .entry)) - self .waiting) (now (bytes .entry))) (now (bytes .entry)) ⌝ }
     {
@@ -139,9 +85,9 @@ impl Head {
         requires width { ⌜ width ≡ widthIn (now table) ⌝ }
         ensures { λ r. ⌜ outcomeFrom r (now (bytes .exit)) (now (words .exit))
             ≡ decided (read (now (image .entry))) (length (now (bytes .entry))) (lent self (now (bytes .entry)) (now (words .entry)))
-            (callChecks (read (now (image .entry))) (length (now (bytes .entry))) self (callWith offering event fuel)) (callWith offering event fuel) ⌝ }
+            (callChecks (read (now (image .entry))) (length (now (bytes .entry))) (headIn self) (callWith offering event fuel)) (callWith offering event fuel) ⌝ }
     {
-        if !allowed(image, offering, event) {
+        if !parts::allowed(image, offering, event) {
             return self.refused(12);
         }
         if 65535 < fuel {
@@ -151,7 +97,7 @@ impl Head {
         match verdict {
             Standing::Verdict(_) => self.refused(14),
             Standing::None => {
-                if !has_room(offering, self.settled, self.waiting, bytes.len()) {
+                if !parts::has_room(offering, self.settled, self.waiting, bytes.len()) {
                     return self.refused(15);
                 }
                 let head = self.taking(bytes, offering, event);
@@ -225,7 +171,7 @@ impl Head {
                 }
                 _ => {}
             }
-            answers[k] = answer_byte(answer);
+            answers[k] = parts::answer_byte(answer);
             let after = called.head;
             head = after.anew();
             steps += called.counts.steps;
@@ -272,7 +218,7 @@ impl Head {
         let counts = r.counts;
         Called {
             head: head,
-            answer: answer_from(answers[0]),
+            answer: parts::answer_from(answers[0]),
             counts: counts,
         }
     }

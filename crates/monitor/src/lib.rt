@@ -2,29 +2,26 @@
 // promise about every list of calls is proved of those definitions in proofs/ListTheorem.antt.
 ghost use mathlib.Core.Path.{_≡_};
 ghost use Rattle.image.specs.Refusals.{refusal, refusalNumber};
-ghost use Rattle.monitor.specs.declared.Answer.{Answer};
+ghost use Rattle.machine.specs.declared.Answer.{Answer};
 ghost use Rattle.monitor.specs.declared.Refusal.{Refusal};
-ghost use Rattle.monitor.specs.State as State;
-ghost use Rattle.monitor.specs.Areas.{documentCapacity, headOf};
-ghost use Rattle.monitor.specs.Run.{noCounts};
-ghost use Rattle.monitor.specs.Calls.{freshOf, lentChecks, offerOf, goOnOf};
-ghost use Rattle.monitor.specs.Batch.{batchOf};
-ghost use Rattle.monitor.specs.Lent.{lent, freshFrom, outcomeFrom, batchFrom};
+ghost use Rattle.machine.specs.State as State;
+ghost use Rattle.machine.specs.Areas.{documentCapacity, headOf};
+ghost use Rattle.machine.specs.Run.{noCounts};
+ghost use Rattle.machine.specs.Calls.{freshOf, lentChecks, offerOf, goOnOf};
+ghost use Rattle.machine.specs.Batch.{batchOf};
+ghost use Rattle.monitor.specs.Lent.{headIn, lent, freshFrom, outcomeFrom, batchFrom};
+use areas::check;
+use areas::held;
+pub use machine::Answer;
+pub use machine::Counts;
+pub use machine::Standing;
 use table::Checked;
 
-mod check;
 mod checked;
-mod held;
 mod steps;
 
 // Document 01's 2,048: the number of bytes and of words.
 const CAPACITY: usize = 2048;
-
-// Whether a verdict stands, and which.
-pub enum Standing {
-    None,
-    Verdict(u64),
-}
 
 // The monitor's head: how many symbols are settled, how many wait, the verdict or none, and that verdict's rule (0 with none).
 pub struct Head {
@@ -32,22 +29,6 @@ pub struct Head {
     pub waiting: usize,
     pub verdict: Standing,
     pub rule: usize,
-}
-
-// What a call answers. A refusal has document 01's number.
-pub enum Answer {
-    Quiet,
-    Spent,
-    Full,
-    Verdict(u64),
-    Refused(u32),
-}
-
-// Steps, rewrites and symbols put back, of a call or summed over several.
-pub struct Counts {
-    pub steps: u64,
-    pub rewrites: u64,
-    pub put: u64,
 }
 
 // Whether an operation was refused, and document 01's number for it.
@@ -88,7 +69,7 @@ pub struct Stepped {
 
 // The head of a monitor that holds nothing.
 fn empty() -> Head
-    ensures { λ r. ⌜ r ≡ headOf State.empty ⌝ }
+    ensures { λ r. ⌜ headIn r ≡ headOf State.empty ⌝ }
 {
     Head {
         settled: 0,
@@ -169,7 +150,17 @@ impl Head {
                 if words.len() != CAPACITY {
                     return 10;
                 }
-                if check::as_described(self, image, table, bytes, words) {
+                let verdict = self.verdict;
+                if check::as_described(
+                    self.settled,
+                    self.waiting,
+                    verdict,
+                    self.rule,
+                    image,
+                    table,
+                    bytes,
+                    words,
+                ) {
                     return 0;
                 }
                 11

@@ -2,23 +2,23 @@
 // The module is private: what its functions ask, the checks of a call have shown.
 ghost use Prim.Native.Nat.{_+_, _≤_, _<_};
 ghost use mathlib.Core.Path.{_≡_};
-ghost use mathlib.Core.Option.{none, some};
+ghost use mathlib.Core.Option.{none};
 ghost use lib.ListN.{length};
 ghost use Rattle.image.specs.Image.{read};
-ghost use Rattle.monitor.specs.declared.Standing.{Standing};
-ghost use Rattle.monitor.specs.State.{settle};
-ghost use Rattle.monitor.specs.Run.{run};
-ghost use Rattle.monitor.specs.Areas.{stateOf};
-ghost use Rattle.monitor.specs.Calls.{outcome};
-ghost use Rattle.monitor.specs.Lent.{lent, Passed, Starts, Matches, rowsIn, widthIn, stepOf, tried, triedFrom, outcomeFrom};
-use crate::Answer;
+ghost use Rattle.machine.specs.declared.Standing.{Standing};
+ghost use Rattle.machine.specs.State.{settle};
+ghost use Rattle.machine.specs.Run.{run};
+ghost use Rattle.machine.specs.Areas.{stateOf};
+ghost use Rattle.machine.specs.Calls.{outcome};
+ghost use Rattle.machine.specs.Lent.{Passed, Starts, rowsIn, widthIn, stepOf, tried};
+ghost use Rattle.monitor.specs.Lent.{lent, triedFrom, outcomeFrom};
 use crate::Called;
-use crate::Counts;
 use crate::Head;
-use crate::Standing;
 use crate::Stepped;
-use crate::held;
-use image::RightSide;
+use areas::held;
+use machine::Answer;
+use machine::Counts;
+use machine::Standing;
 
 impl Head {
     // The end of a run.
@@ -33,68 +33,6 @@ impl Head {
                 rewrites: rewrites,
                 put: put,
             },
-        }
-    }
-
-    // The first waiting symbol completes rule i's left side: that is taken off, and the right side put back or the verdict set.
-    fn rewrite(
-        self,
-        image: &[u8],
-        table: &[u16],
-        starts: &[u16],
-        bytes: &mut [u8],
-        words: &mut [u16],
-        i: usize,
-    ) -> Stepped
-        requires lent { ⌜ Passed (length (now bytes)) (now image) (now table) (lent self (now bytes) (now words)) ⌝ }
-        requires starts { ⌜ Starts (now image) (now starts) ⌝ }
-        requires next { ⌜ Matches (read (now image) .rules) (stateOf (lent self (now bytes) (now words))) (some i) ⌝ }
-        ensures { λ r. ⌜ triedFrom r (now (bytes .exit)) (now (words .exit))
-            ≡ tried (read (now (image .entry)) .rules) (length (now (bytes .entry))) (lent self (now (bytes .entry)) (now (words .entry)))
-            (stepOf (read (now (image .entry)) .rules) (stateOf (lent self (now (bytes .entry)) (now (words .entry))))) ⌝ }
-    {
-        let settled = self.settled;
-        let first = bytes.len() - self.waiting;
-        let kept = settled + 1 - image::left_length(image, i);
-        let behind = first + 1;
-        match image::right_side(image, i) {
-            RightSide::Put(n) => {
-                if behind < kept + n {
-                    return Stepped {
-                        head: self,
-                        taken: false,
-                        rewrites: 0,
-                        put: 0,
-                    };
-                }
-                held::take_off(bytes, words, first, kept, settled);
-                held::put_back(image, held::wide(starts[i]), n, bytes, behind - n);
-                Stepped {
-                    head: Head {
-                        settled: kept,
-                        waiting: self.waiting - 1 + n,
-                        verdict: Standing::None,
-                        rule: 0,
-                    },
-                    taken: true,
-                    rewrites: 1,
-                    put: n as u64,
-                }
-            }
-            RightSide::Close(v) => {
-                held::take_off(bytes, words, first, kept, settled);
-                Stepped {
-                    head: Head {
-                        settled: kept,
-                        waiting: self.waiting - 1,
-                        verdict: Standing::Verdict(v),
-                        rule: i,
-                    },
-                    taken: true,
-                    rewrites: 1,
-                    put: 0,
-                }
-            }
         }
     }
 
@@ -126,7 +64,31 @@ impl Head {
         let next = held::next_at(table, rows, width, q, symbol as usize);
         let matched = held::match_word(table, next);
         if matched != 0 {
-            return self.rewrite(image, table, starts, bytes, words, matched - 1);
+            let verdict = self.verdict;
+            let rewritten = parts::rewrite(
+                settled,
+                self.waiting,
+                verdict,
+                self.rule,
+                image,
+                table,
+                starts,
+                bytes,
+                words,
+                matched - 1,
+            );
+            let after = rewritten.verdict;
+            return Stepped {
+                head: Head {
+                    settled: rewritten.settled,
+                    waiting: rewritten.waiting,
+                    verdict: after,
+                    rule: rewritten.rule,
+                },
+                taken: rewritten.taken,
+                rewrites: rewritten.rewrites,
+                put: rewritten.put,
+            };
         }
         bytes[first] = 0;
         bytes[settled] = symbol;

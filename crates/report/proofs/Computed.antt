@@ -15,11 +15,11 @@ use Rattle.image.specs.Image.{kind, lengthOrVerdict, contents, body, imageOf, r
 use Rattle.image.specs.Refusals.{refusal}
 use Rattle.table.specs.States as States
 use Rattle.table.specs.Table.{matchWord, row, tableOf}
-use Rattle.monitor.specs.State.{empty, active, replace, settle, step}
-use Rattle.monitor.specs.Run as Run
-use Rattle.monitor.specs.Areas.{headOf, areaOf, bytesOf, statesAfter, wordsOf, monitorOf, stateOf, noMatch, unmatched, closesWith, standsBy, holds, described}
-use Rattle.monitor.specs.Calls as Calls
-use Rattle.monitor.specs.Play.{stringOf}
+use Rattle.machine.specs.State.{empty, active, replace, settle, step}
+use Rattle.machine.specs.Run as Run
+use Rattle.machine.specs.Areas.{headOf, areaOf, bytesOf, statesAfter, wordsOf, monitorOf, stateOf, noMatch, unmatched, closesWith, standsBy, holds, described}
+use Rattle.machine.specs.Calls as Calls
+use Rattle.machine.specs.Play.{stringOf}
 use Rattle.text.specs.Tokens.{separator, letter, digit, nameByte, isName, tokenOf, unbroken, runsFrom, runs}
 use Rattle.text.specs.Names.{numberOf, orNew, numbered, slot, slots}
 use Rattle.text.specs.Grammar as Grammar

@@ -14,18 +14,18 @@ use Rattle.rewriting.proofs.Lists.{between-high, below-weaken}
 use Rattle.rewriting.proofs.Ranges.{ranges}
 use Rattle.image.specs.Image.{read}
 use Rattle.image.proofs.Image.{valid-in-range}
-use Rattle.monitor.specs.declared.Answer.{Answer}
+use Rattle.machine.specs.declared.Answer.{Answer}
 use Rattle.monitor.specs.declared.Called.{Called}
-use Rattle.monitor.specs.Run.{fits}
-use Rattle.monitor.specs.Areas.{Monitor, documentCapacity, headOf, monitorOf, stateOf}
-use Rattle.monitor.specs.Calls.{Offer, fuelOf, Outcome, offerOf, callOf, refusedBy}
-use Rattle.monitor.specs.Play.{stringOf}
+use Rattle.machine.specs.Run.{fits}
+use Rattle.machine.specs.Areas.{Monitor, documentCapacity, headOf, monitorOf, stateOf}
+use Rattle.machine.specs.Calls.{Offer, fuelOf, Outcome, offerOf, callOf, refusedBy}
+use Rattle.machine.specs.Play.{stringOf}
 use Rattle.monitor.specs.Lent.{outcomeFrom}
-use Rattle.monitor.specs.Promise.{Stopped}
-use Rattle.monitor.proofs.Areas.{state-back}
-use Rattle.monitor.proofs.Calls.{Holding, next}
-use Rattle.monitor.proofs.CallTheorem.{call-theorem}
-use Rattle.monitor.proofs.AnswerNumbers.{Lent, passed-lent, accepted-passed, accepted-verdict}
+use Rattle.machine.specs.Promise.{Stopped}
+use Rattle.machine.proofs.Areas.{state-back}
+use Rattle.machine.proofs.Calls.{Holding, next}
+use Rattle.machine.proofs.CallTheorem.{call-theorem}
+use Rattle.machine.proofs.AnswerNumbers.{Lent, passed-lent, accepted-passed, accepted-verdict}
 use Rattle.text.specs.Lookup.{slotAt, symbolNamed}
 use Rattle.text.specs.Names.{slot}
 use Rattle.report.specs.Lines.{space, newline, refusedWord, decimal, answerWord, counted, told, eventLine}

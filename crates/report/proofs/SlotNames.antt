@@ -18,7 +18,7 @@ use Rattle.text.specs.Read.{Good, readText, namesOf}
 use Rattle.text.specs.Held.{Sound}
 use Rattle.text.proofs.Slots.{name-short, length-slot, length-slots}
 use Rattle.text.proofs.Sound.{read-sound}
-use Rattle.monitor.specs.declared.Answer.{Answer}
+use Rattle.machine.specs.declared.Answer.{Answer}
 use Rattle.report.specs.Ascii.{bytes}
 use Rattle.report.specs.Lines.{nameIn, answerWord}
 

@@ -19,8 +19,9 @@ use Rattle.table.specs.Table.{tableOf}
 use Rattle.table.specs.Compile.{compileOf}
 use Rattle.table.proofs.Table.{table-length}
 use Rattle.table.proofs.Compilation.{compile-words}
-use Rattle.monitor.specs.Areas.{documentCapacity}
-use Rattle.monitor.specs.Calls.{sized, freshened, freshOf}
+use Rattle.machine.specs.Areas.{documentCapacity}
+use Rattle.machine.specs.Calls.{sized, freshened, freshOf}
+use Rattle.monitor.specs.Lent.{headOut}
 use Rattle.text.specs.declared.Read.{Read}
 use Rattle.text.specs.declared.Read.the-variants as read-as
 use Rattle.text.specs.Grammar.{Reading, ruleSetOf}
@@ -196,7 +197,7 @@ pub ready-is :
     → read (imageOf (ruleSetOf s)) ≡ ruleSetOf s → at ≡ eventsAt input
     → r
     ≡ begun-as.Events
-    (record { head = freshMonitor .head; at = at; image = length part; table = length (tableOf (read part)) })
+    (record { head = headOut (freshMonitor .head); at = at; image = length part; table = length (tableOf (read part)) })
     → image ≡ over (imageOf (ruleSetOf s)) (l .image) → names ≡ over (namesOf s) (l .names)
     → table ≡ over (tableOf (read part)) (l .table) → bytes ≡ freshMonitor .bytes → words ≡ freshMonitor .words
     → (beginsFrom r (areas image names table bytes words (l .line)) ≡ beginOf input l) × Inside r

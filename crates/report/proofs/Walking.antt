@@ -12,7 +12,7 @@ use borrow.Author.Tests.{le-leb, lt-leb, ltb-true, ltb-false}
 use borrow.Rule.Slice.PartAt.{part-to-end}
 use Rattle.rewriting.specs.Lists.{over}
 use Rattle.monitor.specs.declared.Head.{Head}
-use Rattle.monitor.specs.Lent.{lent}
+use Rattle.monitor.specs.Lent.{headOut, lent}
 use Rattle.text.specs.declared.Run.{Run}
 use Rattle.text.specs.Tokens.{unbroken}
 use Rattle.text.specs.Scanned.{gap, firstRun}
@@ -104,7 +104,7 @@ turn-is n walk buffer r head bytes words buffer′ size place monitor line kept 
   rw place
       (λ i.
       record {
-        walk = record { head = monitor i .head; at = n .at; image = walk .image; table = walk .table };
+        walk = record { head = headOut (monitor i .head); at = n .at; image = walk .image; table = walk .table };
         length = size i;
         bytes = monitor i .bytes;
         words = monitor i .words;
@@ -123,7 +123,7 @@ turn-nothing n w walk r bytes words buffer e p monitor =
     rw (e, p)
     (λ i.
     record {
-      walk = record { head = monitor i .head; at = walk .at; image = walk .image; table = walk .table };
+      walk = record { head = headOut (monitor i .head); at = walk .at; image = walk .image; table = walk .table };
       length = 0;
       bytes = monitor i .bytes;
       words = monitor i .words;

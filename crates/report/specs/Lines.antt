@@ -4,9 +4,9 @@ use mathlib.Core.Bool.{cond}
 use mathlib.Core.List.{List, [], _∷_, _++_, flatMap}
 use lib.Dec.{ltb}
 use lib.ListN.{getD, take, drop}
-use Rattle.monitor.specs.declared.Answer.{Answer}
-use Rattle.monitor.specs.Calls.{Outcome}
-use Rattle.monitor.specs.Play.{stringOf}
+use Rattle.machine.specs.declared.Answer.{Answer}
+use Rattle.machine.specs.Calls.{Outcome}
+use Rattle.machine.specs.Play.{stringOf}
 use Rattle.report.specs.Ascii.{bytes}
 
 -- a space, `#`, `,`, `-` and the end of a line

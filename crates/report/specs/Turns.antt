@@ -8,7 +8,8 @@ use lib.ListN.{length, take, drop}
 use Rattle.rewriting.specs.Lists.{over}
 use Rattle.image.specs.Image.{imageOf}
 use Rattle.table.specs.Table.{tableOf}
-use Rattle.monitor.specs.Areas.{Monitor}
+use Rattle.machine.specs.Areas.{Monitor}
+use Rattle.monitor.specs.Lent.{headOut, lent}
 use Rattle.text.specs.Tokens.{unbroken}
 use Rattle.text.specs.Scanned.{gap}
 use Rattle.text.specs.Grammar.{Reading, ruleSetOf}
@@ -63,7 +64,7 @@ pub record Turn : Type 0 where
 unfoldable pub turnOf : Walk → Next → List ℕ → Turn
 turnOf walk n buffer =
     record {
-      walk = record { head = n .monitor .head; at = n .at; image = walk .image; table = walk .table };
+      walk = record { head = headOut (n .monitor .head); at = n .at; image = walk .image; table = walk .table };
       length = length (n .line);
       bytes = n .monitor .bytes;
       words = n .monitor .words;
@@ -77,7 +78,7 @@ turnFrom r bytes words buffer =
 -- image, table, names and monitor, as they are lent
 abbrev pub watchWith : Walk → List ℕ → List ℕ → List ℕ → List ℕ → List ℕ → Watch
 watchWith walk image table names bytes words =
-    record { image = image; table = table; names = names; monitor = record { head = walk .head; bytes = bytes; words = words } }
+    record { image = image; table = table; names = names; monitor = lent (walk .head) bytes words }
 
 -- the image and the table are the first parts of their areas
 abbrev pub watchIn : Walk → List ℕ → List ℕ → List ℕ → List ℕ → List ℕ → Watch
@@ -136,7 +137,7 @@ started s at l =
       answer =
           begun-as.Events
           (record {
-            head = freshMonitor .head;
+            head = headOut (freshMonitor .head);
             at = at;
             image = length (imageOf (ruleSetOf s));
             table = length (tableOf (ruleSetOf s));

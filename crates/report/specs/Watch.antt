@@ -8,9 +8,9 @@ use lib.ListN.{length, replicate}
 use Rattle.image.specs.Image.{imageOf}
 use Rattle.image.specs.Refusals.{refusal}
 use Rattle.table.specs.Table.{tableOf}
-use Rattle.monitor.specs.State.{empty}
-use Rattle.monitor.specs.Areas.{Monitor, documentCapacity, headOf}
-use Rattle.monitor.specs.Calls.{Outcome, refusalOf, offerOf}
+use Rattle.machine.specs.State.{empty}
+use Rattle.machine.specs.Areas.{Monitor, documentCapacity, headOf}
+use Rattle.machine.specs.Calls.{Outcome, refusalOf, offerOf}
 use Rattle.text.specs.Tokens.{Run, runs}
 use Rattle.text.specs.Grammar.{Reading, ruleSetOf}
 use Rattle.text.specs.Read.{Result, Good, Bad, readText, namesOf, unless}

@@ -5,9 +5,9 @@ use mathlib.Core.Bool.{true}
 use mathlib.Core.List.{List, _++_}
 use lib.ListN.{length}
 use Rattle.rewriting.specs.Lists.{below, over}
-use Rattle.monitor.specs.declared.Answer.{Answer}
-use Rattle.monitor.specs.Calls.{Outcome}
-use Rattle.monitor.specs.Play.{stringOf}
+use Rattle.machine.specs.declared.Answer.{Answer}
+use Rattle.machine.specs.Calls.{Outcome}
+use Rattle.machine.specs.Play.{stringOf}
 
 -- the area begins with v, which ends at the place `at`, and is behind it as it was
 pub record Wrote (area v line : List ℕ) (at : ℕ) : Type 0 where

@@ -6,6 +6,7 @@ ghost use lib.ListN.{length};
 ghost use Rattle.rewriting.specs.Lists.{over};
 ghost use Rattle.image.specs.Image.{read, valid};
 ghost use Rattle.table.specs.Table.{tableOf};
+ghost use Rattle.monitor.specs.Lent.{headOut};
 ghost use Rattle.report.specs.declared.Begun.{Begun};
 ghost use Rattle.report.specs.Watch.{rulePart, freshMonitor};
 ghost use Rattle.report.specs.Turns.{lineMost, offering, nextOf, turnOf, turnFrom, watchWith, watchIn, eventsAt, areas, beginOf, beginsFrom, Inside};
@@ -98,7 +99,7 @@ fn make_ready(
     words: &mut [u16; CAPACITY],
 ) -> Begun
     requires { ⌜ valid (now image) ≡ true ⌝ }
-    ensures answer { λ r. ⌜ r ≡ Begun.Events (record { head = freshMonitor .head; at = at; image = length (now (image .entry)); table = length (tableOf (read (now (image .entry)))) }) ⌝ }
+    ensures answer { λ r. ⌜ r ≡ Begun.Events (record { head = headOut (freshMonitor .head); at = at; image = length (now (image .entry)); table = length (tableOf (read (now (image .entry)))) }) ⌝ }
     ensures table { λ r. ⌜ now (table .exit) ≡ over (tableOf (read (now (image .entry)))) (now (table .entry)) ⌝ }
     ensures bytes { λ r. ⌜ now (bytes .exit) ≡ freshMonitor .bytes ⌝ }
     ensures words { λ r. ⌜ now (words .exit) ≡ freshMonitor .words ⌝ }

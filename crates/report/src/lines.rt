@@ -7,12 +7,12 @@ ghost use mathlib.Core.Option.{none};
 ghost use mathlib.Core.List.{[], _∷_, _++_, flatMap};
 ghost use lib.ListN.{length};
 ghost use Rattle.rewriting.specs.Lists.{below};
-ghost use Rattle.monitor.specs.Calls.{refusedBy};
+ghost use Rattle.machine.specs.Calls.{refusedBy};
 ghost use Rattle.monitor.specs.Lent.{outcomeFrom};
 ghost use Rattle.report.specs.Lines.{space, comma, newline, refusedWord, decimal, nameIn, joined, answerWord, counted, told, refusedLine};
 ghost use Rattle.report.specs.Turns.{lineMost};
 ghost use Rattle.report.specs.Wrote.{Writes, HasSlot, Small};
-use monitor::Answer;
+use machine::Answer;
 use monitor::Called;
 
 // One byte.

@@ -6,8 +6,8 @@ use mathlib.Core.Option.{Option, none, some}
 use native.Mathlib.Omega.{arith}
 use lib.ListN.{length}
 use borrow.Author.Needs.{needs}
-use Rattle.monitor.specs.Calls.{refusedBy}
-use Rattle.monitor.specs.Play.{eventsOf}
+use Rattle.machine.specs.Calls.{refusedBy}
+use Rattle.machine.specs.Play.{eventsOf}
 use Rattle.calls.specs.Encoding.{callFrom}
 use Rattle.calls.proofs.events_of.Statement.{statement}
 use Rattle.calls.proofs.events_of.Tie as tie

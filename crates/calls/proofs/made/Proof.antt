@@ -4,7 +4,7 @@ use Prim.Native.Nat.{ℕ, zero, suc, _-_}
 use mathlib.Core.Path.{_≡_, refl}
 use native.Mathlib.Omega.{arith}
 use borrow.Author.Needs.{needs}
-use Rattle.monitor.specs.Calls.{GoOn, Offer, goOnOf, offerOf}
+use Rattle.machine.specs.Calls.{GoOn, Offer, goOnOf, offerOf}
 use Rattle.calls.specs.Encoding.{callFrom}
 use Rattle.calls.proofs.made.Statement.{statement}
 use Rattle.calls.proofs.made.Tie as tie

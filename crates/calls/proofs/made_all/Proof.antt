@@ -5,8 +5,8 @@ use mathlib.Core.Path.{_≡_, refl, _∙_}
 use native.Mathlib.Omega.{arith}
 use lib.ListN.{length}
 use borrow.Author.Needs.{needs}
-use Rattle.monitor.specs.Run.{noCounts, plus}
-use Rattle.monitor.specs.Areas.{documentCapacity}
+use Rattle.machine.specs.Run.{noCounts, plus}
+use Rattle.machine.specs.Areas.{documentCapacity}
 use Rattle.monitor.specs.Lent.{lent, refusedAs}
 use Rattle.calls.proofs.Playing.{Playing, playing-first, playing-call, playing-sums, playing-next, playing-all}
 use Rattle.calls.proofs.made_all.Statement.{statement}

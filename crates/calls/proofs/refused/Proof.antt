@@ -1,9 +1,9 @@
 -- `refused` meets its contract.
 -- Assumes nothing.
 use mathlib.Core.Path.{refl}
-use Rattle.monitor.specs.State.{active, empty}
-use Rattle.monitor.specs.Run.{noCounts}
-use Rattle.monitor.specs.Areas.{headOf}
+use Rattle.machine.specs.State.{active, empty}
+use Rattle.machine.specs.Run.{noCounts}
+use Rattle.machine.specs.Areas.{headOf}
 use Rattle.calls.proofs.refused.Statement.{statement}
 use Rattle.calls.proofs.refused.Tie as tie
 

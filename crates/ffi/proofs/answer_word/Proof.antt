@@ -1,7 +1,7 @@
 -- `answer_word` meets its contract.
 -- Assumes nothing.
 use native.Mathlib.Omega.{arith}
-use Rattle.monitor.specs.Calls.{answerNumber}
+use Rattle.machine.specs.Calls.{answerNumber}
 use borrow.Author.Needs.{needs}
 use Rattle.ffi.proofs.answer_word.Statement.{statement}
 use Rattle.ffi.proofs.answer_word.Tie as tie

@@ -1,8 +1,8 @@
 -- `told` meets its contract.
 -- Assumes nothing.
 use Rattle.image.specs.Refusals.{refusalNumber}
-use Rattle.monitor.specs.Calls.{refusedBy}
-use Rattle.monitor.proofs.AnswerKinds.{accepted}
+use Rattle.machine.specs.Calls.{refusedBy}
+use Rattle.machine.proofs.AnswerKinds.{accepted}
 use Rattle.ffi.specs.Heads.{headAfter, callWords}
 use borrow.Author.Needs.{needs}
 use Rattle.ffi.proofs.told.Statement.{statement}

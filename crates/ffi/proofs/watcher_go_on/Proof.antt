@@ -1,6 +1,6 @@
 -- `watcher_go_on` meets its contract.
 -- Assumes nothing.
-use Rattle.monitor.specs.Calls.{goOnOf}
+use Rattle.machine.specs.Calls.{goOnOf}
 use Rattle.ffi.proofs.Made.{call-words, call-made}
 use borrow.Author.Needs.{needs}
 use Rattle.ffi.proofs.watcher_go_on.Statement.{statement}

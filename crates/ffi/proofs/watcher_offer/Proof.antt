@@ -1,6 +1,6 @@
 -- `watcher_offer` meets its contract.
 -- Assumes nothing.
-use Rattle.monitor.specs.Calls.{offerOf}
+use Rattle.machine.specs.Calls.{offerOf}
 use Rattle.ffi.proofs.Made.{call-words, call-made}
 use borrow.Author.Needs.{needs}
 use Rattle.ffi.proofs.watcher_offer.Statement.{statement}

@@ -1,8 +1,8 @@
 -- `empty` meets its contract.
 -- Assumes nothing.
 use mathlib.Core.Path.{refl}
-use Rattle.monitor.specs.State.{active, empty}
-use Rattle.monitor.specs.Areas.{headOf}
+use Rattle.machine.specs.State.{active, empty}
+use Rattle.machine.specs.Areas.{headOf}
 use Rattle.monitor.proofs.empty.Statement.{statement}
 use Rattle.monitor.proofs.empty.Tie as tie
 

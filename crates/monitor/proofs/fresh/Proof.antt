@@ -1,9 +1,9 @@
 -- `monitor::fresh` meets its contract: refused 10, or all 0.
 -- Assumes nothing.
 use borrow.Author.Needs.{needs}
-use Rattle.monitor.specs.Areas.{documentCapacity}
+use Rattle.machine.specs.Areas.{documentCapacity}
 use Rattle.monitor.specs.Lent.{refusedAs}
-use Rattle.monitor.proofs.Deciding.{other-length, other-bytes, other-words, cleared}
+use Rattle.machine.proofs.Deciding.{other-length, other-bytes, other-words, cleared}
 use Rattle.monitor.proofs.fresh.Statement.{statement}
 use Rattle.monitor.proofs.fresh.Tie as tie
 

@@ -2,13 +2,14 @@
 -- Assumes nothing.
 use mathlib.Core.Path.{_∙_}
 use borrow.Author.Needs.{needs}
-use Rattle.monitor.specs.Areas.{documentCapacity, Monitor}
-use Rattle.monitor.specs.Lent.{lent, refusedAs, callWith}
-use Rattle.monitor.specs.Play.{offersOf}
-use Rattle.monitor.specs.Batch.{offers}
-use Rattle.monitor.proofs.LentRefusal.{lent-none, lent-some}
-use Rattle.monitor.proofs.Offering.{passed-sizes}
-use Rattle.monitor.proofs.BatchChecks.{passed-image, batch-lent-refused, batch-fuel-refused, batch-many-refused, batch-room-refused, batch-taken}
+use Rattle.machine.specs.Areas.{documentCapacity, Monitor}
+use Rattle.machine.specs.Lent.{callWith}
+use Rattle.monitor.specs.Lent.{lent, refusedAs}
+use Rattle.machine.specs.Play.{offersOf}
+use Rattle.machine.specs.Batch.{offers}
+use Rattle.machine.proofs.LentRefusal.{lent-none, lent-some}
+use Rattle.machine.proofs.Offering.{passed-sizes}
+use Rattle.machine.proofs.BatchChecks.{passed-image, batch-lent-refused, batch-fuel-refused, batch-many-refused, batch-room-refused, batch-taken}
 use Rattle.monitor.proofs.Head.batch.Statement.{statement}
 use Rattle.monitor.proofs.Head.batch.Tie as tie
 

@@ -1,13 +1,14 @@
 -- `monitor::Head::offer` meets its contract: refused by what is lent, or the call that `once` makes.
 -- Assumes nothing.
 use borrow.Author.Needs.{needs}
-use Rattle.monitor.specs.Areas.{documentCapacity, Monitor}
-use Rattle.monitor.specs.Lent.{lent, callWith}
-use Rattle.monitor.specs.Calls.{Offer, offerOf}
-use Rattle.monitor.proofs.LentRefusal.{lent-none, lent-some}
-use Rattle.monitor.proofs.BatchChecks.{passed-image}
-use Rattle.monitor.proofs.Offering.{passed-sizes}
-use Rattle.monitor.proofs.Deciding.{lent-refused}
+use Rattle.machine.specs.Areas.{documentCapacity, Monitor}
+use Rattle.machine.specs.Lent.{callWith}
+use Rattle.monitor.specs.Lent.{lent}
+use Rattle.machine.specs.Calls.{Offer, offerOf}
+use Rattle.machine.proofs.LentRefusal.{lent-none, lent-some}
+use Rattle.machine.proofs.BatchChecks.{passed-image}
+use Rattle.machine.proofs.Offering.{passed-sizes}
+use Rattle.machine.proofs.Deciding.{lent-refused}
 use Rattle.monitor.proofs.Head.offer.Statement.{statement}
 use Rattle.monitor.proofs.Head.offer.Tie as tie
 

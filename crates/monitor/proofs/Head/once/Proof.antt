@@ -3,8 +3,9 @@
 use native.Mathlib.Omega.{arith}
 use lib.ListN.{length}
 use borrow.Author.Needs.{needs}
-use Rattle.monitor.specs.Lent.{lent, callWith}
-use Rattle.monitor.proofs.Single.{single-refused, single-taken}
+use Rattle.machine.specs.Lent.{callWith}
+use Rattle.monitor.specs.Lent.{lent}
+use Rattle.machine.proofs.Single.{single-refused, single-taken}
 use Rattle.monitor.proofs.Head.once.Statement.{statement}
 use Rattle.monitor.proofs.Head.once.Tie as tie
 

@@ -2,9 +2,9 @@
 -- Assumes nothing.
 use mathlib.Core.Path.{sym, _∙_}
 use borrow.Author.Needs.{needs}
-use Rattle.monitor.specs.Areas.{documentCapacity}
-use Rattle.monitor.specs.Lent.{lent}
-use Rattle.monitor.proofs.LentRefusal.{
+use Rattle.machine.specs.Areas.{documentCapacity}
+use Rattle.monitor.specs.Lent.{headIn, lent}
+use Rattle.machine.proofs.LentRefusal.{
   table-refused,
   passed-image,
   passed-table,
@@ -58,7 +58,7 @@ returns-3 c =
     let called = passed .before .before in
     let start = called .before .before .before .before .before in
     all-right documentCapacity (start .args .image .now) (start .args .table .now) (called .check .ensures) (passed .enum-told .given .1)
-    (start .args .self) (start .args .bytes .now) (start .args .words .now) (sized .before .if1 .left) (sized .if2 .left)
+    (headIn (start .args .self)) (start .args .bytes .now) (start .args .words .now) (sized .before .if1 .left) (sized .if2 .left)
     (c .before .as-described .ensures) (c .if3 .taken)
 
 returns-4 : tie.Need-returns-4
@@ -75,7 +75,7 @@ returns-5 c =
     let called = passed .before .before in
     let start = called .before .before .before .before .before in
     not-as-described documentCapacity (start .args .image .now) (start .args .table .now) (called .check .ensures) (passed .enum-told .given .1)
-    (start .args .self) (start .args .bytes .now) (start .args .words .now) (sized .before .if1 .left) (sized .if2 .left)
+    (headIn (start .args .self)) (start .args .bytes .now) (start .args .words .now) (sized .before .if1 .left) (sized .if2 .left)
     (c .before .as-described .ensures) (c .if3 .left)
 
 pub refusal-spec : {M : Type 1} → statement M

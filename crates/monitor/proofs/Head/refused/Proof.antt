@@ -1,7 +1,7 @@
 -- `Head::refused` meets its contract.
 -- Assumes nothing.
 use mathlib.Core.Path.{refl}
-use Rattle.monitor.specs.Run.{noCounts}
+use Rattle.machine.specs.Run.{noCounts}
 use Rattle.monitor.proofs.Head.refused.Statement.{statement}
 use Rattle.monitor.proofs.Head.refused.Tie as tie
 

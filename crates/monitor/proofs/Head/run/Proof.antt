@@ -4,19 +4,19 @@ use mathlib.Core.Path.{_∙_}
 use native.Mathlib.Omega.{arith}
 use borrow.Author.Needs.{needs}
 use borrow.Author.Tests.{not-true, not-false}
-use Rattle.monitor.specs.Lent.{triedFrom}
-use Rattle.monitor.proofs.Running.{Running, running-first, running-asks, verdict-ends, quiet-ends, spent-ends, full-ends, running-next}
+use Rattle.monitor.specs.Lent.{headIn, triedFrom}
+use Rattle.machine.proofs.Running.{Running, running-first, running-asks, verdict-ends, quiet-ends, spent-ends, full-ends, running-next}
 use Rattle.monitor.proofs.Head.run.Statement.{statement}
 use Rattle.monitor.proofs.Head.run.Tie as tie
 
 abbrev Inv-loop : tie.InvT-loop
-Inv-loop image table rows width starts bytes₀ words₀ fuel head₀ left₀ rewrites₀ put₀ bytes words head left rewrites put = Running image table bytes₀ words₀ fuel head₀ bytes words head left rewrites put
+Inv-loop image table rows width starts bytes₀ words₀ fuel head₀ left₀ rewrites₀ put₀ bytes words head left rewrites put = Running image table bytes₀ words₀ fuel (headIn head₀) bytes words (headIn head) left rewrites put
 
 abbrev μ-loop : tie.MeasureT-loop
 μ-loop image table rows width starts bytes₀ words₀ fuel head₀ left₀ rewrites₀ put₀ bytes words head left rewrites put = left
 
 loop-holds : tie.Need-loop-holds Inv-loop μ-loop
-loop-holds c = running-first (c .before .before .before .before .before .args .image .now) (c .before .before .before .before .before .args .table .now) (c .before .before .before .before .before .args .bytes .now) (c .before .before .before .before .before .args .words .now) (c .before .before .before .before .before .args .fuel) (c .before .before .before .before .before .args .self) (c .before .before .before .before .before .pre .0)
+loop-holds c = running-first (c .before .before .before .before .before .args .image .now) (c .before .before .before .before .before .args .table .now) (c .before .before .before .before .before .args .bytes .now) (c .before .before .before .before .before .args .words .now) (c .before .before .before .before .before .args .fuel) (headIn (c .before .before .before .before .before .args .self)) (c .before .before .before .before .before .pre .0)
 
 enum-known-verdict : tie.Need-enum-known-verdict Inv-loop μ-loop
 enum-known-verdict c = search needs

@@ -7,10 +7,10 @@ use native.Mathlib.Omega.{arith}
 use lib.ListN.{length, getD, length-set}
 use borrow.Author.Needs.{needs}
 use Rattle.image.specs.Image.{read}
-use Rattle.monitor.specs.Areas.{Monitor, stateOf}
+use Rattle.machine.specs.Areas.{Monitor, stateOf}
 use Rattle.monitor.specs.Lent.{lent}
-use Rattle.monitor.proofs.Stepping.{Held, held, waits, settled-step}
-use Rattle.monitor.proofs.Looking.{no-match, some-match, symbol-is, symbol-small, next-asks, next-is, next-small, match-asks, match-is}
+use Rattle.machine.proofs.Stepping.{Held, held, waits, settled-step}
+use Rattle.machine.proofs.Looking.{no-match, some-match, symbol-is, symbol-small, next-asks, next-is, next-small, match-asks, match-is}
 use Rattle.monitor.proofs.Head.step.Statement.{statement}
 use Rattle.monitor.proofs.Head.step.Tie as tie
 
@@ -77,11 +77,11 @@ mul-words c = omega (arith, facts (c .before .before .before .before .before .be
 slice-write-words : tie.Need-slice-write-words
 slice-write-words c = omega (arith, facts (c .before .before .before .before .before .before .before .before .before .before .before .before), c .before .before .before .before .before .before .before .before .before .before .before .before .pre .1 .1 .1 .1 .0)
 
-add-t15 : tie.Need-add-t15
-add-t15 c = omega (arith, facts (c .before .before .before .before .before .before .before .before .before .before .before .before), c .before .before .before .before .before .before .before .before .before .before .before .before .pre .1 .1 .1 .1 .0)
+add-t18 : tie.Need-add-t18
+add-t18 c = omega (arith, facts (c .before .before .before .before .before .before .before .before .before .before .before .before), c .before .before .before .before .before .before .before .before .before .before .before .before .pre .1 .1 .1 .1 .0)
 
-sub-t30 : tie.Need-sub-t30
-sub-t30 c = search needs
+sub-t34 : tie.Need-sub-t34
+sub-t34 c = search needs
 
 same-length-3 : tie.Need-same-length-3
 same-length-3 c = search needs
@@ -115,8 +115,8 @@ step-spec =
     cast-words
     mul-words
     slice-write-words
-    add-t15
-    sub-t30
+    add-t18
+    sub-t34
     same-length-3
     same-length-4
     returns-2)

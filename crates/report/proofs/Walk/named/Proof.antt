@@ -6,8 +6,8 @@ use native.Mathlib.Omega.{arith}
 use mathlib.Core.Option.{Option, none, some}
 use mathlib.Core.List.{List}
 use borrow.Author.Needs.{needs}
-use Rattle.monitor.specs.Areas.{Monitor, documentCapacity}
-use Rattle.monitor.specs.Calls.{Outcome, offerOf}
+use Rattle.machine.specs.Areas.{Monitor, documentCapacity}
+use Rattle.machine.specs.Calls.{Outcome, offerOf}
 use Rattle.text.specs.declared.Found.{Found}
 use Rattle.text.specs.Held.{foundAs}
 use Rattle.text.proofs.Numbering.{lookup-below}

@@ -7,9 +7,9 @@ use native.Mathlib.Omega.{arith}
 use lib.ListN.{length, take, drop, length-append, length-take, length-drop}
 use lib.Seq.{length-take-le}
 use borrow.Author.Needs.{needs}
-use Rattle.monitor.specs.Areas.{stateOf}
+use Rattle.machine.specs.Areas.{stateOf}
 use Rattle.monitor.specs.declared.Called.{Called}
-use Rattle.monitor.specs.Play.{stringOf}
+use Rattle.machine.specs.Play.{stringOf}
 use Rattle.monitor.specs.Lent.{outcomeFrom}
 use Rattle.report.specs.Lines.{space, newline, decimal, joined, counted}
 use Rattle.report.proofs.Decimals.{decimal-length}

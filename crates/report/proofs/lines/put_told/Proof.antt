@@ -6,9 +6,9 @@ use mathlib.Core.Option.{none}
 use mathlib.Core.List.{List}
 use native.Mathlib.Omega.{arith}
 use borrow.Author.Needs.{needs}
-use Rattle.monitor.specs.declared.Answer.{Answer}
-use Rattle.monitor.specs.Calls.{Outcome, refusedBy}
-use Rattle.monitor.proofs.AnswerKinds.{accepted}
+use Rattle.machine.specs.declared.Answer.{Answer}
+use Rattle.machine.specs.Calls.{Outcome, refusedBy}
+use Rattle.machine.proofs.AnswerKinds.{accepted}
 use Rattle.report.specs.Lines.{answerWord, counted, told}
 use Rattle.report.proofs.lines.put_told.Statement.{statement}
 use Rattle.report.proofs.lines.put_told.Tie as tie

@@ -1,0 +1,130 @@
+// The check behind refusal 11: whether head and areas are as document 01 describes them.
+// The module is private: what its functions ask, the checks before it have shown.
+ghost use Prim.Native.Nat.{_≤_, _<_};
+ghost use mathlib.Core.Path.{_≡_};
+ghost use mathlib.Core.Bool.{true};
+ghost use lib.ListN.{length, replicate};
+ghost use Rattle.rewriting.specs.Lists.{prefix};
+ghost use Rattle.image.specs.Check.{Decides};
+ghost use Rattle.image.specs.Image.{read, valid};
+ghost use Rattle.table.specs.Table.{tableOf};
+ghost use Rattle.machine.specs.Areas.{standsBy, described};
+ghost use Rattle.machine.specs.Lent.{monitorIn, Settled};
+use crate::held;
+use image::RightSide;
+use machine::Standing;
+
+// Whether all bytes are 0. It looks at them all, so that the loop becomes vector code.
+fn zero_bytes(bytes: &[u8]) -> bool
+    ensures { λ r. ⌜ Decides r (now (bytes .entry) ≡ replicate (length (now (bytes .entry))) 0) ⌝ }
+{
+    let mut all: u8 = 0;
+    for i in 0..bytes.len() {
+        all |= bytes[i];
+    }
+    all == 0
+}
+
+// Whether all words are 0.
+fn zero_words(words: &[u16]) -> bool
+    ensures { λ r. ⌜ Decides r (now (words .entry) ≡ replicate (length (now (words .entry))) 0) ⌝ }
+{
+    let mut all: u16 = 0;
+    for i in 0..words.len() {
+        all |= words[i];
+    }
+    all == 0
+}
+
+// Whether the verdict is that of its rule; with none the rule is 0.
+fn stands_by(image: &[u8], verdict: Standing, rule: usize) -> bool
+    requires { ⌜ valid (now image) ≡ true ⌝ }
+    ensures { λ r. ⌜ r ≡ standsBy (read (now (image .entry)) .rules) verdict rule ⌝ }
+{
+    match verdict {
+        Standing::None => rule == 0,
+        Standing::Verdict(v) => {
+            if rule < image::rules(image) {
+                match image::right_side(image, rule) {
+                    RightSide::Put(_) => false,
+                    RightSide::Close(u) => v == u,
+                }
+            } else {
+                false
+            }
+        }
+    }
+}
+
+// A symbol as a number.
+fn number(x: u8) -> usize
+    ensures { λ r. ⌜ r ≡ x ⌝ }
+{
+    x as usize
+}
+
+// Whether these are settled symbols and their words: each symbol below S, each word the state after its symbol, and none
+// of the states has a match. Each word is tested against the one lent before it, so that no turn waits for the one before.
+fn settled_right(image: &[u8], table: &[u16], symbols: &[u8], words: &[u16]) -> bool
+    requires image { ⌜ valid (now image) ≡ true ⌝ }
+    requires table { ⌜ prefix (tableOf (read (now image))) (now table) ≡ true ⌝ }
+    requires size { ⌜ length (now words) ≡ length (now symbols) ⌝ }
+    ensures { λ r. ⌜ Decides r (Settled (read (now (image .entry))) (now (symbols .entry)) (now (words .entry))) ⌝ }
+{
+    let s = image::symbols(image);
+    for i in 0..symbols.len() {
+        let a = number(symbols[i]);
+        if s <= a {
+            return false;
+        }
+        let q = held::word_before(words, i);
+        let next = held::next_state(table, q, a);
+        if held::wide(words[i]) != next {
+            return false;
+        }
+        if held::match_word(table, next) != 0 {
+            return false;
+        }
+    }
+    true
+}
+
+// Whether head and areas are as described, with areas of one length.
+pub fn as_described(
+    settled: usize,
+    waiting: usize,
+    verdict: Standing,
+    rule: usize,
+    image: &[u8],
+    table: &[u16],
+    bytes: &[u8],
+    words: &[u16],
+) -> bool
+    requires image { ⌜ valid (now image) ≡ true ⌝ }
+    requires table { ⌜ prefix (tableOf (read (now image))) (now table) ≡ true ⌝ }
+    requires size { ⌜ length (now words) ≡ length (now bytes) ⌝ }
+    ensures { λ r. ⌜ r ≡ described (read (now (image .entry))) (length (now (bytes .entry)))
+        (monitorIn (record { settled = settled; waiting = waiting; verdict = verdict; rule = rule }) (now (bytes .entry)) (now (words .entry))) ⌝ }
+{
+    let capacity = bytes.len();
+    if capacity < settled {
+        return false;
+    }
+    if capacity - settled < waiting {
+        return false;
+    }
+    let first = capacity - waiting;
+    if !stands_by(image, verdict, rule) {
+        return false;
+    }
+    if !settled_right(image, table, &bytes[..settled], &words[..settled]) {
+        return false;
+    }
+    if !zero_bytes(&bytes[settled..first]) {
+        return false;
+    }
+    if !image::all_below(&bytes[first..], image[0]) {
+        return false;
+    }
+    zero_words(&words[settled..])
+}

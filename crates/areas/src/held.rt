@@ -1,0 +1,120 @@
+// Writes into the two areas, and the looks into a table that a step needs.
+// The module is private: what its functions ask, the checks of a call have shown.
+ghost use Prim.Native.Nat.{_+_, _*_, _-_, _≤_, _<_};
+ghost use mathlib.Core.Path.{_≡_};
+ghost use mathlib.Core.Bool.{true};
+ghost use lib.ListN.{length, getD, set, drop, replicate};
+ghost use lib.Seq.{paste};
+ghost use Rattle.image.specs.Image.{read, valid};
+ghost use Rattle.machine.specs.Lent.{nextIn, matchIn, wordBefore, Starts};
+
+// A word as a number.
+pub fn wide(x: u16) -> usize
+    ensures { λ r. ⌜ r ≡ x ⌝ }
+{
+    x as usize
+}
+
+// The next state of q on symbol a.
+pub fn next_state(table: &[u16], q: usize, a: usize) -> usize
+    requires header { ⌜ 2 ≤ length (now table) ⌝ }
+    requires inside { ⌜ 2 + getD (now table) 0 0 + q * getD (now table) 1 0 + a < length (now table) ⌝ }
+    ensures { λ r. ⌜ r ≡ nextIn (now (table .entry)) q a ⌝ }
+{
+    let n = wide(table[0]);
+    let s = wide(table[1]);
+    wide(table[2 + n + q * s + a])
+}
+
+// The same, where the rows are known to begin at `rows` and to have `width` words each: a step does not look them up again.
+pub fn next_at(table: &[u16], rows: usize, width: usize, q: usize, a: usize) -> usize
+    requires { ⌜ rows + q * width + a < length (now table) ⌝ }
+    ensures { λ r. ⌜ r ≡ getD (now (table .entry)) (rows + q * width + a) 0 ⌝ }
+{
+    wide(table[rows + q * width + a])
+}
+
+// The match word of state q.
+pub fn match_word(table: &[u16], q: usize) -> usize
+    requires { ⌜ 2 + q < length (now table) ⌝ }
+    ensures { λ r. ⌜ r ≡ matchIn (now (table .entry)) q ⌝ }
+{
+    wide(table[2 + q])
+}
+
+// The word before the next one, where n words are in use: 0 at the start.
+pub fn word_before(words: &[u16], n: usize) -> usize
+    requires { ⌜ n ≤ length (now words) ⌝ }
+    ensures { λ r. ⌜ r ≡ wordBefore (now (words .entry)) n ⌝ }
+{
+    if n == 0 {
+        return 0;
+    }
+    wide(words[n - 1])
+}
+
+// Sets bytes and words from .. to to 0. Few are taken off at a time, so one loop for both is faster than two.
+pub fn clear(bytes: &mut [u8], words: &mut [u16], from: usize, to: usize)
+    requires order { ⌜ from ≤ to ⌝ }
+    requires bytes { ⌜ to ≤ length (now bytes) ⌝ }
+    requires words { ⌜ to ≤ length (now words) ⌝ }
+    ensures bytes { λ _. ⌜ now (bytes .exit) ≡ paste (now (bytes .entry)) from (replicate (to - from) 0) (to - from) ⌝ }
+    ensures words { λ _. ⌜ now (words .exit) ≡ paste (now (words .entry)) from (replicate (to - from) 0) (to - from) ⌝ }
+{
+    for i in from..to {
+        bytes[i] = 0;
+        words[i] = 0;
+    }
+}
+
+// Takes off the first waiting symbol and the symbols settled behind the first `kept`.
+pub fn take_off(bytes: &mut [u8], words: &mut [u16], first: usize, kept: usize, settled: usize)
+    requires first { ⌜ first < length (now bytes) ⌝ }
+    requires order { ⌜ kept ≤ settled ⌝ }
+    requires bytes { ⌜ settled ≤ length (now bytes) ⌝ }
+    requires words { ⌜ settled ≤ length (now words) ⌝ }
+    ensures bytes { λ _. ⌜ now (bytes .exit)
+        ≡ paste (set (now (bytes .entry)) first 0) kept (replicate (settled - kept) 0) (settled - kept) ⌝ }
+    ensures words { λ _. ⌜ now (words .exit) ≡ paste (now (words .entry)) kept (replicate (settled - kept) 0) (settled - kept) ⌝ }
+{
+    bytes[first] = 0;
+    clear(bytes, words, kept, settled);
+}
+
+// Copies n symbols of the image, from `start` on, into the bytes from `to` on.
+pub fn put_back(image: &[u8], start: usize, n: usize, bytes: &mut [u8], to: usize)
+    requires source { ⌜ start + n ≤ length (now image) ⌝ }
+    requires target { ⌜ to + n ≤ length (now bytes) ⌝ }
+    ensures { λ _. ⌜ now (bytes .exit) ≡ paste (now (bytes .entry)) to (drop start (now (image .entry))) n ⌝ }
+{
+    for k in 0..n {
+        bytes[to + k] = image[start + k];
+    }
+}
+
+// Moves the bytes from `from` to the end one place to the left.
+pub fn move_left(bytes: &mut [u8], from: usize)
+    requires some { ⌜ 1 ≤ from ⌝ }
+    requires inside { ⌜ from ≤ length (now bytes) ⌝ }
+    ensures { λ _. ⌜ now (bytes .exit)
+        ≡ paste (now (bytes .entry)) (from - 1) (drop from (now (bytes .entry))) (length (now (bytes .entry)) - from) ⌝ }
+{
+    for i in from..bytes.len() {
+        bytes[i - 1] = bytes[i];
+    }
+}
+
+// Where each rule's right symbols begin, so that a step need not go through the rules before its own.
+pub fn index(image: &[u8], starts: &mut [u16])
+    requires image { ⌜ valid (now image) ≡ true ⌝ }
+    requires room { ⌜ length (read (now image) .rules) ≤ length (now starts) ⌝ }
+    ensures { λ _. ⌜ Starts (now (image .entry)) (now (starts .exit)) ⌝ }
+{
+    let rules = image::rules(image);
+    let mut at = 4 + 4 * rules;
+    for i in 0..rules {
+        let left = image::left_length(image, i);
+        starts[i] = (at + left) as u16;
+        at += image::body_length(image, i);
+    }
+}

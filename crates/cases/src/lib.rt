@@ -1,0 +1,1 @@
+// The worked cases of specs/, computed in proofs/. It has no code.

@@ -1,0 +1,298 @@
+-- A run in the areas: the loop's invariant, its turns and its four ends.
+-- Assumes nothing.
+use Prim.Native.Nat.{ℕ, zero, suc, _+_, _-_, _*_, _≤_}
+use mathlib.Core.Path.{_≡_, refl, sym, ap, _∙_}
+use mathlib.Core.Bool.{Bool, true, false}
+use mathlib.Core.Option.{none}
+use mathlib.Core.List.{List, [], _∷_}
+use native.Mathlib.Omega.{arith}
+use lib.ListN.{length}
+use Rattle.rewriting.specs.Lists.{prefix}
+use Rattle.rewriting.specs.Rules.{Rule}
+use Rattle.rewriting.proofs.Ranges.{Ranges, ranges}
+use Rattle.image.specs.Image.{read, valid}
+use Rattle.image.proofs.Image.{valid-in-range}
+use Rattle.table.specs.Table.{tableOf}
+use Rattle.machine.specs.declared.Standing.{Standing}
+use Rattle.machine.specs.Areas.{Head}
+use Rattle.machine.specs.declared.Answer.{Answer}
+use Rattle.machine.specs.declared.Counts.{Counts}
+use Rattle.machine.specs.State.{State, Step, step}
+use Rattle.machine.specs.Run.{Run, noCounts, plus, countsOf, ended, counted, fits, proceed, tests, run}
+use Rattle.machine.specs.Areas.{Monitor, monitorOf, stateOf}
+use Rattle.machine.specs.Calls.{Outcome, outcome}
+use Rattle.machine.specs.Lent.{monitorIn, Passed, stepWaiting, stepOf, Tried, tried}
+use Rattle.machine.proofs.Sums.{none-plus, plus-none, plus-assoc}
+use Rattle.machine.proofs.Machine.{step-counts}
+use Rattle.machine.proofs.Legal.{legal-active, legal-step}
+use Rattle.machine.proofs.Areas.{state-back}
+use Rattle.machine.proofs.Calls.{Holding, holding-passes}
+use Rattle.machine.proofs.Stepping.{Held, held, passed-valid, passed-table, passed-written, waits}
+
+-- The tests of a run, one by one.
+run-verdict : (rules : List Rule) (capacity fuel : ℕ) (s : State) (v : ℕ) → s .verdict ≡ Standing.Verdict v
+    → run rules capacity fuel s ≡ ended (Answer.Verdict v) s
+unfolding run tests
+run-verdict rules capacity zero s v e = rw e
+run-verdict rules capacity (suc fuel) s v e = rw e
+
+run-quiet : (rules : List Rule) (capacity fuel : ℕ) (s : State) → s .verdict ≡ Standing.None → s .waiting ≡ []
+    → run rules capacity fuel s ≡ ended Answer.Quiet s
+unfolding run tests
+run-quiet rules capacity zero s e w = rw (e, w)
+run-quiet rules capacity (suc fuel) s e w = rw (e, w)
+
+run-spent : (rules : List Rule) (capacity : ℕ) (s : State) (a : ℕ) (q : List ℕ) → s .verdict ≡ Standing.None → s .waiting ≡ a ∷ q
+    → run rules capacity 0 s ≡ ended Answer.Spent s
+unfolding run tests
+run-spent rules capacity s a q e w = rw (e, w)
+
+run-step : (rules : List Rule) (capacity fuel : ℕ) (s : State) (a : ℕ) (q : List ℕ) → s .verdict ≡ Standing.None → s .waiting ≡ a ∷ q
+    → run rules capacity (suc fuel) s ≡ proceed capacity s (stepOf rules s) (run rules capacity fuel)
+unfolding run tests stepWaiting
+run-step rules capacity fuel s a q e w = rw (e, w)
+
+-- What a step that was tried tells: it does not fit, and nothing changed, ..
+tried-no : (rules : List Rule) (capacity : ℕ) (m : Monitor) (t : Step) (to : Tried) → to .taken ≡ false → to ≡ tried rules capacity m t
+    → (fits capacity (t .to) ≡ false) × (to .monitor ≡ m)
+unfolding tried
+tried-no rules capacity m t to e p = go (fits capacity (t .to)) refl
+  where
+    go : (b : Bool) → fits capacity (t .to) ≡ b → (fits capacity (t .to) ≡ false) × (to .monitor ≡ m)
+    go false f = (f, ap (λ (x : Tried). x .monitor) (rw f at p))
+    go true f =
+        let z : to .taken ≡ true = ap (λ (x : Tried). x .taken) (rw f at p) in
+        let y : _≡_ {A = ℕ} 0 1 = cc in
+        absurd (omega arith)
+
+-- .. or it fits, and was taken.
+record Taken (rules : List Rule) (capacity : ℕ) (t : Step) (to : Tried) : Type 0 where
+  fit : fits capacity (t .to) ≡ true
+  monitor : to .monitor ≡ monitorOf rules capacity (t .to)
+  rewrites : to .rewrites ≡ t .rewrites
+  put : to .put ≡ t .put
+
+tried-yes : (rules : List Rule) (capacity : ℕ) (m : Monitor) (t : Step) (to : Tried) → to .taken ≡ true → to ≡ tried rules capacity m t
+    → Taken rules capacity t to
+unfolding tried
+tried-yes rules capacity m t to e p = go (fits capacity (t .to)) refl
+  where
+    go : (b : Bool) → fits capacity (t .to) ≡ b → Taken rules capacity t to
+    go true f =
+        record {
+          fit = f;
+          monitor = ap (λ (x : Tried). x .monitor) (rw f at p);
+          rewrites = ap (λ (x : Tried). x .rewrites) (rw f at p);
+          put = ap (λ (x : Tried). x .put) (rw f at p);
+        }
+    go false f =
+        let z : to .taken ≡ false = ap (λ (x : Tried). x .taken) (rw f at p) in
+        let y : _≡_ {A = ℕ} 0 1 = cc in
+        absurd (omega arith)
+
+-- the counts c and then the run r
+abbrev pub ahead : Counts → Run → Run
+ahead c r = record { answer = r .answer; counts = plus c (r .counts); state = r .state }
+
+-- the counts of a run, with so much fuel left
+abbrev pub soFar : ℕ → ℕ → ℕ → ℕ → Counts
+soFar fuel left rewrites put = record { steps = fuel - left; rewrites = rewrites; put = put }
+
+-- the loop's invariant
+pub record Running (image table bytes₀ words₀ : List ℕ) (fuel : ℕ) (head₀ : Head) (bytes words : List ℕ) (head : Head) (left rewrites put : ℕ) : Type 0 where
+  pub bytes-kept : length bytes ≡ length bytes₀
+  pub words-kept : length words ≡ length words₀
+  pub passed : Passed (length bytes₀) image table (monitorIn head bytes words)
+  pub fuel-left : left ≤ fuel
+  pub few-rewrites : rewrites ≤ fuel - left
+  pub few-put : put ≤ 8 * rewrites
+  pub rest : run (read image .rules) (length bytes₀) fuel (stateOf (monitorIn head₀ bytes₀ words₀))
+      ≡ ahead (soFar fuel left rewrites put) (run (read image .rules) (length bytes₀) left (stateOf (monitorIn head bytes words)))
+
+pub running-first : (image table bytes words : List ℕ) (fuel : ℕ) (head : Head) → Passed (length bytes) image table (monitorIn head bytes words)
+    → Running image table bytes words fuel head bytes words head fuel 0 0
+unfolding noCounts
+running-first image table bytes words fuel head ok =
+    let r : Run = run (read image .rules) (length bytes) fuel (stateOf (monitorIn head bytes words)) in
+    let z : fuel - fuel ≡ 0 = omega arith in
+    let none-yet : plus (record { steps = fuel - fuel; rewrites = 0; put = 0 }) (r .counts) ≡ r .counts = rw z (none-plus (r .counts)) in
+    record {
+      bytes-kept = refl;
+      words-kept = refl;
+      passed = ok;
+      fuel-left = omega arith;
+      few-rewrites = omega arith;
+      few-put = omega arith;
+      rest = λ i. record { answer = r .answer; counts = sym none-yet i; state = r .state };
+    }
+
+module _ {image table bytes₀ words₀ : List ℕ} {fuel : ℕ} {head₀ : Head} {bytes words : List ℕ} {head : Head} {left rewrites put : ℕ}
+    (k : Running image table bytes₀ words₀ fuel head₀ bytes words head left rewrites put) where
+  -- what a step asks
+  pub running-asks : Passed (length bytes) image table (monitorIn head bytes words)
+  running-asks = rw (k .bytes-kept) (k .passed)
+
+  facts : Held (read image) (length bytes₀) (monitorIn head bytes words)
+  facts = held (length bytes₀) image table (monitorIn head bytes words) (k .passed)
+
+  -- The run ends here.
+  ended-here : (answer : Answer)
+      → run (read image .rules) (length bytes₀) left (stateOf (monitorIn head bytes words)) ≡ ended answer (stateOf (monitorIn head bytes words))
+      → _≡_ {A = Outcome} (record { answer = answer; counts = soFar fuel left rewrites put; monitor = monitorIn head bytes words })
+      (outcome (read image) (length bytes₀) (monitorIn head₀ bytes₀ words₀) none
+      (run (read image .rules) (length bytes₀) fuel (stateOf (monitorIn head₀ bytes₀ words₀))))
+  unfolding outcome ended
+  ended-here answer e =
+      let c : Counts = soFar fuel left rewrites put in
+      let written : monitorOf (read image .rules) (length bytes₀) (stateOf (monitorIn head bytes words)) ≡ monitorIn head bytes words =
+      passed-written (length bytes₀) image table (monitorIn head bytes words) (k .passed)
+      in
+      rw (k .rest, e)
+      (λ i. record { answer = answer; counts = sym (plus-none c) i; monitor = sym written i })
+
+  pub verdict-ends : (v : ℕ) → head .verdict ≡ Standing.Verdict v
+      → _≡_ {A = Outcome} (record { answer = Answer.Verdict v; counts = soFar fuel left rewrites put; monitor = monitorIn head bytes words })
+      (outcome (read image) (length bytes₀) (monitorIn head₀ bytes₀ words₀) none
+      (run (read image .rules) (length bytes₀) fuel (stateOf (monitorIn head₀ bytes₀ words₀))))
+  unfolding stateOf
+  verdict-ends v e =
+      ended-here (Answer.Verdict v) (run-verdict (read image .rules) (length bytes₀) left (stateOf (monitorIn head bytes words)) v e)
+
+  pub quiet-ends : head .verdict ≡ Standing.None → head .waiting ≡ 0
+      → _≡_ {A = Outcome} (record { answer = Answer.Quiet; counts = soFar fuel left rewrites put; monitor = monitorIn head bytes words })
+      (outcome (read image) (length bytes₀) (monitorIn head₀ bytes₀ words₀) none
+      (run (read image .rules) (length bytes₀) fuel (stateOf (monitorIn head₀ bytes₀ words₀))))
+  unfolding stateOf
+  quiet-ends e z =
+      ended-here Answer.Quiet
+      (run-quiet (read image .rules) (length bytes₀) left (stateOf (monitorIn head bytes words)) e
+      (empty (stateOf (monitorIn head bytes words) .waiting) (sym (facts .waiting-count) ∙ z)))
+    where
+      empty : (l : List ℕ) → length l ≡ 0 → l ≡ []
+      empty [] p = refl
+      empty (x ∷ l) p = absurd (omega arith)
+
+  pub spent-ends : head .verdict ≡ Standing.None → (head .waiting ≡ 0 → ⊥) → left ≡ 0
+      → _≡_ {A = Outcome} (record { answer = Answer.Spent; counts = record { steps = fuel; rewrites = rewrites; put = put }; monitor = monitorIn head bytes words })
+      (outcome (read image) (length bytes₀) (monitorIn head₀ bytes₀ words₀) none
+      (run (read image .rules) (length bytes₀) fuel (stateOf (monitorIn head₀ bytes₀ words₀))))
+  unfolding stateOf
+  spent-ends e z l =
+      let w = waits (read image) (length bytes₀) (monitorIn head bytes words) facts (omega (arith, z)) in
+      let all : fuel ≡ fuel - left = omega (arith, l) in
+      ap (λ (n : ℕ). record { answer = Answer.Spent; counts = record { steps = n; rewrites = rewrites; put = put }; monitor = monitorIn head bytes words }) all
+      ∙ (ended-here Answer.Spent
+      (rw l (run-spent (read image .rules) (length bytes₀) (stateOf (monitorIn head bytes words)) (w .0) (w .1) e (w .2))))
+
+  -- A step is tried. It does not fit, ..
+  pub full-ends : head .verdict ≡ Standing.None → (head .waiting ≡ 0 → ⊥) → (left ≡ 0 → ⊥) → (to : Tried) → to .taken ≡ false
+      → to ≡ tried (read image .rules) (length bytes) (monitorIn head bytes words) (stepOf (read image .rules) (stateOf (monitorIn head bytes words)))
+      → _≡_ {A = Outcome} (record { answer = Answer.Full; counts = soFar fuel left rewrites put; monitor = monitorIn head (to .monitor .bytes) (to .monitor .words) })
+      (outcome (read image) (length bytes₀) (monitorIn head₀ bytes₀ words₀) none
+      (run (read image .rules) (length bytes₀) fuel (stateOf (monitorIn head₀ bytes₀ words₀))))
+  unfolding stateOf proceed
+  full-ends e z l to untaken t =
+      let s : State = stateOf (monitorIn head bytes words) in
+      let w = waits (read image) (length bytes₀) (monitorIn head bytes words) facts (omega (arith, z)) in
+      let n : left ≡ suc (left - 1) = omega (arith, l) in
+      let u = tried-no (read image .rules) (length bytes₀) (monitorIn head bytes words) (stepOf (read image .rules) s) to untaken (t ∙ ap (λ (n : ℕ). tried (read image .rules) n (monitorIn head bytes words) (stepOf (read image .rules) s)) (k .bytes-kept)) in
+      let here : run (read image .rules) (length bytes₀) left s ≡ ended Answer.Full s =
+      ap (λ (f : ℕ). run (read image .rules) (length bytes₀) f s) n
+      ∙ run-step (read image .rules) (length bytes₀) (left - 1) s (w .0) (w .1) e (w .2)
+      ∙ rw (u .0)
+      in
+      ap
+      (λ (x : Monitor). record { answer = Answer.Full; counts = soFar fuel left rewrites put; monitor = monitorIn head (x .bytes) (x .words) })
+      (u .1)
+      ∙ ended-here Answer.Full here
+
+  -- .. or the run goes on.
+  pub running-next : head .verdict ≡ Standing.None → (head .waiting ≡ 0 → ⊥) → (left ≡ 0 → ⊥) → (to : Tried) → to .taken ≡ true
+      → to ≡ tried (read image .rules) (length bytes) (monitorIn head bytes words) (stepOf (read image .rules) (stateOf (monitorIn head bytes words)))
+      → length (to .monitor .bytes) ≡ length bytes → length (to .monitor .words) ≡ length words
+      → Running image table bytes₀ words₀ fuel head₀ (to .monitor .bytes) (to .monitor .words) (to .monitor .head) (left - 1) (rewrites + to .rewrites)
+      (put + to .put)
+  unfolding stateOf stepWaiting proceed counted plus countsOf
+  running-next e z l to taken t nb nw =
+      record {
+        bytes-kept = nb ∙ k .bytes-kept;
+        words-kept = nw ∙ k .words-kept;
+        passed = holding-passes (length bytes₀) image table good right (to .monitor) holding;
+        fuel-left = omega (arith, k .fuel-left);
+        few-rewrites = omega (arith, l, k .fuel-left, k .few-rewrites, u .rewrites, counts .0);
+        few-put = omega (arith, k .few-put, u .rewrites, u .put, counts .1);
+        rest = k .rest ∙ on;
+      }
+    where
+      rules : List Rule
+      rules = read image .rules
+
+      s : State
+      s = stateOf (monitorIn head bytes words)
+
+      t′ : Step
+      t′ = stepOf rules s
+
+      w : (a : ℕ) × (q : List ℕ) × (s .waiting ≡ a ∷ q)
+      w = waits (read image) (length bytes₀) (monitorIn head bytes words) facts (omega (arith, z))
+
+      u : Taken rules (length bytes₀) t′ to
+      u = tried-yes rules (length bytes₀) (monitorIn head bytes words) t′ to taken (t ∙ ap (λ (n : ℕ). tried rules n (monitorIn head bytes words) t′) (k .bytes-kept))
+
+      good : valid image ≡ true
+      good = passed-valid (length bytes₀) image table (monitorIn head bytes words) (k .passed)
+
+      right : prefix (tableOf (read image)) table ≡ true
+      right = passed-table (length bytes₀) image table (monitorIn head bytes words) (k .passed)
+
+      in-range : Ranges (read image)
+      in-range = ranges (read image) (valid-in-range image good)
+
+      is-step : t′ ≡ step rules (s .settled) (w .0) (w .1)
+      is-step = rw (w .2)
+
+      holding : Holding (read image) (length bytes₀) (to .monitor)
+      holding =
+          record {
+            state = t′ .to;
+            written = u .monitor;
+            legal = rw is-step (legal-step (read image) in-range (s .settled) (w .0) (w .1) (legal-active (read image) s (w .0 ∷ w .1) (w .2) (facts .legal)));
+            room = u .fit;
+          }
+
+      counts : (t′ .rewrites ≤ 1) × (t′ .put ≤ 8 * t′ .rewrites)
+      counts = rw is-step (step-counts (read image) in-range (s .settled) (w .0) (w .1))
+
+      on : ahead (soFar fuel left rewrites put) (run rules (length bytes₀) left s)
+          ≡ ahead (soFar fuel (left - 1) (rewrites + to .rewrites) (put + to .put)) (run rules (length bytes₀) (left - 1) (stateOf (to .monitor)))
+      on =
+          ap (ahead c) (ap (λ (f : ℕ). run rules (length bytes₀) f s) n ∙ run-step rules (length bytes₀) (left - 1) s (w .0) (w .1) e (w .2) ∙ rw (u .fit))
+          ∙ (λ i. record { answer = r .answer; counts = (sym (plus-assoc c (countsOf t′) (r .counts)) ∙ ap (λ (d : Counts). plus d (r .counts)) sum) i; state = r .state })
+          ∙ ap (λ (x : State). ahead c′ (run rules (length bytes₀) (left - 1) x)) (sym back)
+        where
+          n : left ≡ suc (left - 1)
+          n = omega (arith, l)
+
+          c : Counts
+          c = soFar fuel left rewrites put
+
+          c′ : Counts
+          c′ = soFar fuel (left - 1) (rewrites + to .rewrites) (put + to .put)
+
+          r : Run
+          r = run rules (length bytes₀) (left - 1) (t′ .to)
+
+          one-more : fuel - left + 1 ≡ fuel - (left - 1)
+          one-more = omega (arith, l, k .fuel-left)
+
+          sum : plus c (countsOf t′) ≡ c′
+          sum =
+              λ i.
+              record {
+                steps = one-more i;
+                rewrites = rewrites + sym (u .rewrites) i;
+                put = put + sym (u .put) i;
+              }
+
+          back : stateOf (to .monitor) ≡ t′ .to
+          back = rw (u .monitor) (state-back rules (length bytes₀) (t′ .to))

@@ -1,0 +1,187 @@
+-- `parts::rewrite` meets its contract: the step that its rule makes, or none where it does not fit.
+-- Assumes nothing.
+use Prim.Native.Nat.{ℕ, _+_, _-_, _≤_, _<_}
+use mathlib.Core.Path.{_≡_, refl, sym, ap, _∙_}
+use mathlib.Core.Bool.{true}
+use mathlib.Core.List.{List}
+use native.Mathlib.Omega.{arith}
+use lib.ListN.{length, getD}
+use borrow.Author.Needs.{needs}
+use Rattle.rewriting.specs.Rules.{Put, rule}
+use Rattle.image.specs.declared.RightSide.{RightSide}
+use Rattle.image.specs.Image.{read, valid}
+use Rattle.image.specs.Places.{rightSideOf}
+use Rattle.machine.specs.Areas.{Monitor}
+use Rattle.machine.specs.Lent.{monitorIn}
+use Rattle.machine.proofs.RightSides.{is-put, is-close, put-few, put-within, put-here}
+use Rattle.machine.proofs.Stepping.{Held, held, passed-valid, first-place, matched-rule, left-some, left-fits, put-step, full-step, close-step}
+use Rattle.parts.proofs.rewrite.Statement.{statement}
+use Rattle.parts.proofs.rewrite.Tie as tie
+
+-- a slice's length fits a usize
+long : (c : tie.After-slice-known2) → length (c .before .before .before .before .before .args .bytes .now) < 18446744073709551616
+long c = omega arith
+
+-- what is lent
+abbrev given : tie.Start → Monitor
+given s = monitorIn (record { settled = s .args .settled; waiting = s .args .waiting; verdict = s .args .verdict; rule = s .args .rule }) (s .args .bytes .now) (s .args .words .now)
+
+facts : (s : tie.Start) → Held (read (s .args .image .now)) (length (s .args .bytes .now)) (given s)
+facts s = held (length (s .args .bytes .now)) (s .args .image .now) (s .args .table .now) (given s) (s .pre .0)
+
+good : (s : tie.Start) → valid (s .args .image .now) ≡ true
+good s = passed-valid (length (s .args .bytes .now)) (s .args .image .now) (s .args .table .now) (given s) (s .pre .0)
+
+is-rule : (s : tie.Start) → s .args .i < length (read (s .args .image .now) .rules)
+is-rule s = matched-rule (read (s .args .image .now)) (length (s .args .bytes .now)) (given s) (facts s) (s .args .i) (s .pre .1 .1)
+
+left-side : (s : tie.Start) → length (rule (read (s .args .image .now) .rules) (s .args .i) .left) ≤ s .args .settled + 1
+left-side s = left-fits (read (s .args .image .now)) (length (s .args .bytes .now)) (given s) (facts s) (s .args .i) (s .pre .1 .1)
+
+some-symbol : (s : tie.Start) → 1 ≤ length (rule (read (s .args .image .now) .rules) (s .args .i) .left)
+some-symbol s = left-some (read (s .args .image .now)) (length (s .args .bytes .now)) (given s) (facts s) (s .args .i) (s .pre .1 .1)
+
+one-waits : (s : tie.Start) → 1 ≤ s .args .waiting
+one-waits s =
+    let w = first-place (read (s .args .image .now)) (length (s .args .bytes .now)) (given s) (facts s) (s .pre .1 .1 .0) (s .pre .1 .1 .1) (s .pre .1 .1 .2) in
+    omega arith
+
+-- the right side is a string, with its symbols in the image
+string : (s : tie.Start) (n : ℕ) → rightSideOf (rule (read (s .args .image .now) .rules) (s .args .i) .right) ≡ RightSide.Put n
+    → (v : List ℕ) × (rule (read (s .args .image .now) .rules) (s .args .i) .right ≡ Put v) × (n ≡ length v)
+string s n e = is-put (rule (read (s .args .image .now) .rules) (s .args .i) .right) n e
+
+few : (s : tie.Start) (n : ℕ) → rightSideOf (rule (read (s .args .image .now) .rules) (s .args .i) .right) ≡ RightSide.Put n → n ≤ 8
+few s n e =
+    let r = string s n e in
+    omega (arith, r .2, put-few (s .args .image .now) (good s) (s .args .i) (is-rule s) (r .0) (r .1))
+
+within : (s : tie.Start) (n : ℕ) → rightSideOf (rule (read (s .args .image .now) .rules) (s .args .i) .right) ≡ RightSide.Put n
+    → getD (s .args .starts .now) (s .args .i) 0 + n ≤ length (s .args .image .now)
+within s n e =
+    let r = string s n e in
+    omega (arith, r .2, put-within (s .args .image .now) (good s) (s .args .i) (is-rule s) (r .0) (r .1), s .pre .1 .0 (s .args .i) (is-rule s) .1)
+
+sub-first : tie.Need-sub-first
+sub-first c = omega (arith, facts (c .before .before .before .before .before))
+
+add-kept : tie.Need-add-kept
+add-kept c = omega (arith, facts (c .before .before .before .before .before))
+
+left-length-requires : tie.Need-left-length-requires
+left-length-requires c κs = (good (c .before .before .before .before .before), is-rule (c .before .before .before .before .before))
+
+sub-kept : tie.Need-sub-kept
+sub-kept c = omega (arith, left-side (c .before .before .before .before .before .before), c .left-length .ensures)
+
+add-behind : tie.Need-add-behind
+add-behind c = search needs
+
+right-side-requires : tie.Need-right-side-requires
+right-side-requires c κs = (good (c .before .before .before .before .before .before), is-rule (c .before .before .before .before .before .before))
+
+enum-known-n : tie.Need-enum-known-n
+enum-known-n c = search needs
+
+add-if1 : tie.Need-add-if1
+add-if1 c = omega (arith, facts (c .before .before .before .before .before .before .before .before .before .before), few (c .before .before .before .before .before .before .before .before .before .before) _ (sym (c .before .before .before .right-side .ensures) ∙ c .before .n .given .1))
+
+returns : tie.Need-returns
+returns c =
+    let r = string (c .before .before .before .before .before .before .before .before .before .before .before) _ (sym (c .before .before .before .before .right-side .ensures) ∙ c .before .before .n .given .1) in
+    full-step (read (c .before .before .before .before .before .before .before .before .before .before .before .args .image .now)) (length (c .before .before .before .before .before .before .before .before .before .before .before .args .bytes .now)) (given (c .before .before .before .before .before .before .before .before .before .before .before)) (facts (c .before .before .before .before .before .before .before .before .before .before .before)) (c .before .before .before .before .before .before .before .before .before .before .before .args .i) (c .before .before .before .before .before .before .before .before .before .before .before .pre .1 .1) _ _ (r .0) _ refl (ap (λ (x : ℕ). c .before .before .before .before .before .before .before .before .before .before .before .args .settled + 1 - x) (c .before .before .before .before .before .left-length .ensures)) (r .1) (r .2) (c .if1 .taken)
+
+take-off-requires : tie.Need-take-off-requires
+take-off-requires c κs = (omega (arith, facts (c .before .before .before .before .before .before .before .before .before .before .before .before .before), one-waits (c .before .before .before .before .before .before .before .before .before .before .before .before .before)), (omega (arith, some-symbol (c .before .before .before .before .before .before .before .before .before .before .before .before .before), c .before .before .before .before .before .before .before .left-length .ensures), (omega (arith, facts (c .before .before .before .before .before .before .before .before .before .before .before .before .before)), omega (arith, facts (c .before .before .before .before .before .before .before .before .before .before .before .before .before)))))
+
+mul-wide : tie.Need-mul-wide
+mul-wide c = omega (arith, c .before .before .before .before .before .before .before .before .before .before .before .before .before .before .before .before .before .before .pre .1 .0 (c .before .before .before .before .before .before .before .before .before .before .before .before .before .before .before .before .before .before .args .i) (is-rule (c .before .before .before .before .before .before .before .before .before .before .before .before .before .before .before .before .before .before)) .0)
+
+shared-slice-read-wide : tie.Need-shared-slice-read-wide
+shared-slice-read-wide c = c .before .before .before .before .before .before .before .before .before .before .before .before .before .before .before .before .before .before .before .pre .1 .0 (c .before .before .before .before .before .before .before .before .before .before .before .before .before .before .before .before .before .before .before .args .i) (is-rule (c .before .before .before .before .before .before .before .before .before .before .before .before .before .before .before .before .before .before .before)) .0
+
+wide-requires : tie.Need-wide-requires
+wide-requires c κs = search needs
+
+sub-put-back : tie.Need-sub-put-back
+sub-put-back c = search needs
+
+put-back-requires : tie.Need-put-back-requires
+put-back-requires c κs =
+    let bound = within (c .before .before .before .before .before .before .before .before .before .before .before .before .before .before .before .before .before .before .before .before .before) _ (sym (c .before .before .before .before .before .before .before .before .before .before .before .before .before .before .right-side .ensures) ∙ c .before .before .before .before .before .before .before .before .before .before .before .before .n .given .1) in
+    (rw (c .before .wide .ensures) bound, omega (arith, facts (c .before .before .before .before .before .before .before .before .before .before .before .before .before .before .before .before .before .before .before .before .before), one-waits (c .before .before .before .before .before .before .before .before .before .before .before .before .before .before .before .before .before .before .before .before .before), c .before .before .before .before .before .before .before .before .before .before .if1 .left, c .before .before .before .before .before .before .before .take-off .kept .0))
+
+sub-t20 : tie.Need-sub-t20
+sub-t20 c = one-waits (c .before .before .before .before .before .before .before .before .before .before .before .before .before .before .before .before .before .before .before .before .before .before .before .before)
+
+add-t32 : tie.Need-add-t32
+add-t32 c = omega (arith, facts (c .before .before .before .before .before .before .before .before .before .before .before .before .before .before .before .before .before .before .before .before .before .before .before .before), long (c .before .before .before .before .before .before .before .before .before .before .before .before .before .before .before .before .before .before .before), c .before .before .before .before .before .before .before .before .before .before .before .before .before .if1 .left, few (c .before .before .before .before .before .before .before .before .before .before .before .before .before .before .before .before .before .before .before .before .before .before .before .before) _ (sym (c .before .before .before .before .before .before .before .before .before .before .before .before .before .before .before .before .before .right-side .ensures) ∙ c .before .before .before .before .before .before .before .before .before .before .before .before .before .before .before .n .given .1))
+
+enum-known-v : tie.Need-enum-known-v
+enum-known-v c = search needs
+
+take-off-requires-2 : tie.Need-take-off-requires-2
+take-off-requires-2 c κs = (omega (arith, facts (c .before .before .before .before .before .before .before .before .before .before .before .before), one-waits (c .before .before .before .before .before .before .before .before .before .before .before .before)), (omega (arith, some-symbol (c .before .before .before .before .before .before .before .before .before .before .before .before), c .before .before .before .before .before .before .left-length .ensures), (omega (arith, facts (c .before .before .before .before .before .before .before .before .before .before .before .before)), omega (arith, facts (c .before .before .before .before .before .before .before .before .before .before .before .before)))))
+
+sub-t40 : tie.Need-sub-t40
+sub-t40 c = one-waits (c .before .before .before .before .before .before .before .before .before .before .before .before .before .before .before .before .before)
+
+same-length : tie.Need-same-length
+same-length c = search needs
+
+same-length-2 : tie.Need-same-length-2
+same-length-2 c = search needs
+
+returns-2 : tie.Need-returns-2
+returns-2 c =
+    let r = string (c .before .before .before .before .before .before .before .before .before .before .before .before .before .before .before .before .before .before .before .before .before .before .before .before) _ (sym (c .before .before .before .before .before .before .before .before .before .before .before .before .before .before .before .before .before .right-side .ensures) ∙ c .before .before .before .before .before .before .before .before .before .before .before .before .before .before .before .n .given .1) in
+    let start = c .before .before .before .before .before .before .before .before .before .before .before .before .before .before .before .before .before .before .before .before .before .before .before .before .pre .1 .0 (c .before .before .before .before .before .before .before .before .before .before .before .before .before .before .before .before .before .before .before .before .before .before .before .before .args .i) (is-rule (c .before .before .before .before .before .before .before .before .before .before .before .before .before .before .before .before .before .before .before .before .before .before .before .before)) .1 in
+    rw (c .before .before .put-back .ensures)
+    (put-step (read (c .before .before .before .before .before .before .before .before .before .before .before .before .before .before .before .before .before .before .before .before .before .before .before .before .args .image .now)) (length (c .before .before .before .before .before .before .before .before .before .before .before .before .before .before .before .before .before .before .before .before .before .before .before .before .args .bytes .now)) (given (c .before .before .before .before .before .before .before .before .before .before .before .before .before .before .before .before .before .before .before .before .before .before .before .before)) (facts (c .before .before .before .before .before .before .before .before .before .before .before .before .before .before .before .before .before .before .before .before .before .before .before .before)) (c .before .before .before .before .before .before .before .before .before .before .before .before .before .before .before .before .before .before .before .before .before .before .before .before .args .i) (c .before .before .before .before .before .before .before .before .before .before .before .before .before .before .before .before .before .before .before .before .before .before .before .before .pre .1 .1)
+    (record { first-is = refl; kept-is = (ap (λ (x : ℕ). c .before .before .before .before .before .before .before .before .before .before .before .before .before .before .before .before .before .before .before .before .before .before .before .before .args .settled + 1 - x) (c .before .before .before .before .before .before .before .before .before .before .before .before .before .before .before .before .before .before .left-length .ensures)); bytes-is = c .before .before .before .before .before .before .before .before .before .before .take-off .ensures .0; words-is = c .before .before .before .before .before .before .before .before .before .before .take-off .ensures .1 })
+    (r .0) _ _ (r .1) (r .2)
+    (rw (c .before .before .before .before .wide .ensures, start) (put-here (c .before .before .before .before .before .before .before .before .before .before .before .before .before .before .before .before .before .before .before .before .before .before .before .before .args .image .now) (good (c .before .before .before .before .before .before .before .before .before .before .before .before .before .before .before .before .before .before .before .before .before .before .before .before)) (c .before .before .before .before .before .before .before .before .before .before .before .before .before .before .before .before .before .before .before .before .before .before .before .before .args .i) (is-rule (c .before .before .before .before .before .before .before .before .before .before .before .before .before .before .before .before .before .before .before .before .before .before .before .before)) (r .0) (r .1) _ (r .2)))
+    (c .before .before .before .before .before .before .before .before .before .before .before .before .before .if1 .left))
+
+same-length-3 : tie.Need-same-length-3
+same-length-3 c = search needs
+
+same-length-4 : tie.Need-same-length-4
+same-length-4 c = search needs
+
+returns-3 : tie.Need-returns-3
+returns-3 c =
+    close-step (read (c .before .before .before .before .before .before .before .before .before .before .before .before .before .before .before .before .before .args .image .now)) (length (c .before .before .before .before .before .before .before .before .before .before .before .before .before .before .before .before .before .args .bytes .now)) (given (c .before .before .before .before .before .before .before .before .before .before .before .before .before .before .before .before .before)) (facts (c .before .before .before .before .before .before .before .before .before .before .before .before .before .before .before .before .before)) (c .before .before .before .before .before .before .before .before .before .before .before .before .before .before .before .before .before .args .i) (c .before .before .before .before .before .before .before .before .before .before .before .before .before .before .before .before .before .pre .1 .1)
+    (record { first-is = refl; kept-is = (ap (λ (x : ℕ). c .before .before .before .before .before .before .before .before .before .before .before .before .before .before .before .before .before .args .settled + 1 - x) (c .before .before .before .before .before .before .before .before .before .before .before .left-length .ensures)); bytes-is = c .before .before .before .before .take-off2 .ensures .0; words-is = c .before .before .before .before .take-off2 .ensures .1 })
+    _ (is-close (rule (read (c .before .before .before .before .before .before .before .before .before .before .before .before .before .before .before .before .before .args .image .now) .rules) (c .before .before .before .before .before .before .before .before .before .before .before .before .before .before .before .before .before .args .i) .right) _ (sym (c .before .before .before .before .before .before .before .before .before .before .right-side .ensures) ∙ c .before .before .before .before .before .before .before .before .v .given .1))
+
+pub rewrite-spec : {M : Type 1} → statement M
+rewrite-spec =
+    tie.close
+    (tie.spec
+    sub-first
+    add-kept
+    left-length-requires
+    sub-kept
+    add-behind
+    right-side-requires
+    enum-known-n
+    add-if1
+    returns
+    take-off-requires
+    mul-wide
+    shared-slice-read-wide
+    wide-requires
+    sub-put-back
+    put-back-requires
+    sub-t20
+    add-t32
+    enum-known-v
+    take-off-requires-2
+    sub-t40
+    same-length
+    same-length-2
+    returns-2
+    same-length-3
+    same-length-4
+    returns-3)

@@ -1,0 +1,2 @@
+-- What a rewrite gives back.
+pub mod Rewritten
