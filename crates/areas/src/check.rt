@@ -1,17 +1,17 @@
 // The check behind refusal 11: whether head and areas are as document 01 describes them.
 // The module is private: what its functions ask, the checks before it have shown.
-ghost use Prim.Native.Nat.{_≤_, _<_};
+ghost use Prim.Native.Nat.{_<_};
 ghost use mathlib.Core.Path.{_≡_};
 ghost use mathlib.Core.Bool.{true};
 ghost use lib.ListN.{length, replicate};
 ghost use Rattle.rewriting.specs.Lists.{prefix};
-ghost use Rattle.image.specs.Check.{Decides};
-ghost use Rattle.image.specs.Image.{read, valid};
-ghost use Rattle.table.specs.Table.{tableOf};
+ghost use Rattle.layout.specs.ImageCheck.{Decides};
+ghost use Rattle.layout.specs.Image.{read, valid};
+ghost use Rattle.layout.specs.Table.{tableOf};
 ghost use Rattle.machine.specs.Areas.{standsBy, described};
 ghost use Rattle.machine.specs.Lent.{monitorIn, Settled};
 use crate::held;
-use image::RightSide;
+use layout::RightSide;
 use machine::Standing;
 
 // Whether all bytes are 0. It looks at them all, so that the loop becomes vector code.

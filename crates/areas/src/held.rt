@@ -5,7 +5,7 @@ ghost use mathlib.Core.Path.{_≡_};
 ghost use mathlib.Core.Bool.{true};
 ghost use lib.ListN.{length, getD, set, drop, replicate};
 ghost use lib.Seq.{paste};
-ghost use Rattle.image.specs.Image.{read, valid};
+ghost use Rattle.layout.specs.Image.{read, valid};
 ghost use Rattle.machine.specs.Lent.{nextIn, matchIn, wordBefore, Starts};
 
 // A word as a number.

@@ -7,9 +7,9 @@ use mathlib.Core.Option.{none, some}
 use mathlib.Core.List.{List}
 use native.Mathlib.Omega.{arith}
 use Rattle.rewriting.specs.Lists.{prefix}
-use Rattle.image.specs.Image.{read, valid}
-use Rattle.image.specs.Refusals.{refusal}
-use Rattle.table.specs.Table.{tableOf}
+use Rattle.layout.specs.Image.{read, valid}
+use Rattle.layout.specs.Refusals.{refusal}
+use Rattle.layout.specs.Table.{tableOf}
 use Rattle.machine.specs.State.{empty}
 use Rattle.machine.specs.Run.{noCounts}
 use Rattle.machine.specs.Areas.{Monitor, headOf}

@@ -10,9 +10,9 @@ use native.Mathlib.Nat.{mul-le-mul, add-mul}
 use lib.ListN.{length, getD, drop, length-append}
 use borrow.Author.Tests.{leb-true}
 use Rattle.rewriting.specs.Rules.{RuleSet}
-use Rattle.image.specs.Image.{read}
-use Rattle.image.specs.Refusals.{Check, refusal}
-use Rattle.image.proofs.Refusals.{refusal-passed, refusal-rest, refusal-none-right}
+use Rattle.layout.specs.Image.{read}
+use Rattle.layout.specs.Refusals.{Check, refusal}
+use Rattle.layout.proofs.Refusals.{refusal-passed, refusal-rest, refusal-none-right}
 use Rattle.machine.specs.declared.Counts.{Counts}
 use Rattle.machine.specs.Run.{Run, noCounts, plus, run}
 use Rattle.machine.specs.Areas.{Head, Monitor, stateOf}

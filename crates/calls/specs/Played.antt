@@ -6,9 +6,9 @@ use mathlib.Core.Option.{Option, none, some}
 use mathlib.Core.List.{List, [], _∷_}
 use lib.ListN.{length}
 use Rattle.rewriting.specs.Lists.{prefix}
-use Rattle.image.specs.Image.{read, valid}
-use Rattle.image.specs.Refusals.{Check, refusal}
-use Rattle.table.specs.Table.{tableOf}
+use Rattle.layout.specs.Image.{read, valid}
+use Rattle.layout.specs.Refusals.{Check, refusal}
+use Rattle.layout.specs.Table.{tableOf}
 use Rattle.machine.specs.declared.Counts.{Counts}
 use Rattle.machine.specs.State.{empty}
 use Rattle.machine.specs.Run.{noCounts}

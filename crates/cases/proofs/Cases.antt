@@ -7,10 +7,10 @@ use Rattle.rewriting.specs.Lists.{over}
 use Rattle.rewriting.specs.Rules.{symbolsOf, rule, rightInRange, ruleInRange, inRange}
 use Rattle.rewriting.specs.Occurrences.{lowest, tie, ending}
 use Rattle.rewriting.specs.Sample.{sample}
-use Rattle.image.specs.Image.{kind, lengthOrVerdict, contents, body, imageOf, readRight, readRule, readRules, read, valid}
-use Rattle.image.specs.Refusals.{refusal}
-use Rattle.table.specs.States.{isPrefix, state, next, matching, prefixes, known, numbered, states, number}
-use Rattle.table.specs.Table.{matchWord, row, tableOf}
+use Rattle.layout.specs.Image.{kind, lengthOrVerdict, contents, body, imageOf, readRight, readRule, readRules, read, valid}
+use Rattle.layout.specs.Refusals.{refusal}
+use Rattle.layout.specs.States.{isPrefix, state, next, matching, prefixes, known, numbered, states, number}
+use Rattle.layout.specs.Table.{matchWord, row, tableOf}
 use Rattle.machine.specs.State.{empty, active, replace, settle, step}
 use Rattle.machine.specs.Run.{noCounts, plus, countsOf, ended, counted, fits, proceed, tests, run}
 use Rattle.machine.specs.Areas.{documentCapacity, headOf, areaOf, bytesOf, statesAfter, wordsOf, monitorOf, stateOf, noMatch, unmatched, closesWith, standsBy, holds, described}

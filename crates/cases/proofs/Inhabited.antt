@@ -11,11 +11,11 @@ use lib.ListN.{replicate}
 use Rattle.rewriting.specs.Lists.{prefix}
 use Rattle.rewriting.specs.Sample.{sample}
 use Rattle.rewriting.proofs.Lists.{prefix-append}
-use Rattle.image.specs.Image.{imageOf, read}
-use Rattle.image.specs.Refusals.{refusal}
-use Rattle.image.proofs.Image.{read-image}
-use Rattle.image.proofs.Computed.{sample-valid, longer-refused}
-use Rattle.table.specs.Table.{tableOf}
+use Rattle.layout.specs.Image.{imageOf, read}
+use Rattle.layout.specs.Refusals.{refusal}
+use Rattle.layout.proofs.Image.{read-image}
+use Rattle.layout.proofs.ImageComputed.{sample-valid, longer-refused}
+use Rattle.layout.specs.Table.{tableOf}
 use Rattle.machine.specs.Calls.{Call, sized, freshened, freshOf}
 use Rattle.machine.specs.Promise.{Kept, AllRefused}
 use Rattle.machine.specs.Areas.{documentCapacity}

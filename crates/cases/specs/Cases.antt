@@ -5,8 +5,8 @@ use mathlib.Core.List.{List, [], _∷_}
 use lib.ListN.{replicate}
 use Rattle.rewriting.specs.Rules.{Put, Close, _⇒_, Rule, RuleSet}
 use Rattle.rewriting.specs.Sample.{sample}
-use Rattle.image.specs.Image.{imageOf}
-use Rattle.table.specs.Table.{tableOf}
+use Rattle.layout.specs.Image.{imageOf}
+use Rattle.layout.specs.Table.{tableOf}
 use Rattle.machine.specs.declared.Standing.{Standing}
 use Rattle.machine.specs.declared.Answer.{Answer}
 use Rattle.machine.specs.declared.Counts.{Counts}

@@ -6,9 +6,9 @@ use mathlib.Core.List.{List, [], _∷_, _++_}
 use lib.ListN.{take, drop, replicate}
 use Rattle.rewriting.specs.Rules.{Put, _⇒_, RuleSet}
 use Rattle.rewriting.specs.Sample.{sample}
-use Rattle.image.specs.Image.{imageOf}
-use Rattle.image.specs.Refusals.{refusal}
-use Rattle.table.specs.Table.{tableOf}
+use Rattle.layout.specs.Image.{imageOf}
+use Rattle.layout.specs.Refusals.{refusal}
+use Rattle.layout.specs.Table.{tableOf}
 use Rattle.machine.specs.declared.Standing.{Standing}
 use Rattle.machine.specs.declared.Answer.{Answer}
 use Rattle.machine.specs.declared.Counts.{Counts}

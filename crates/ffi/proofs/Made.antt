@@ -6,7 +6,7 @@ use mathlib.Core.Path.{_≡_, refl, ap, _∙_}
 use mathlib.Core.Option.{Option, none, some}
 use mathlib.Core.List.{List, [], _∷_}
 use native.Mathlib.Omega.{arith}
-use Rattle.image.specs.Refusals.{refusal, refusalNumber}
+use Rattle.layout.specs.Refusals.{refusal, refusalNumber}
 use Rattle.machine.specs.declared.Standing.{Standing}
 use Rattle.machine.specs.State.{empty, active}
 use Rattle.machine.specs.Areas.{Monitor, headOf}

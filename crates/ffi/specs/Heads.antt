@@ -4,7 +4,7 @@ use Prim.Native.Nat.{ℕ, zero, suc}
 use mathlib.Core.Option.{Option, none, some}
 use mathlib.Core.List.{List, [], _∷_}
 use lib.ListN.{getD}
-use Rattle.image.specs.Refusals.{refusalNumber}
+use Rattle.layout.specs.Refusals.{refusalNumber}
 use Rattle.machine.specs.declared.Standing.{Standing}
 use Rattle.monitor.specs.declared.Head.{Head}
 use Rattle.machine.specs.declared.Answer.{Answer}

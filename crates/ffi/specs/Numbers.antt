@@ -1,13 +1,13 @@
 -- Answers as numbers: 0, or the number that document 01 gives the refusal.
 use Prim.Native.Nat.{ℕ}
 use mathlib.Core.List.{List, [], _∷_}
-use Rattle.image.specs.Refusals.{refusalNumber}
-use Rattle.text.specs.declared.Read.{Read}
-use Rattle.text.specs.Read as Read
-use Rattle.table.specs.declared.Compiled.{Compiled}
-use Rattle.table.specs.declared.Checked.{Checked}
-use Rattle.table.specs.Compile as Compile
-use Rattle.table.specs.Check as Check
+use Rattle.layout.specs.Refusals.{refusalNumber}
+use Rattle.grammar.specs.declared.Read.{Read}
+use Rattle.grammar.specs.Read as Read
+use Rattle.layout.specs.declared.Compiled.{Compiled}
+use Rattle.layout.specs.declared.Checked.{Checked}
+use Rattle.layout.specs.Compile as Compile
+use Rattle.layout.specs.TableCheck as Check
 
 unfoldable pub readNumber : Read → ℕ
 readNumber r = refusalNumber (Read.refusedBy r)

@@ -3,26 +3,26 @@ ghost use mathlib.Core.Path.{_≡_};
 ghost use Prim.Native.Nat.{_≤_, _<_};
 ghost use mathlib.Core.Option.{none};
 ghost use mathlib.Core.List.{[], _∷_};
-ghost use Rattle.image.specs.Refusals.{refusalNumber};
-ghost use Rattle.table.specs.Compile.{compileOf, wordCount};
-ghost use Rattle.table.specs.Check.{checkOf};
-ghost use Rattle.text.specs.Read.{readOf};
-ghost use Rattle.text.specs.Lookup.{numberOr, symbolNamed};
+ghost use Rattle.layout.specs.Refusals.{refusalNumber};
+ghost use Rattle.layout.specs.Compile.{compileOf, wordCount};
+ghost use Rattle.layout.specs.TableCheck.{checkOf};
+ghost use Rattle.grammar.specs.Read.{readOf};
+ghost use Rattle.grammar.specs.Lookup.{numberOr, symbolNamed};
 ghost use Rattle.machine.specs.Areas.{documentCapacity};
 ghost use Rattle.machine.specs.Calls.{freshOf, offerOf, goOnOf, refusedBy, answerNumber};
 ghost use Rattle.machine.specs.Batch.{batchOf};
 ghost use Rattle.monitor.specs.Lent.{headIn, lent};
 ghost use Rattle.ffi.specs.Numbers.{readNumber, readWords, compiledNumber, checkedNumber};
 ghost use Rattle.ffi.specs.Heads.{standingWord, headFrom, headWords, headAfter, callWords, freshMade, callMade, batchMade};
+use grammar::Found;
+use grammar::Read;
+use layout::Checked;
+use layout::Compiled;
 use machine::Answer;
 use machine::Standing;
 use monitor::Called;
 use monitor::Head;
 use monitor::Refusal;
-use table::Checked;
-use table::Compiled;
-use text::Found;
-use text::Read;
 
 // read_rules: 0, or the refusal's number; in `out` the image's length and 0, beside a refusal 0 and its place.
 #[no_mangle]
@@ -54,7 +54,7 @@ pub extern "C" fn watcher_read_rules(
 pub extern "C" fn watcher_symbol(names: &[u8], name: &[u8]) -> u32
     ensures { λ r. ⌜ r ≡ numberOr 32 (symbolNamed (now (names .entry)) (now (name .entry))) ⌝ }
 {
-    match text::symbol(names, name) {
+    match tokens::symbol(names, name) {
         Found::Symbol(i) => i as u32,
         Found::None => 32,
     }

@@ -6,15 +6,10 @@ ghost use mathlib.Core.List.{flatMap};
 ghost use lib.ListN.{length, drop};
 ghost use Rattle.rewriting.specs.Lists.{below};
 ghost use Rattle.rewriting.specs.Rules.{rule};
-ghost use Rattle.image.specs.Check.{Decides, Header, bodySize, firstSize, announced};
-ghost use Rattle.image.specs.Image.{body, read, valid};
-ghost use Rattle.image.specs.Places.{leftAt, rightAt, rightSideOf};
-
-// A right side: the number of its symbols, or its verdict.
-pub enum RightSide {
-    Put(usize),
-    Close(u64),
-}
+ghost use Rattle.layout.specs.ImageCheck.{Decides, Header, bodySize, firstSize, announced};
+ghost use Rattle.layout.specs.Image.{body, read, valid};
+ghost use Rattle.layout.specs.Places.{rightSideOf};
+use layout::RightSide;
 
 // A byte as a number.
 fn wide(x: u8) -> usize
@@ -168,14 +163,6 @@ pub fn rules(image: &[u8]) -> usize
     wide(image[1])
 }
 
-// V, the number of verdicts.
-pub fn verdicts(image: &[u8]) -> usize
-    requires { ⌜ valid (now image) ≡ true ⌝ }
-    ensures { λ r. ⌜ r ≡ read (now (image .entry)) .verdicts ⌝ }
-{
-    wide(image[2])
-}
-
 // E, the number of events.
 pub fn events(image: &[u8]) -> usize
     requires { ⌜ valid (now image) ≡ true ⌝ }
@@ -226,27 +213,4 @@ pub fn bodies_length(image: &[u8]) -> usize
     ensures { λ r. ⌜ r ≡ length (flatMap body (read (now (image .entry)) .rules)) ⌝ }
 {
     image.len() - (4 + 4 * rules(image))
-}
-
-// Where rule i's left side begins: behind the contents and the bodies of the rules before it.
-pub fn left_start(image: &[u8], i: usize) -> usize
-    requires { ⌜ valid (now image) ≡ true ⌝ }
-    requires { ⌜ i < length (read (now image) .rules) ⌝ }
-    ensures { λ r. ⌜ r ≡ leftAt (read (now (image .entry))) i ⌝ }
-{
-    let mut at = 4 + 4 * rules(image);
-    for k in 0..i {
-        at += body_length(image, k);
-    }
-    at
-}
-
-// Where rule i's right symbols begin: behind its left side.
-pub fn right_start(image: &[u8], i: usize) -> usize
-    requires { ⌜ valid (now image) ≡ true ⌝ }
-    requires { ⌜ i < length (read (now image) .rules) ⌝ }
-    ensures { λ r. ⌜ r ≡ rightAt (read (now (image .entry))) i ⌝ }
-{
-    let left = left_length(image, i);
-    left_start(image, i) + left
 }

@@ -13,11 +13,11 @@ use Rattle.rewriting.specs.Lists.{prefix}
 use Rattle.rewriting.specs.Rules.{Right, Put, Close, RuleSet, rule, rightInRange}
 use Rattle.rewriting.proofs.Lists.{and-left, and-right}
 use Rattle.rewriting.proofs.Ranges.{Ranges, ranges, rule-at}
-use Rattle.image.specs.Image.{read, valid}
-use Rattle.image.specs.Refusals.{Check, refusal}
-use Rattle.image.proofs.Image.{valid-in-range}
-use Rattle.image.proofs.Refusals.{refusal-none-left}
-use Rattle.table.specs.Table.{tableOf}
+use Rattle.layout.specs.Image.{read, valid}
+use Rattle.layout.specs.Refusals.{Check, refusal}
+use Rattle.layout.proofs.Image.{valid-in-range}
+use Rattle.layout.proofs.Refusals.{refusal-none-left}
+use Rattle.layout.specs.Table.{tableOf}
 use Rattle.machine.specs.declared.Standing.{Standing}
 use Rattle.machine.specs.declared.Answer.{Answer}
 use Rattle.machine.specs.Run.{Run, run}

@@ -12,11 +12,10 @@ use borrow.Author.Tests.{leb-true, le-leb, not-true, not-false}
 use Rattle.rewriting.specs.Lists.{same, below}
 use Rattle.rewriting.specs.Rules.{RuleSet}
 use Rattle.rewriting.proofs.Lists.{and-both, and-left, and-right, all-append, all-left, all-right, same-eq, eq-same}
-use Rattle.image.specs.Check.{Decides}
-use Rattle.image.proofs.Check.{all-behind}
-use Rattle.table.specs.States.{states, number}
-use Rattle.machine.specs.Areas.{Head}
-use Rattle.machine.specs.Areas.{areaOf, bytesOf, statesAfter, wordsOf, stateOf, unmatched, standsBy, holds, described}
+use Rattle.layout.specs.ImageCheck.{Decides}
+use Rattle.layout.proofs.ImageCheck.{all-behind}
+use Rattle.layout.specs.States.{states, number}
+use Rattle.machine.specs.Areas.{Head, areaOf, bytesOf, statesAfter, wordsOf, stateOf, unmatched, standsBy, holds, described}
 use Rattle.machine.specs.Lent.{monitorIn, Settled}
 use Rattle.machine.proofs.Areas.{length-states-after}
 

@@ -7,7 +7,7 @@ use native.Mathlib.Omega.{arith}
 use lib.ListN.{length, getD, set, take, drop, replicate, length-append, length-replicate, length-drop, take-append-drop}
 use lib.Seq.{paste, append-snoc, take-at, drop-at, set-at, getD-at, take-all, length-take-le}
 use Rattle.rewriting.specs.Rules.{Rule}
-use Rattle.table.specs.States.{next}
+use Rattle.layout.specs.States.{next}
 use Rattle.machine.specs.Areas.{areaOf, statesAfter}
 use Rattle.machine.proofs.Areas.{length-area, area-end}
 

@@ -13,9 +13,9 @@ use lib.Seq.{append-snoc, take-append-seam, drop-at}
 use borrow.Author.Tests.{eq-eqb, leb-true}
 use Rattle.rewriting.specs.Rules.{Rule}
 use Rattle.rewriting.proofs.Lists.{and-both, getD-map}
-use Rattle.image.specs.Refusals.{refusal}
-use Rattle.table.specs.States.{states, number, state, next}
-use Rattle.table.proofs.Matching.{state-snoc}
+use Rattle.layout.specs.Refusals.{refusal}
+use Rattle.layout.specs.States.{states, number, state, next}
+use Rattle.layout.proofs.Matching.{state-snoc}
 use Rattle.machine.specs.State.{State, active, empty}
 use Rattle.machine.specs.Run.{fits}
 use Rattle.machine.specs.Areas.{headOf, areaOf, bytesOf, statesAfter, wordsOf, monitorOf, stateOf}

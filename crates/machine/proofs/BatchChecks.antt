@@ -8,10 +8,10 @@ use mathlib.Core.List.{List}
 use lib.ListN.{length}
 use borrow.Author.Tests.{le-leb, lt-leb}
 use Rattle.rewriting.proofs.Ranges.{ranges}
-use Rattle.image.specs.Image.{read, valid}
-use Rattle.image.specs.Refusals.{refusal}
-use Rattle.image.proofs.Image.{valid-in-range}
-use Rattle.image.proofs.Refusals.{refusal-append-none, refusal-append-some}
+use Rattle.layout.specs.Image.{read, valid}
+use Rattle.layout.specs.Refusals.{refusal}
+use Rattle.layout.proofs.Image.{valid-in-range}
+use Rattle.layout.proofs.Refusals.{refusal-append-none, refusal-append-some}
 use Rattle.machine.specs.Run.{noCounts}
 use Rattle.machine.specs.Areas.{Monitor}
 use Rattle.machine.specs.Calls.{lentChecks, fuelCheck}

@@ -14,14 +14,13 @@ use borrow.Author.Tests.{leb-true}
 use Rattle.rewriting.specs.Lists.{prefix, over}
 use Rattle.rewriting.specs.Rules.{RuleSet}
 use Rattle.rewriting.proofs.Lists.{and-left}
-use Rattle.image.specs.Image.{read, valid}
-use Rattle.image.specs.Refusals.{Check, refusal}
-use Rattle.image.proofs.Refusals.{refusal-passed, refusal-rest, refusal-none-left, refusal-none-right, refusal-number}
-use Rattle.table.specs.Table.{tableOf}
-use Rattle.machine.specs.Areas.{Head}
+use Rattle.layout.specs.Image.{read, valid}
+use Rattle.layout.specs.Refusals.{Check, refusal}
+use Rattle.layout.proofs.Refusals.{refusal-passed, refusal-rest, refusal-none-left, refusal-none-right, refusal-number}
+use Rattle.layout.specs.Table.{tableOf}
+use Rattle.machine.specs.Areas.{Head, Monitor, stateOf}
 use Rattle.machine.specs.declared.Counts.{Counts}
 use Rattle.machine.specs.Run.{Run, noCounts, plus, run}
-use Rattle.machine.specs.Areas.{Monitor, stateOf}
 use Rattle.machine.specs.Calls.{Call, Offer, Outcome, lentChecks, isNone, fuelCheck, verdictCheck, callChecks, fuelOf, offered, outcome, decided, refusalOf, callOf, offerOf, refusedBy, answerNumber}
 use Rattle.machine.specs.Batch.{Offers, stopped, andThen, inTurn, offers, batchChecks, batched, batchOf}
 use Rattle.machine.specs.Play.{noCalls, eventsOf, logged, play, offersOf}

@@ -8,10 +8,10 @@ use mathlib.Core.List.{List, _++_, map}
 use native.Mathlib.Omega.{arith}
 use Rattle.rewriting.specs.Rules.{RuleSet}
 use Rattle.rewriting.proofs.Ranges.{Ranges, ranges}
-use Rattle.image.specs.Image.{read, valid}
-use Rattle.image.specs.Refusals.{Check, refusal}
-use Rattle.image.proofs.Image.{valid-in-range}
-use Rattle.image.proofs.Refusals.{refusal-passed, refusal-none-left, refusal-number}
+use Rattle.layout.specs.Image.{read, valid}
+use Rattle.layout.specs.Refusals.{Check, refusal}
+use Rattle.layout.proofs.Image.{valid-in-range}
+use Rattle.layout.proofs.Refusals.{refusal-passed, refusal-none-left, refusal-number}
 use Rattle.machine.specs.Run.{Run, noCounts, run}
 use Rattle.machine.specs.Areas.{Monitor, stateOf}
 use Rattle.machine.specs.Calls.{Call, Offer, GoOn, fuelOf, lentChecks, fuelCheck, verdictCheck, callChecks, offered, outcome, decided, callOf, refusedBy}

@@ -13,11 +13,11 @@ use Rattle.rewriting.specs.Lists.{below, prefix}
 use Rattle.rewriting.specs.Rules.{RuleSet}
 use Rattle.rewriting.proofs.Lists.{and-both}
 use Rattle.rewriting.proofs.Ranges.{Ranges, ranges}
-use Rattle.image.specs.Image.{read, valid}
-use Rattle.image.specs.Refusals.{refusal}
-use Rattle.image.proofs.Image.{valid-in-range}
-use Rattle.image.proofs.Refusals.{refusal-passed, refusal-rest, refusal-append-none}
-use Rattle.table.specs.Table.{tableOf}
+use Rattle.layout.specs.Image.{read, valid}
+use Rattle.layout.specs.Refusals.{refusal}
+use Rattle.layout.proofs.Image.{valid-in-range}
+use Rattle.layout.proofs.Refusals.{refusal-passed, refusal-rest, refusal-append-none}
+use Rattle.layout.specs.Table.{tableOf}
 use Rattle.machine.specs.declared.Standing.{Standing}
 use Rattle.machine.specs.declared.Answer.{Answer}
 use Rattle.machine.specs.State.{State}

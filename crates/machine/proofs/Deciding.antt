@@ -7,22 +7,20 @@ use mathlib.Core.Option.{none, some}
 use mathlib.Core.List.{List, [], _∷_, _++_, append-nil}
 use native.Mathlib.Omega.{arith}
 use lib.Dec.{eqb, ltb}
-use lib.ListN as ListN
 use lib.ListN.{length, replicate, length-append, length-replicate}
 use lib.Seq.{paste, take-all, drop-length}
 use borrow.Author.Tests.{le-leb, lt-leb, eq-eqb, ne-eqb, eqb-false, not-true}
 use Rattle.rewriting.specs.Lists.{below}
 use Rattle.rewriting.specs.Rules.{RuleSet}
 use Rattle.rewriting.proofs.Ranges.{ranges}
-use Rattle.image.specs.Image.{read, valid}
-use Rattle.image.specs.Refusals.{Check, refusal}
-use Rattle.image.proofs.Image.{valid-in-range}
-use Rattle.image.proofs.Refusals.{refusal-append-some}
+use Rattle.layout.specs.Image.{read, valid}
+use Rattle.layout.specs.Refusals.{Check, refusal}
+use Rattle.layout.proofs.Image.{valid-in-range}
+use Rattle.layout.proofs.Refusals.{refusal-append-some}
 use Rattle.machine.specs.declared.Standing.{Standing}
-use Rattle.machine.specs.Areas.{Head}
+use Rattle.machine.specs.Areas.{Head, Monitor, headOf, monitorOf, stateOf}
 use Rattle.machine.specs.State.{State, empty}
 use Rattle.machine.specs.Run.{fits, run}
-use Rattle.machine.specs.Areas.{Monitor, headOf, monitorOf, stateOf}
 use Rattle.machine.specs.Calls.{sized, freshOf, freshened, lentChecks, callOf, Call, Offer, Outcome, fuelCheck, verdictCheck, isNone, callChecks, fuelOf, offered, refusalOf, outcome, decided}
 use Rattle.machine.specs.Play.{eventsOf}
 use Rattle.machine.specs.Lent.{monitorIn, Passed, appended, oneMore, callWith}

@@ -15,8 +15,8 @@ use Rattle.rewriting.specs.Rules.{Rule, RuleSet}
 use Rattle.rewriting.specs.Occurrences.{scan, redex, ending}
 use Rattle.rewriting.proofs.Lists.{and-both, and-left, and-right, same-eq, same-refl}
 use Rattle.rewriting.proofs.Scan.{scan-snoc, redex-left, ending-none}
-use Rattle.table.specs.States.{state, next, matching}
-use Rattle.table.proofs.Matching.{state-snoc, matching-next}
+use Rattle.layout.specs.States.{state, next, matching}
+use Rattle.layout.proofs.Matching.{state-snoc, matching-next}
 use Rattle.machine.specs.State.{State}
 use Rattle.machine.specs.Run.{fits}
 use Rattle.machine.specs.Areas.{Monitor, headOf, bytesOf, statesAfter, wordsOf, monitorOf, stateOf, noMatch, unmatched, standsBy, holds, described}

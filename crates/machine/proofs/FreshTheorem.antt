@@ -9,7 +9,7 @@ use lib.Dec.{eqb}
 use lib.ListN.{length}
 use borrow.Author.Tests.{eqb-true, eq-eqb}
 use Rattle.rewriting.proofs.Lists.{and-both, and-left, and-right}
-use Rattle.image.specs.Refusals.{refusal}
+use Rattle.layout.specs.Refusals.{refusal}
 use Rattle.machine.specs.State.{empty}
 use Rattle.machine.specs.Areas.{headOf}
 use Rattle.machine.specs.Calls.{sized, freshened, freshOf}

@@ -11,11 +11,11 @@ use native.Mathlib.Nat.{not-suc-le-zero}
 use lib.ListN.{length, getD, set, length-set}
 use lib.Seq.{getD-set-same, getD-set-other}
 use Rattle.rewriting.specs.Rules.{rule}
-use Rattle.image.specs.Image.{body, read, valid}
-use Rattle.image.specs.Places.{leftAt, rightAt}
-use Rattle.image.proofs.Image.{longest}
-use Rattle.image.proofs.Places.{left-first, left-next, left-within, body-left}
-use Rattle.table.proofs.Nodes.{last-or}
+use Rattle.layout.specs.Image.{body, read, valid}
+use Rattle.layout.specs.Places.{leftAt, rightAt}
+use Rattle.layout.proofs.Image.{longest}
+use Rattle.layout.proofs.Places.{left-first, left-next, left-within, body-left}
+use Rattle.rewriting.proofs.Lists.{last-or}
 use Rattle.machine.specs.Lent.{Starts}
 
 -- the first i rules have their starts, and `at` is where rule i's body begins

@@ -16,7 +16,7 @@ use Rattle.rewriting.specs.Occurrences.{scan, redex, ending}
 use Rattle.rewriting.proofs.Lists.{and-both, and-right, all-append, all-left, all-right}
 use Rattle.rewriting.proofs.Ranges.{right-below, Ranges, rule-at}
 use Rattle.rewriting.proofs.Scan.{scan-snoc, redex-take, EndsWith, ending-left}
-use Rattle.table.proofs.Matching.{matching-next}
+use Rattle.layout.proofs.Matching.{matching-next}
 use Rattle.machine.specs.declared.Counts.{Counts}
 use Rattle.machine.specs.State.{State, active, replace, settle, step}
 use Rattle.machine.specs.Areas.{closesWith, standsBy}

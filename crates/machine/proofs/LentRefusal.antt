@@ -12,9 +12,9 @@ use lib.ListN.{length}
 use borrow.Author.Tests.{eq-eqb, ne-eqb, ltb-true}
 use Rattle.rewriting.specs.Lists.{all, prefix}
 use Rattle.rewriting.proofs.Lists.{and-left, and-right, and-both}
-use Rattle.image.specs.Image.{read, valid}
-use Rattle.image.specs.Refusals.{Check, refusal, refusalNumber}
-use Rattle.image.proofs.Refusals.{
+use Rattle.layout.specs.Image.{read, valid}
+use Rattle.layout.specs.Refusals.{Check, refusal, refusalNumber}
+use Rattle.layout.proofs.Refusals.{
   refusal-nil,
   refusal-head,
   refusal-pass,
@@ -23,11 +23,10 @@ use Rattle.image.proofs.Refusals.{
   refusal-append-none,
   refusal-append-some,
 }
-use Rattle.table.specs.declared.Checked.{Checked}
-use Rattle.table.specs.Table.{tableOf}
-use Rattle.table.specs.Check.{tableChecks, answered, checkOf}
-use Rattle.machine.specs.Areas.{Head}
-use Rattle.machine.specs.Areas.{Monitor, described}
+use Rattle.layout.specs.declared.Checked.{Checked}
+use Rattle.layout.specs.Table.{tableOf}
+use Rattle.layout.specs.TableCheck.{tableChecks, answered, checkOf}
+use Rattle.machine.specs.Areas.{Head, Monitor, described}
 use Rattle.machine.specs.Calls.{sized, lentChecks}
 use Rattle.machine.specs.Lent.{monitorIn, Passed}
 

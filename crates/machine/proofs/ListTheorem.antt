@@ -16,11 +16,11 @@ use Rattle.rewriting.proofs.Lists.{all-append}
 use Rattle.rewriting.proofs.Ranges.{ranges}
 use Rattle.rewriting.proofs.Redex.{non-empty, redex-none}
 use Rattle.rewriting.proofs.Rewrites.{put-bound}
-use Rattle.image.specs.Image.{read, valid}
-use Rattle.image.specs.Refusals.{refusal}
-use Rattle.image.proofs.Image.{valid-in-range}
-use Rattle.image.proofs.Refusals.{refusal-append-some}
-use Rattle.table.specs.Table.{tableOf}
+use Rattle.layout.specs.Image.{read, valid}
+use Rattle.layout.specs.Refusals.{refusal}
+use Rattle.layout.proofs.Image.{valid-in-range}
+use Rattle.layout.proofs.Refusals.{refusal-append-some}
+use Rattle.layout.specs.Table.{tableOf}
 use Rattle.machine.specs.declared.Answer.{Answer}
 use Rattle.machine.specs.State.{empty, active}
 use Rattle.machine.specs.Run.{noCounts, plus, fits}

@@ -11,11 +11,11 @@ use borrow.Author.Tests.{ltb-true}
 use Rattle.rewriting.specs.Lists.{below}
 use Rattle.rewriting.proofs.Lists.{and-left, all-right}
 use Rattle.rewriting.proofs.Ranges.{ranges}
-use Rattle.image.specs.Image.{read}
-use Rattle.image.proofs.Image.{valid-in-range}
-use Rattle.table.specs.States.{states, number, state, next, matching}
-use Rattle.table.specs.Table.{matchWord}
-use Rattle.table.proofs.States.{state-known, next-known, next-below, few-states}
+use Rattle.layout.specs.Image.{read}
+use Rattle.layout.proofs.Image.{valid-in-range}
+use Rattle.layout.specs.States.{states, number, state, next, matching}
+use Rattle.layout.specs.Table.{matchWord}
+use Rattle.layout.proofs.States.{state-known, next-known, next-below, few-states}
 use Rattle.machine.specs.Areas.{Monitor, stateOf}
 use Rattle.machine.specs.Lent.{Passed, nextIn, matchIn, wordBefore}
 use Rattle.machine.proofs.TableWords.{table-header, next-inside, table-next-in, match-inside, table-match-in}

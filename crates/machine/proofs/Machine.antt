@@ -11,8 +11,8 @@ use Rattle.rewriting.specs.Rules.{Right, Put, Close, symbolsOf, Rule, RuleSet, 
 use Rattle.rewriting.specs.Occurrences.{ending, cut}
 use Rattle.rewriting.proofs.Ranges.{length-right, Ranges, rule-at}
 use Rattle.rewriting.proofs.Scan.{ending-left}
-use Rattle.table.specs.States.{state, next, matching}
-use Rattle.table.proofs.Matching.{matching-next}
+use Rattle.layout.specs.States.{state, next, matching}
+use Rattle.layout.proofs.Matching.{matching-next}
 use Rattle.machine.specs.declared.Standing.{Standing}
 use Rattle.machine.specs.declared.Counts.{Counts}
 use Rattle.machine.specs.State.{State, Step, active, replace, settle, step}

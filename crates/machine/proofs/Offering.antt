@@ -14,7 +14,7 @@ use lib.Seq.{length-take-le, append-snoc, drop-cons, drop-drop, drop-set-lt, tak
 use borrow.Author.Tests.{eqb-true}
 use Rattle.rewriting.specs.Lists.{over}
 use Rattle.rewriting.proofs.Lists.{and-left, and-right, getD-map}
-use Rattle.image.specs.Image.{read}
+use Rattle.layout.specs.Image.{read}
 use Rattle.machine.specs.declared.Answer.{Answer}
 use Rattle.machine.specs.declared.Counts.{Counts}
 use Rattle.machine.specs.Run.{noCounts, plus}

@@ -9,11 +9,11 @@ use lib.ListN.{length, take, drop, length-drop}
 use lib.Seq.{ext-getD, getD-take, getD-drop, length-take-le}
 use Rattle.rewriting.specs.Rules.{Right, Put, Close, symbolsOf, rule}
 use Rattle.rewriting.proofs.Ranges.{length-right, ranges, rule-at}
-use Rattle.image.specs.declared.RightSide.{RightSide}
-use Rattle.image.specs.Image.{read, valid}
-use Rattle.image.specs.Places.{rightAt, rightSideOf}
-use Rattle.image.proofs.Image.{valid-in-range}
-use Rattle.image.proofs.Places.{left-within, body-left, right-symbol}
+use Rattle.layout.specs.declared.RightSide.{RightSide}
+use Rattle.layout.specs.Image.{read, valid}
+use Rattle.layout.specs.Places.{rightAt, rightSideOf}
+use Rattle.layout.proofs.Image.{valid-in-range}
+use Rattle.layout.proofs.Places.{left-within, body-left, right-symbol}
 
 -- a string of n symbols
 pub is-put : (r : Right) (n : ℕ) → rightSideOf r ≡ RightSide.Put n → (v : List ℕ) × (r ≡ Put v) × (n ≡ length v)

@@ -10,16 +10,15 @@ use lib.ListN.{length}
 use Rattle.rewriting.specs.Lists.{prefix}
 use Rattle.rewriting.specs.Rules.{Rule}
 use Rattle.rewriting.proofs.Ranges.{Ranges, ranges}
-use Rattle.image.specs.Image.{read, valid}
-use Rattle.image.proofs.Image.{valid-in-range}
-use Rattle.table.specs.Table.{tableOf}
+use Rattle.layout.specs.Image.{read, valid}
+use Rattle.layout.proofs.Image.{valid-in-range}
+use Rattle.layout.specs.Table.{tableOf}
 use Rattle.machine.specs.declared.Standing.{Standing}
-use Rattle.machine.specs.Areas.{Head}
+use Rattle.machine.specs.Areas.{Head, Monitor, monitorOf, stateOf}
 use Rattle.machine.specs.declared.Answer.{Answer}
 use Rattle.machine.specs.declared.Counts.{Counts}
 use Rattle.machine.specs.State.{State, Step, step}
 use Rattle.machine.specs.Run.{Run, noCounts, plus, countsOf, ended, counted, fits, proceed, tests, run}
-use Rattle.machine.specs.Areas.{Monitor, monitorOf, stateOf}
 use Rattle.machine.specs.Calls.{Outcome, outcome}
 use Rattle.machine.specs.Lent.{monitorIn, Passed, stepWaiting, stepOf, Tried, tried}
 use Rattle.machine.proofs.Sums.{none-plus, plus-none, plus-assoc}

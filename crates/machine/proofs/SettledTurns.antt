@@ -15,10 +15,10 @@ use borrow.Author.Tests.{ltb-true, lt-ltb}
 use Rattle.rewriting.specs.Lists.{prefix}
 use Rattle.rewriting.specs.Rules.{RuleSet}
 use Rattle.rewriting.proofs.Lists.{and-both, all-append, all-at, getD-map}
-use Rattle.table.specs.States.{states, number, known, state, next, matching}
-use Rattle.table.specs.Table.{matchWord, tableOf}
-use Rattle.table.proofs.Matching.{state-snoc}
-use Rattle.table.proofs.States.{number-zero, state-known, next-known}
+use Rattle.layout.specs.States.{states, number, known, state, next, matching}
+use Rattle.layout.specs.Table.{matchWord, tableOf}
+use Rattle.layout.proofs.Matching.{state-snoc}
+use Rattle.layout.proofs.States.{number-zero, state-known, next-known}
 use Rattle.machine.specs.Areas.{statesAfter, noMatch, unmatched}
 use Rattle.machine.specs.Lent.{nextIn, matchIn, wordBefore, Settled}
 use Rattle.machine.proofs.Areas.{length-states-after, states-after, states-after-snoc}

@@ -18,7 +18,7 @@ use Rattle.rewriting.specs.Rewriter.{fed, replaced, unlessVerdict, rewrite, rew
 use Rattle.rewriting.proofs.Ranges.{Ranges}
 use Rattle.rewriting.proofs.Scan.{redex-found}
 use Rattle.rewriting.proofs.Rewrites.{rewrites-one-more}
-use Rattle.table.proofs.Matching.{matching-next}
+use Rattle.layout.proofs.Matching.{matching-next}
 use Rattle.machine.specs.declared.Standing.{Standing}
 use Rattle.machine.specs.declared.Counts.{Counts}
 use Rattle.machine.specs.State.{State, active, replace, settle, step}

@@ -11,7 +11,7 @@ use lib.ListN.{getD}
 use borrow.Author.Tests.{ltb-true, le-ltb, ne-eqb}
 use Rattle.rewriting.specs.Lists.{all, over}
 use Rattle.rewriting.proofs.Lists.{and-left, and-right}
-use Rattle.image.specs.Image.{read}
+use Rattle.layout.specs.Image.{read}
 use Rattle.machine.specs.declared.Answer.{Answer}
 use Rattle.machine.specs.Run.{noCounts, plus}
 use Rattle.machine.specs.Areas.{Monitor}

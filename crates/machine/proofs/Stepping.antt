@@ -13,12 +13,12 @@ use borrow.Author.Tests.{leb-true, le-leb, lt-leb}
 use Rattle.rewriting.specs.Lists.{prefix}
 use Rattle.rewriting.specs.Rules.{Put, Close, Rule, RuleSet, rule}
 use Rattle.rewriting.proofs.Scan.{EndsWith, ending-left}
-use Rattle.image.specs.Image.{read, valid}
-use Rattle.image.proofs.Refusals.{refusal-passed, refusal-rest}
-use Rattle.table.specs.States.{states, number, state, next, matching}
-use Rattle.table.specs.Table.{tableOf}
-use Rattle.table.proofs.Matching.{matching-next}
-use Rattle.table.proofs.States.{number-zero}
+use Rattle.layout.specs.Image.{read, valid}
+use Rattle.layout.proofs.Refusals.{refusal-passed, refusal-rest}
+use Rattle.layout.specs.States.{states, number, state, next, matching}
+use Rattle.layout.specs.Table.{tableOf}
+use Rattle.layout.proofs.Matching.{matching-next}
+use Rattle.layout.proofs.States.{number-zero}
 use Rattle.machine.specs.declared.Standing.{Standing}
 use Rattle.machine.specs.State.{State, Step, active, replace, settle, step}
 use Rattle.machine.specs.Run.{fits}

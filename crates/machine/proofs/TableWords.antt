@@ -10,11 +10,11 @@ use lib.ListN.{length, getD, length-append}
 use Rattle.rewriting.specs.Lists.{prefix}
 use Rattle.rewriting.specs.Rules.{RuleSet}
 use Rattle.rewriting.proofs.Lists.{prefix-rest, begins-at}
-use Rattle.table.specs.States.{states, number, known, next, matching}
-use Rattle.table.specs.Table.{matchWord, tableOf}
-use Rattle.table.proofs.States.{number-at}
-use Rattle.table.proofs.RowPlaces.{word-within}
-use Rattle.table.proofs.Table.{length-table, table-states, table-symbols, begins-match, begins-next}
+use Rattle.layout.specs.States.{states, number, known, next, matching}
+use Rattle.layout.specs.Table.{matchWord, tableOf}
+use Rattle.layout.proofs.States.{number-at}
+use Rattle.layout.proofs.RowPlaces.{word-within}
+use Rattle.layout.proofs.Table.{length-table, table-states, table-symbols, begins-match, begins-next}
 use Rattle.machine.specs.Lent.{nextIn, matchIn}
 
 module _ (set : RuleSet) (t : List ℕ) (e : prefix (tableOf set) t ≡ true) where

@@ -9,8 +9,8 @@ use lib.Dec.{eqb}
 use lib.ListN.{length}
 use borrow.Author.Tests.{lt-ltb, le-ltb}
 use Rattle.rewriting.specs.Rules.{Right, Put, Close, Rule, rule}
-use Rattle.image.specs.declared.RightSide.{RightSide}
-use Rattle.image.specs.Places.{rightSideOf}
+use Rattle.layout.specs.declared.RightSide.{RightSide}
+use Rattle.layout.specs.Places.{rightSideOf}
 use Rattle.machine.specs.declared.Standing.{Standing}
 use Rattle.machine.specs.Areas.{closesWith, standsBy}
 

@@ -10,7 +10,7 @@ use lib.Dec.{eqb, ltb}
 use lib.ListN.{length, getD, replicate, length-replicate, getD-replicate}
 use lib.Seq.{ext-getD}
 use borrow.Author.Tests.{eqb-true, eqb-false, ltb-true, ltb-false}
-use Rattle.image.specs.Check.{Decides}
+use Rattle.layout.specs.ImageCheck.{Decides}
 
 -- the first i numbers are 0
 abbrev pub Zeros : List ℕ → ℕ → Type 0

@@ -7,7 +7,7 @@ use lib.Dec.{eqb, leb, ltb}
 use lib.ListN.{length, take, drop, replicate}
 use Rattle.rewriting.specs.Lists.{all, same, below}
 use Rattle.rewriting.specs.Rules.{Right, Put, Close, Rule, RuleSet, rule}
-use Rattle.table.specs.States.{states, number, next, matching}
+use Rattle.layout.specs.States.{states, number, next, matching}
 use Rattle.machine.specs.declared.Standing.{Standing}
 use Rattle.machine.specs.State.{State}
 

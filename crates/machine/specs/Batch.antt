@@ -6,7 +6,7 @@ use mathlib.Core.List.{List, [], _∷_, _++_}
 use lib.Dec.{leb}
 use lib.ListN.{length}
 use Rattle.rewriting.specs.Lists.{over}
-use Rattle.image.specs.Refusals.{Check, refusal}
+use Rattle.layout.specs.Refusals.{Check, refusal}
 use Rattle.machine.specs.declared.Counts.{Counts}
 use Rattle.machine.specs.Run.{noCounts, plus}
 use Rattle.machine.specs.Areas.{Monitor}

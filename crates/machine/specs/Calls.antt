@@ -7,16 +7,15 @@ use mathlib.Core.List.{List, [], _∷_, _++_}
 use lib.Dec.{eqb, leb, ltb}
 use lib.ListN.{length, replicate}
 use Rattle.rewriting.specs.Rules.{RuleSet}
-use Rattle.image.specs.Image.{read}
-use Rattle.image.specs.Refusals.{Check, refusal}
-use Rattle.table.specs.Check.{tableChecks}
+use Rattle.layout.specs.Image.{read}
+use Rattle.layout.specs.Refusals.{Check, refusal}
+use Rattle.layout.specs.TableCheck.{tableChecks}
 use Rattle.machine.specs.declared.Standing.{Standing}
-use Rattle.machine.specs.Areas.{Head}
+use Rattle.machine.specs.Areas.{Head, Monitor, monitorOf, stateOf, headOf, described}
 use Rattle.machine.specs.declared.Answer.{Answer}
 use Rattle.machine.specs.declared.Counts.{Counts}
 use Rattle.machine.specs.State.{State, empty}
 use Rattle.machine.specs.Run.{Run, noCounts, run}
-use Rattle.machine.specs.Areas.{Monitor, monitorOf, stateOf, headOf, described}
 
 -- what 10 demands: "10, an area of another length"
 unfoldable pub sized : ℕ → List ℕ → List ℕ → Bool

@@ -2,23 +2,22 @@
 use Prim.Native.Nat.{ℕ, zero, suc, _+_, _*_, _-_, _<_}
 use mathlib.Core.Path.{_≡_}
 use mathlib.Core.Bool.{Bool, true, false, cond}
-use mathlib.Core.Option.{Option, none, some}
+use mathlib.Core.Option.{Option, none}
 use mathlib.Core.List.{List, [], _∷_, map}
 use lib.Dec.{eqb, ltb}
 use lib.ListN.{length, getD, set, drop}
 use lib.Seq.{paste}
 use Rattle.rewriting.specs.Lists.{below}
 use Rattle.rewriting.specs.Rules.{Rule, RuleSet}
-use Rattle.image.specs.Image.{read}
-use Rattle.image.specs.Places.{rightAt}
-use Rattle.image.specs.Refusals.{refusal}
-use Rattle.table.specs.States.{states, number, state, next, matching}
+use Rattle.layout.specs.Image.{read}
+use Rattle.layout.specs.Places.{rightAt}
+use Rattle.layout.specs.Refusals.{refusal}
+use Rattle.layout.specs.States.{states, number, state, next, matching}
 use Rattle.machine.specs.declared.Standing.{Standing}
-use Rattle.machine.specs.Areas.{Head}
+use Rattle.machine.specs.Areas.{Head, Monitor, statesAfter, monitorOf, unmatched}
 use Rattle.machine.specs.declared.Answer.{Answer}
 use Rattle.machine.specs.State.{State, Step, step}
 use Rattle.machine.specs.Run.{fits}
-use Rattle.machine.specs.Areas.{Monitor, statesAfter, monitorOf, unmatched}
 use Rattle.machine.specs.Calls.{Call, Offer, GoOn, lentChecks}
 
 -- the monitor of this head and these areas

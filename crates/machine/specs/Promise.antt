@@ -12,9 +12,9 @@ use Rattle.rewriting.specs.Lists.{prefix, over}
 use Rattle.rewriting.specs.Rules.{Rule, RuleSet}
 use Rattle.rewriting.specs.Occurrences.{Occurrence, Occurs}
 use Rattle.rewriting.specs.Rewriter.{fed, rewrites}
-use Rattle.image.specs.Image.{read, valid}
-use Rattle.image.specs.Refusals.{refusal}
-use Rattle.table.specs.Table.{tableOf}
+use Rattle.layout.specs.Image.{read, valid}
+use Rattle.layout.specs.Refusals.{refusal}
+use Rattle.layout.specs.Table.{tableOf}
 use Rattle.machine.specs.declared.Standing.{Standing}
 use Rattle.machine.specs.declared.Answer.{Answer}
 use Rattle.machine.specs.declared.Counts.{Counts}

@@ -5,7 +5,7 @@ use mathlib.Core.List.{List, [], _∷_, _++_}
 use lib.ListN.{length}
 use Rattle.rewriting.specs.Rules.{Right, Put, Close, Rule, rule}
 use Rattle.rewriting.specs.Occurrences.{cut}
-use Rattle.table.specs.States.{state, next, matching}
+use Rattle.layout.specs.States.{state, next, matching}
 use Rattle.machine.specs.declared.Standing.{Standing}
 
 -- "settled count a, waiting count w .., verdict or none, and that verdict's rule (0 with none)": here the settled and the

@@ -2,15 +2,14 @@
 // The module is private: what its functions ask, the check of what is lent has shown.
 ghost use Prim.Native.Nat.{_+_, _-_, _≤_, _<_};
 ghost use mathlib.Core.Path.{_≡_};
-ghost use mathlib.Core.Bool.{true, not, cond, _||_};
+ghost use mathlib.Core.Bool.{true, cond};
 ghost use mathlib.Core.Option.{none};
-ghost use lib.Dec.{eqb, ltb};
 ghost use lib.ListN.{length};
-ghost use Rattle.image.specs.Image.{read, valid};
+ghost use Rattle.layout.specs.Image.{read};
 ghost use Rattle.monitor.specs.declared.Refusal.{Refusal};
-ghost use Rattle.machine.specs.Calls.{callChecks, callOf, decided, answerNumber};
+ghost use Rattle.machine.specs.Calls.{callChecks, callOf, decided};
 ghost use Rattle.machine.specs.Batch.{inTurn, batched};
-ghost use Rattle.machine.specs.Lent.{Passed, Starts, rowsIn, widthIn, appended, oneMore, callWith, callsWith, answerFrom};
+ghost use Rattle.machine.specs.Lent.{Passed, Starts, rowsIn, widthIn, appended, oneMore, callWith, callsWith};
 ghost use Rattle.monitor.specs.Lent.{headIn, lent, outcomeFrom, batchFrom};
 use crate::BatchCalled;
 use crate::Called;

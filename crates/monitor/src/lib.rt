@@ -1,7 +1,7 @@
 // The monitor: fresh, offer, go on and batch. Each is what specs/ defines, for everything that may be lent to it; the
 // promise about every list of calls is proved of those definitions in proofs/ListTheorem.antt.
 ghost use mathlib.Core.Path.{_≡_};
-ghost use Rattle.image.specs.Refusals.{refusal, refusalNumber};
+ghost use Rattle.layout.specs.Refusals.{refusal, refusalNumber};
 ghost use Rattle.machine.specs.declared.Answer.{Answer};
 ghost use Rattle.monitor.specs.declared.Refusal.{Refusal};
 ghost use Rattle.machine.specs.State as State;
@@ -12,10 +12,10 @@ ghost use Rattle.machine.specs.Batch.{batchOf};
 ghost use Rattle.monitor.specs.Lent.{headIn, lent, freshFrom, outcomeFrom, batchFrom};
 use areas::check;
 use areas::held;
+use layout::Checked;
 pub use machine::Answer;
 pub use machine::Counts;
 pub use machine::Standing;
-use table::Checked;
 
 mod checked;
 mod steps;

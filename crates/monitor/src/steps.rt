@@ -1,12 +1,11 @@
 // One step, and a call's run.
 // The module is private: what its functions ask, the checks of a call have shown.
-ghost use Prim.Native.Nat.{_+_, _≤_, _<_};
+ghost use Prim.Native.Nat.{_+_, _<_};
 ghost use mathlib.Core.Path.{_≡_};
 ghost use mathlib.Core.Option.{none};
 ghost use lib.ListN.{length};
-ghost use Rattle.image.specs.Image.{read};
+ghost use Rattle.layout.specs.Image.{read};
 ghost use Rattle.machine.specs.declared.Standing.{Standing};
-ghost use Rattle.machine.specs.State.{settle};
 ghost use Rattle.machine.specs.Run.{run};
 ghost use Rattle.machine.specs.Areas.{stateOf};
 ghost use Rattle.machine.specs.Calls.{outcome};

@@ -5,13 +5,13 @@ ghost use mathlib.Core.Bool.{true, not, _||_};
 ghost use mathlib.Core.Option.{some};
 ghost use lib.Dec.{eqb, ltb};
 ghost use lib.ListN.{length};
-ghost use Rattle.image.specs.Image.{read, valid};
+ghost use Rattle.layout.specs.Image.{read, valid};
 ghost use Rattle.machine.specs.Areas.{stateOf};
 ghost use Rattle.machine.specs.Calls.{answerNumber};
 ghost use Rattle.machine.specs.Lent.{monitorIn, Passed, Starts, Matches, stepOf, tried, answerFrom};
 ghost use Rattle.parts.specs.Rewritten.{rewrittenFrom};
 use areas::held;
-use image::RightSide;
+use layout::RightSide;
 use machine::Answer;
 use machine::Standing;
 

@@ -1,10 +1,3 @@
-pub mod Writing
-pub mod Decimals
-pub mod Split
-pub mod SlotNames
-pub mod Joining
-pub mod Starting
+-- Laws, in reading order.
 pub mod Offered
 pub mod Walking
-pub mod WatchTheorem
-pub mod Computed

@@ -12,8 +12,8 @@ use borrow.Author.Tests.{leb-true}
 use Rattle.rewriting.specs.Lists.{between}
 use Rattle.rewriting.proofs.Lists.{between-high, below-weaken}
 use Rattle.rewriting.proofs.Ranges.{ranges}
-use Rattle.image.specs.Image.{read}
-use Rattle.image.proofs.Image.{valid-in-range}
+use Rattle.layout.specs.Image.{read}
+use Rattle.layout.proofs.Image.{valid-in-range}
 use Rattle.machine.specs.declared.Answer.{Answer}
 use Rattle.monitor.specs.declared.Called.{Called}
 use Rattle.machine.specs.Run.{fits}
@@ -26,11 +26,11 @@ use Rattle.machine.proofs.Areas.{state-back}
 use Rattle.machine.proofs.Calls.{Holding, next}
 use Rattle.machine.proofs.CallTheorem.{call-theorem}
 use Rattle.machine.proofs.AnswerNumbers.{Lent, passed-lent, accepted-passed, accepted-verdict}
-use Rattle.text.specs.Lookup.{slotAt, symbolNamed}
-use Rattle.text.specs.Names.{slot}
-use Rattle.report.specs.Lines.{space, newline, refusedWord, decimal, answerWord, counted, told, eventLine}
-use Rattle.report.specs.Watch.{Watch, offered, offeredName, lineFor}
-use Rattle.report.specs.Wrote.{HasSlot, Small}
+use Rattle.grammar.specs.Lookup.{slotAt, symbolNamed}
+use Rattle.grammar.specs.Names.{slot}
+use Rattle.printing.specs.Lines.{space, newline, refusedWord, decimal, answerWord, counted, told, eventLine}
+use Rattle.printing.specs.Watch.{Watch, offered, offeredName, lineFor}
+use Rattle.lines.specs.Wrote.{HasSlot, Small}
 
 -- a name that a symbol has is short
 pub named-short : (area x : List ℕ) (i : ℕ) → symbolNamed area x ≡ some i → length x ≤ 24

@@ -12,15 +12,16 @@ use borrow.Author.Tests.{le-leb, lt-leb, ltb-true, ltb-false}
 use borrow.Rule.Slice.PartAt.{part-to-end}
 use Rattle.rewriting.specs.Lists.{over}
 use Rattle.monitor.specs.declared.Head.{Head}
-use Rattle.monitor.specs.Lent.{headOut, lent}
-use Rattle.text.specs.declared.Run.{Run}
-use Rattle.text.specs.Tokens.{unbroken}
-use Rattle.text.specs.Scanned.{gap, firstRun}
-use Rattle.text.proofs.Runs.{unbroken-take, run-end}
+use Rattle.monitor.specs.Lent.{lent}
+use Rattle.grammar.specs.declared.Run.{Run}
+use Rattle.grammar.specs.Tokens.{unbroken}
+use Rattle.grammar.specs.FirstRun.{gap, firstRun}
+use Rattle.grammar.proofs.Runs.{unbroken-take, run-end}
 use Rattle.report.specs.declared.Line.{Line}
 use Rattle.report.specs.declared.Walk.{Walk}
-use Rattle.report.specs.Watch.{Watch}
-use Rattle.report.specs.Turns.{Next, nothing, offering, named, firstNamed, nextOf, Turn, turnOf, turnFrom, lineMost}
+use Rattle.printing.specs.Watch.{Watch}
+use Rattle.printing.specs.Turns.{Next, nothing, offering, named, firstNamed, nextOf, Turn, turnOf, lineMost}
+use Rattle.report.specs.Lent.{walkIn, turnFrom}
 
 -- an input that is too long, or at its end, has no further name
 pub next-long : (w : Watch) (input : List ℕ) (at : ℕ) → 20480 < length input → nextOf w input at ≡ nothing w at
@@ -98,13 +99,13 @@ pub turn-is :
     (n : Next) (walk : Walk) (buffer : List ℕ) (r : Line) (head : Head) (bytes words buffer′ : List ℕ)
     → r .length ≡ length (n .line) → r .walk ≡ record { head = head; at = n .at; image = walk .image; table = walk .table }
     → lent head bytes words ≡ n .monitor → buffer′ ≡ over (n .line) buffer → length buffer′ ≡ length buffer
-    → length buffer ≡ lineMost → (turnFrom r bytes words buffer′ ≡ turnOf walk n buffer) × (r .length ≤ lineMost)
+    → length buffer ≡ lineMost → (turnFrom r bytes words buffer′ ≡ turnOf (walkIn walk) n buffer) × (r .length ≤ lineMost)
 unfolding turnOf over
 turn-is n walk buffer r head bytes words buffer′ size place monitor line kept most = (
   rw place
       (λ i.
       record {
-        walk = record { head = headOut (monitor i .head); at = n .at; image = walk .image; table = walk .table };
+        walk = record { head = monitor i .head; at = n .at; image = walk .image; table = walk .table };
         length = size i;
         bytes = monitor i .bytes;
         words = monitor i .words;
@@ -117,13 +118,13 @@ turn-is n walk buffer r head bytes words buffer′ size place monitor line kept 
 pub turn-nothing :
     (n : Next) (w : Watch) (walk : Walk) (r : Line) (bytes words buffer : List ℕ) → n ≡ nothing w (walk .at)
     → r ≡ record { walk = walk; length = 0 } → lent (walk .head) bytes words ≡ w .monitor
-    → turnFrom r bytes words buffer ≡ turnOf walk n buffer
+    → turnFrom r bytes words buffer ≡ turnOf (walkIn walk) n buffer
 unfolding turnOf over nothing
 turn-nothing n w walk r bytes words buffer e p monitor =
     rw (e, p)
     (λ i.
     record {
-      walk = record { head = headOut (monitor i .head); at = walk .at; image = walk .image; table = walk .table };
+      walk = record { head = monitor i .head; at = walk .at; image = walk .image; table = walk .table };
       length = 0;
       bytes = monitor i .bytes;
       words = monitor i .words;
@@ -133,7 +134,7 @@ turn-nothing n w walk r bytes words buffer e p monitor =
 -- the walk goes on where the name ends
 pub turn-place :
     (w : Watch) (walk : Walk) (end : ℕ) (x buffer : List ℕ) (r : Line) (bytes words buffer′ : List ℕ)
-    → turnFrom r bytes words buffer′ ≡ turnOf walk (offering w end x) buffer → r .walk .at ≡ end
+    → turnFrom r bytes words buffer′ ≡ turnOf (walkIn walk) (offering w end x) buffer → r .walk .at ≡ end
 unfolding turnOf offering
 turn-place w walk end x buffer r bytes words buffer′ e = ap (λ (t : Turn). t .walk .at) e
 

@@ -4,18 +4,15 @@ ghost use mathlib.Core.Path.{_≡_};
 ghost use mathlib.Core.Bool.{true};
 ghost use lib.ListN.{length};
 ghost use Rattle.rewriting.specs.Lists.{over};
-ghost use Rattle.image.specs.Image.{read, valid};
-ghost use Rattle.table.specs.Table.{tableOf};
-ghost use Rattle.monitor.specs.Lent.{headOut};
-ghost use Rattle.report.specs.declared.Begun.{Begun};
-ghost use Rattle.report.specs.Watch.{rulePart, freshMonitor};
-ghost use Rattle.report.specs.Turns.{lineMost, offering, nextOf, turnOf, turnFrom, watchWith, watchIn, eventsAt, areas, beginOf, beginsFrom, Inside};
+ghost use Rattle.layout.specs.Image.{read, valid};
+ghost use Rattle.layout.specs.Table.{tableOf};
+ghost use Rattle.printing.specs.Watch.{rulePart, freshMonitor};
+ghost use Rattle.printing.specs.Turns.{lineMost, Events, offering, nextOf, turnOf, watchWith, watchIn, eventsAt, areas, beginOf, beginsFrom, Inside};
+ghost use Rattle.report.specs.Lent.{walkIn, begunIn, turnFrom};
+use grammar::Found;
+use grammar::Read;
+use layout::Compiled;
 use monitor::Head;
-use table::Compiled;
-use text::Found;
-use text::Read;
-
-mod lines;
 
 // Document 01's 20,480 bytes of input, and fuel 1,000 for each name.
 pub const INPUT_BYTES: usize = 20480;
@@ -99,7 +96,7 @@ fn make_ready(
     words: &mut [u16; CAPACITY],
 ) -> Begun
     requires { ⌜ valid (now image) ≡ true ⌝ }
-    ensures answer { λ r. ⌜ r ≡ Begun.Events (record { head = headOut (freshMonitor .head); at = at; image = length (now (image .entry)); table = length (tableOf (read (now (image .entry)))) }) ⌝ }
+    ensures answer { λ r. ⌜ begunIn r ≡ Events (record { head = freshMonitor .head; at = at; image = length (now (image .entry)); table = length (tableOf (read (now (image .entry)))) }) ⌝ }
     ensures table { λ r. ⌜ now (table .exit) ≡ over (tableOf (read (now (image .entry)))) (now (table .entry)) ⌝ }
     ensures bytes { λ r. ⌜ now (bytes .exit) ≡ freshMonitor .bytes ⌝ }
     ensures words { λ r. ⌜ now (words .exit) ≡ freshMonitor .words ⌝ }
@@ -130,9 +127,9 @@ pub fn begin(
     words: &mut [u16; CAPACITY],
     line: &mut [u8; LINE_BYTES],
 ) -> Begun
-    ensures outcome { λ r. ⌜ beginsFrom r (areas (now (image .exit)) (now (names .exit)) (now (table .exit)) (now (bytes .exit)) (now (words .exit)) (now (line .exit)))
+    ensures outcome { λ r. ⌜ beginsFrom (begunIn r) (areas (now (image .exit)) (now (names .exit)) (now (table .exit)) (now (bytes .exit)) (now (words .exit)) (now (line .exit)))
         ≡ beginOf (now (input .entry)) (areas (now (image .entry)) (now (names .entry)) (now (table .entry)) (now (bytes .entry)) (now (words .entry)) (now (line .entry))) ⌝ }
-    ensures inside { λ r. ⌜ Inside r ⌝ }
+    ensures inside { λ r. ⌜ Inside (begunIn r) ⌝ }
 {
     if INPUT_BYTES < input.len() {
         return Begun::Message(lines::put(line, 0, b"input too long\n"));
@@ -185,14 +182,14 @@ impl Walk {
     ) -> Line
         requires { ⌜ length (now x) ≤ 20480 ⌝ }
         ensures { λ r. ⌜ turnFrom r (now (bytes .exit)) (now (words .exit)) (now (line .exit))
-            ≡ turnOf self (offering (watchWith self (now (image .entry)) (now (table .entry)) (now (names .entry)) (now (bytes .entry)) (now (words .entry)))
+            ≡ turnOf (walkIn self) (offering (watchWith (walkIn self) (now (image .entry)) (now (table .entry)) (now (names .entry)) (now (bytes .entry)) (now (words .entry)))
             end (now (x .entry))) (now (line .entry)) ⌝ }
         ensures { λ r. ⌜ r .length ≤ lineMost ⌝ }
     {
         let mut at = lines::put(line, 0, x);
         at = lines::put_byte(line, at, b' ');
         let head = self.head;
-        match text::symbol(names, x) {
+        match tokens::symbol(names, x) {
             Found::None => {
                 let length = lines::put_refused(line, at, 12);
                 Line {
@@ -224,7 +221,7 @@ impl Walk {
         line: &mut [u8; LINE_BYTES],
     ) -> Line
         ensures turn { λ r. ⌜ turnFrom r (now (bytes .exit)) (now (words .exit)) (now (line .exit))
-            ≡ turnOf self (nextOf (watchWith self (now (image .entry)) (now (table .entry)) (now (names .entry)) (now (bytes .entry)) (now (words .entry)))
+            ≡ turnOf (walkIn self) (nextOf (watchWith (walkIn self) (now (image .entry)) (now (table .entry)) (now (names .entry)) (now (bytes .entry)) (now (words .entry)))
             (now (input .entry)) (self .at)) (now (line .entry)) ⌝ }
         ensures fits { λ r. ⌜ r .length ≤ lineMost ⌝ }
         ensures onward { λ r. ⌜ ((r .length ≡ 0 → ⊥) → (self .at < r .walk .at) × (r .walk .at ≤ length (now (input .entry)))) ⌝ }
@@ -236,7 +233,7 @@ impl Walk {
         if input.len() <= at {
             return self.over();
         }
-        let run = text::first_run(&input[at..]);
+        let run = tokens::first_run(&input[at..]);
         let from = at + run.start;
         let to = at + run.end;
         if from == to {
@@ -266,7 +263,7 @@ impl Walk {
         line: &mut [u8; LINE_BYTES],
     ) -> Line
         ensures turn { λ r. ⌜ turnFrom r (now (bytes .exit)) (now (words .exit)) (now (line .exit))
-            ≡ turnOf self (nextOf (watchIn self (now (image .entry)) (now (table .entry)) (now (names .entry)) (now (bytes .entry)) (now (words .entry)))
+            ≡ turnOf (walkIn self) (nextOf (watchIn (walkIn self) (now (image .entry)) (now (table .entry)) (now (names .entry)) (now (bytes .entry)) (now (words .entry)))
             (now (input .entry)) (self .at)) (now (line .entry)) ⌝ }
         ensures fits { λ r. ⌜ r .length ≤ lineMost ⌝ }
         ensures onward { λ r. ⌜ ((r .length ≡ 0 → ⊥) → (self .at < r .walk .at) × (r .walk .at ≤ length (now (input .entry)))) ⌝ }

@@ -3,15 +3,30 @@
 use Prim.Native.Nat.{ℕ, zero, suc, _+_, _*_, _≤_, _<_}
 use mathlib.Core.Path.{_≡_, refl, sym, ap, _∙_}
 use mathlib.Core.Bool.{Bool, true, false, _&&_, _||_}
-use mathlib.Core.Logic.{_⊎_, inl, inr}
+use mathlib.Core.Logic.{_⊎_, inl, inr, _≢_}
 use mathlib.Core.List.{List, [], _∷_, _++_, append-assoc, append-nil, map, flatMap}
 use native.Mathlib.Omega.{arith}
 use native.Mathlib.Nat.{le-of-suc-le-suc, not-suc-le-zero, zero-mul, suc-mul}
 use lib.Dec.{eqb, leb, ltb}
 use lib.ListN.{length, getD, drop, length-append, length-drop, List·getD-append}
 use lib.Seq.{getD-at, getD-append-add}
-use borrow.Author.Tests.{eqb-true, eq-eqb, leb-true, ltb-true, ltb-false, lt-ltb}
+use borrow.Author.Tests.{eqb-true, eqb-false, eq-eqb, leb-true, ltb-true, ltb-false, lt-ltb}
 use Rattle.rewriting.specs.Lists.{all, same, prefix, between, below, upTo, over}
+
+-- a number below n + 1 is below n, or n; two numbers are equal, or not
+pub last-or : (n c : ℕ) → c < suc n → (c < n) ⊎ (c ≡ n)
+last-or n c h = go (ltb c n) refl
+  where
+    go : (b : Bool) → ltb c n ≡ b → (c < n) ⊎ (c ≡ n)
+    go true e = inl (ltb-true c n e)
+    go false e = inr (omega (arith, ltb-false c n e))
+
+pub same-or : (q c : ℕ) → (c ≡ q) ⊎ (c ≢ q)
+same-or q c = go (eqb c q) refl
+  where
+    go : (b : Bool) → eqb c q ≡ b → (c ≡ q) ⊎ (c ≢ q)
+    go true e = inl (eqb-true c q e)
+    go false e = inr (eqb-false c q e)
 
 pub and-left : (a b : Bool) → (a && b) ≡ true → a ≡ true
 and-left true b e = refl

@@ -11,15 +11,15 @@ use lib.ListN.{length, getD, set, length-set}
 use borrow.Author.Tests.{ltb-true, ltb-false, not-true, not-false}
 use Rattle.rewriting.specs.Rules.{Rule, RuleSet, inRange}
 use Rattle.rewriting.proofs.Ranges.{ranges}
-use Rattle.image.specs.Check.{Decides}
-use Rattle.image.proofs.Check.{decided, denied}
-use Rattle.table.specs.States.{states}
-use Rattle.table.specs.Words.{transition, ownOr}
-use Rattle.table.specs.Nodes.{parent, symbol, children, matched, failure, Trie, Owned, failureBy}
+use Rattle.layout.specs.ImageCheck.{Decides}
+use Rattle.layout.proofs.ImageCheck.{decided, denied}
+use Rattle.layout.specs.States.{states}
+use Rattle.layout.specs.Words.{transition, ownOr}
+use Rattle.trie.specs.Nodes.{parent, symbol, children, matched, failure, Trie, Owned, failureBy}
 use Rattle.table.specs.Consistent.{differing, Passes, Passed, RootPassed, RightTable}
-use Rattle.table.proofs.States.{few-states}
-use Rattle.table.proofs.RowPlaces.{row-end, word-within}
-use Rattle.table.proofs.Kept.{parent-kept, symbol-kept, children-kept, failure-set, failure-other, matched-same, failure-kept, trie-kept}
+use Rattle.layout.proofs.States.{few-states}
+use Rattle.layout.proofs.RowPlaces.{row-end, word-within}
+use Rattle.trie.proofs.Kept.{parent-kept, symbol-kept, children-kept, failure-set, failure-other, matched-same, failure-kept, trie-kept}
 use Rattle.table.proofs.RightPasses.{right-passes, right-inside, right-root}
 use Rattle.table.proofs.PassesRight.{consistent-right}
 

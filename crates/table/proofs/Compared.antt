@@ -11,12 +11,12 @@ use Rattle.rewriting.specs.Lists.{prefix}
 use Rattle.rewriting.specs.Rules.{RuleSet, inRange}
 use Rattle.rewriting.proofs.Lists.{prefix-rest, prefix-append, begins-at}
 use Rattle.rewriting.proofs.Ranges.{ranges}
-use Rattle.image.specs.Check.{Decides}
-use Rattle.table.specs.States.{states}
-use Rattle.table.specs.Table.{tableOf}
+use Rattle.layout.specs.ImageCheck.{Decides}
+use Rattle.layout.specs.States.{states}
+use Rattle.layout.specs.Table.{tableOf}
 use Rattle.table.specs.Consistent.{RightTable}
-use Rattle.table.proofs.RowPlaces.{word-within}
-use Rattle.table.proofs.Table.{
+use Rattle.layout.proofs.RowPlaces.{word-within}
+use Rattle.layout.proofs.Table.{
   length-table,
   table-length,
   table-states,

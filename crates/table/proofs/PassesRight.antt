@@ -13,14 +13,14 @@ use lib.ListN.{length, getD}
 use borrow.Author.Tests.{ltb-true, ltb-false}
 use Rattle.rewriting.specs.Rules.{Rule}
 use Rattle.rewriting.specs.Occurrences.{ending}
-use Rattle.table.specs.States.{next, matching, known, states, number}
-use Rattle.table.specs.Table.{matchWord}
-use Rattle.table.specs.Words.{text, transition}
-use Rattle.table.specs.Nodes.{parent, symbol, failure, Trie, Owned, RightFailure}
+use Rattle.layout.specs.States.{next, matching, known, states, number}
+use Rattle.layout.specs.Table.{matchWord}
+use Rattle.layout.specs.Words.{text, transition}
+use Rattle.trie.specs.Nodes.{parent, symbol, failure, Trie, Owned, RightFailure}
 use Rattle.table.specs.Consistent.{differing, leaving, Passed, RootPassed, RightTable}
-use Rattle.table.proofs.States.{number-at, number-zero, state-long}
-use Rattle.table.proofs.Growth.{state-child, parent-shorter}
-use Rattle.table.proofs.Failure.{FailsTo, fails-to, match-failure, failure-found}
+use Rattle.layout.proofs.States.{number-at, number-zero, state-long}
+use Rattle.trie.proofs.Growth.{state-child, parent-shorter}
+use Rattle.trie.proofs.Failure.{FailsTo, fails-to, match-failure, failure-found}
 use Rattle.table.proofs.RowBeside.{inherits-failure, inherits-root, row-right, root-row}
 
 module _ (rules : List Rule) (symbols : ℕ) (t matches rows : List ℕ) (trie : Trie (states rules) symbols t)

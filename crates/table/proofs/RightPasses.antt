@@ -9,13 +9,13 @@ use native.Mathlib.Nat.{not-suc-le-zero}
 use lib.ListN.{length, getD}
 use Rattle.rewriting.specs.Rules.{Rule}
 use Rattle.rewriting.specs.Occurrences.{ending}
-use Rattle.table.specs.States.{next, matching, states, number}
-use Rattle.table.specs.Table.{matchWord}
-use Rattle.table.specs.Words.{text, failureState, transition}
-use Rattle.table.specs.Nodes.{parent, symbol, failure, Trie, Owned, RightFailure, failureBy}
+use Rattle.layout.specs.States.{next, matching, states, number}
+use Rattle.layout.specs.Table.{matchWord}
+use Rattle.layout.specs.Words.{text, failureState, transition}
+use Rattle.trie.specs.Nodes.{parent, symbol, failure, Trie, Owned, RightFailure, failureBy}
 use Rattle.table.specs.Consistent.{differing, leaving, Passes, RootPassed, RightTable}
-use Rattle.table.proofs.States.{known-at, next-listed, number-zero, state-long}
-use Rattle.table.proofs.Failure.{FailsTo, fails-to, match-failure, failure-found}
+use Rattle.layout.proofs.States.{known-at, next-listed, number-zero, state-long}
+use Rattle.trie.proofs.Failure.{FailsTo, fails-to, match-failure, failure-found}
 use Rattle.table.proofs.RowBeside.{inherits-failure, inherits-root, differs-child, root-row}
 
 module _ (rules : List Rule) (symbols : ℕ) (t matches rows : List ℕ) (trie : Trie (states rules) symbols t)

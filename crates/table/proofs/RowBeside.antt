@@ -10,12 +10,12 @@ use lib.Dec.{eqb}
 use lib.ListN.{length, getD, length-append}
 use borrow.Author.Tests.{eqb-true, eq-eqb, ne-eqb}
 use Rattle.rewriting.specs.Rules.{Rule}
-use Rattle.table.specs.States.{next, known, states, number}
-use Rattle.table.specs.Words.{failureState, transition}
-use Rattle.table.specs.Nodes.{tally}
-use Rattle.table.proofs.States.{known-nil, next-known, next-listed, number-at}
-use Rattle.table.proofs.Tally.{tally-agree, tally-same}
-use Rattle.table.proofs.Failure.{next-failure, failure-next-short, next-root}
+use Rattle.layout.specs.States.{next, known, states, number}
+use Rattle.layout.specs.Words.{failureState, transition}
+use Rattle.trie.specs.Nodes.{tally}
+use Rattle.layout.proofs.States.{known-nil, next-known, next-listed, number-at}
+use Rattle.trie.proofs.Tally.{tally-agree, tally-same}
+use Rattle.trie.proofs.Failure.{next-failure, failure-next-short, next-root}
 
 -- where state v has no child by a symbol a, its next state is w a, which is shorter than a child
 pub record Inherits (rules : List Rule) (v : List ℕ) (w : ℕ → List ℕ) : Type 0 where

@@ -2,6 +2,7 @@
 -- Assumes nothing.
 use Prim.Native.Nat.{ℕ, suc, _+_, _-_, _*_, _≤_}
 use mathlib.Core.Path.{_≡_, sym, ap, _∙_}
+use mathlib.Core.Bool.{true}
 use mathlib.Core.List.{List, [], _∷_, _++_, map, flatMap, append-nil}
 use native.Mathlib.Omega.{arith}
 use lib.ListN.{length, take, drop, set, length-append, length-map, length-set, length-drop}
@@ -9,9 +10,12 @@ use lib.Seq.{length-take-le, drop-drop, drop-length, drop-at}
 use borrow.Rule.Slice.PartMut.{putMid}
 use Rattle.rewriting.specs.Rules.{RuleSet}
 use Rattle.rewriting.proofs.Lists.{length-flatMap}
-use Rattle.table.specs.States.{states, matching}
-use Rattle.table.specs.Table.{matchWord, row, tableOf}
-use Rattle.table.proofs.Table.{length-row, length-table}
+use Rattle.layout.specs.Image.{read, valid}
+use Rattle.layout.specs.States.{states, matching}
+use Rattle.layout.specs.Table.{matchWord, row, tableOf}
+use Rattle.layout.proofs.Image.{valid-in-range}
+use Rattle.layout.proofs.Table.{length-row, length-table, table-length}
+use Rattle.trie.specs.Nodes.{Built}
 
 -- an area whose first two words are n and s
 abbrev pub headed : List ℕ → ℕ → ℕ → List ℕ
@@ -105,3 +109,10 @@ module _ (set : RuleSet) (table : List ℕ) {n s : ℕ} (all : n ≡ length (sta
       table-written =
           words-are table n s (length (states (set .rules)) * set .symbols) sized rows rows-long matches
           ∙ rw (all, width, filled, written)
+
+-- the number of words by the number of states that were built, within document 01's bound
+pub words-built : (image : List ℕ) → valid image ≡ true → (n : ℕ) (t : List ℕ) → Built (read image) n t → (s : ℕ) → s ≡ read image .symbols
+    → (2 + n + n * s ≡ length (tableOf (read image))) × (2 + n + n * s ≤ 16931)
+words-built image e n t b s is =
+    let w : 2 + n + n * s ≡ length (tableOf (read image)) = rw (b .nodes, is) (sym (length-table (read image))) in
+    (w, rw w (table-length (read image) (valid-in-range image e)))

@@ -8,10 +8,10 @@ use mathlib.Core.List.{List}
 use lib.Dec.{eqb}
 use lib.ListN.{length, getD}
 use Rattle.rewriting.specs.Rules.{Rule}
-use Rattle.table.specs.States.{states, number, next, matching}
-use Rattle.table.specs.Table.{matchWord}
-use Rattle.table.specs.Words.{text, transition, ownOr}
-use Rattle.table.specs.Nodes.{parent, symbol, children, matched, failure, tally, failureBy}
+use Rattle.layout.specs.States.{states, number, next, matching}
+use Rattle.layout.specs.Table.{matchWord}
+use Rattle.layout.specs.Words.{text, transition, ownOr}
+use Rattle.trie.specs.Nodes.{parent, symbol, children, matched, failure, tally, failureBy}
 
 -- in how many words the rows of q and f differ
 unfoldable pub differing : List ℕ → ℕ → ℕ → ℕ → ℕ

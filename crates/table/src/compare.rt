@@ -5,15 +5,15 @@ ghost use Prim.Native.Nat.{_+_, _*_, _≤_, _<_};
 ghost use mathlib.Core.Path.{_≡_};
 ghost use mathlib.Core.Bool.{true};
 ghost use lib.ListN.{length, getD};
-ghost use Rattle.image.specs.Image.{read, valid};
-ghost use Rattle.image.specs.Check.{Decides};
+ghost use Rattle.layout.specs.Image.{read, valid};
+ghost use Rattle.layout.specs.ImageCheck.{Decides};
 ghost use Rattle.rewriting.specs.Lists.{prefix};
-ghost use Rattle.table.specs.Table.{tableOf};
-ghost use Rattle.table.specs.Nodes.{parent, symbol, matched, failure, Built};
-ghost use Rattle.table.specs.Words.{transition, ownOr};
+ghost use Rattle.layout.specs.Table.{tableOf};
+ghost use Rattle.trie.specs.Nodes.{parent, symbol, matched, failure, Built};
+ghost use Rattle.layout.specs.Words.{transition, ownOr};
 ghost use Rattle.table.specs.Consistent.{differing, leaving, Passes, RootPassed, RightTable};
-use crate::trie::failure_of;
-use crate::trie::wide;
+use trie::failure_of;
+use trie::wide;
 
 // How many words of the rows of q and f differ. It counts to the end, so that the loop compares many words at once.
 fn differences(rows: &[u16], s: usize, q: usize, f: usize) -> u16

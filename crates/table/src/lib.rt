@@ -3,27 +3,15 @@ ghost use mathlib.Core.Path.{_≡_};
 ghost use mathlib.Core.Bool.{true};
 ghost use lib.ListN.{length, replicate};
 ghost use Rattle.rewriting.specs.Lists.{prefix};
-ghost use Rattle.image.specs.Image.{read, valid};
-ghost use Rattle.table.specs.Table.{tableOf};
-ghost use Rattle.table.specs.Compile.{compileOf};
-ghost use Rattle.table.specs.Check.{checkOf};
-ghost use Rattle.table.specs.Nodes.{Roomy, Built};
+ghost use Rattle.layout.specs.Image.{read, valid};
+ghost use Rattle.layout.specs.Table.{tableOf};
+ghost use Rattle.layout.specs.Compile.{compileOf};
+ghost use Rattle.layout.specs.TableCheck.{checkOf};
+ghost use Rattle.trie.specs.Nodes.{Roomy, Built};
+use layout::Checked;
+use layout::Compiled;
 
 mod compare;
-mod rows;
-mod trie;
-
-// What compile answers: the number of words written, or the number of the refusal.
-pub enum Compiled {
-    Words(usize),
-    Refused(u32),
-}
-
-// What a check of a lent image and table answers.
-pub enum Checked {
-    Passed,
-    Refused(u32),
-}
 
 // The table of the image, into an area of its length, from the trie of its n states.
 fn write(image: &[u8], nodes: &mut [u16], n: usize, table: &mut [u16])

@@ -10,12 +10,12 @@ use lib.Seq.{sets, sets-eq, length-sets, take-append-seam}
 use Rattle.rewriting.specs.Lists.{prefix}
 use Rattle.rewriting.specs.Rules.{Right, Close, symbolsOf, Rule}
 use Rattle.rewriting.proofs.Lists.{prefix-rest, prefix-append, flatMap-snoc}
-use Rattle.image.specs.Image.{kind, lengthOrVerdict, contents, body}
-use Rattle.image.proofs.Image.{length-contents}
+use Rattle.layout.specs.Image.{kind, lengthOrVerdict, contents, body}
+use Rattle.layout.proofs.Image.{length-contents}
 use Rattle.text.specs.declared.Place.the-variants as places
 use Rattle.text.specs.declared.Reader.{Reader}
-use Rattle.text.specs.Names.{Numbered, slots}
-use Rattle.text.specs.Grammar.{
+use Rattle.grammar.specs.Names.{Numbered, slots}
+use Rattle.grammar.specs.Grammar.{
   Place,
   Events,
   Between,
@@ -25,17 +25,7 @@ use Rattle.text.specs.Grammar.{
   Reading,
   placed,
 }
-use Rattle.text.specs.Held.{
-  ruleAt,
-  placeOf,
-  leftOf,
-  sideOf,
-  bodiesOf,
-  readerOf,
-  Keeps,
-  Lengthens,
-  Closed,
-}
+use Rattle.text.specs.Held.{ruleAt, placeOf, leftOf, sideOf, bodiesOf, readerOf, Keeps, Lengthens, Closed}
 
 -- what an area begins with
 pub prefix-take : (p b : List ℕ) (n : ℕ) → n ≡ length p → prefix p b ≡ true → take n b ≡ p

@@ -1,17 +1,7 @@
-pub mod Bytes
-pub mod Same
-pub mod Runs
-pub mod TokenOf
-pub mod RunBytes
-pub mod Slots
-pub mod Sound
-pub mod Lookup
-pub mod Numbering
+-- Laws, in reading order.
 pub mod Places
 pub mod Keeping
 pub mod Taking
 pub mod Room
 pub mod Reading
 pub mod Writing
-pub mod ReadTheorem
-pub mod Computed

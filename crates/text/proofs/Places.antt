@@ -9,7 +9,7 @@ use denote.Enum.Declared.{tagOf, declared}
 use Rattle.rewriting.specs.Rules.{Right}
 use Rattle.text.specs.declared.Place as code
 use Rattle.text.specs.declared.Place.the-variants as places
-use Rattle.text.specs.Grammar.{
+use Rattle.grammar.specs.Grammar.{
   Place,
   First,
   Events,

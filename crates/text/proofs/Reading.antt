@@ -8,20 +8,21 @@ use mathlib.Core.List.{List, [], flatMap}
 use native.Mathlib.Omega.{arith}
 use lib.ListN.{length, drop, replicate}
 use Rattle.rewriting.specs.Rules.{symbolsOf}
-use Rattle.image.specs.Image.{body}
+use Rattle.layout.specs.Image.{body}
 use Rattle.text.specs.declared.Reader.{Reader}
 use Rattle.text.specs.declared.Taken as taken-as
 use Rattle.text.specs.declared.Taken.the-variants as taken
 use Rattle.text.specs.declared.Finished as finished-as
 use Rattle.text.specs.declared.Finished.the-variants as finished
-use Rattle.text.specs.Tokens.{Token, tokenOf, runsFrom, runs}
-use Rattle.text.specs.Names.{slots}
-use Rattle.text.specs.Grammar.{Between, Reading, Taken, Goes, Breaks, begun, afterRun, complete}
-use Rattle.text.specs.Read.{Good, Bad, ended, orBroken, readRuns, readText}
-use Rattle.text.specs.Held.{Sound, ruleAt, readerOf, Keeps, Held, TakenIs, FinishedIs}
-use Rattle.text.proofs.Runs.{restOf, Next}
-use Rattle.text.proofs.Slots.{length-slots}
-use Rattle.text.proofs.Sound.{sound-begun, sound-run}
+use Rattle.grammar.specs.Tokens.{Token, tokenOf, runsFrom, runs}
+use Rattle.grammar.specs.Names.{slots}
+use Rattle.grammar.specs.Grammar.{Between, Reading, Taken, Goes, Breaks, begun, afterRun, complete}
+use Rattle.grammar.specs.Read.{Good, Bad, ended, orBroken, readRuns, readText}
+use Rattle.grammar.specs.Sound.{Sound}
+use Rattle.text.specs.Held.{ruleAt, readerOf, Keeps, Held, TakenIs, FinishedIs}
+use Rattle.grammar.proofs.Runs.{restOf, Next}
+use Rattle.grammar.proofs.Slots.{length-slots}
+use Rattle.grammar.proofs.Sound.{sound-begun, sound-run}
 
 -- The end of the text.
 module _ {s : Reading} {r : Reader} {a b c d : List ℕ} (size : ℕ) (sound : Sound s) (k : Keeps s r a b c d) where

@@ -7,14 +7,15 @@ use native.Mathlib.Omega.{arith}
 use lib.ListN.{length, length-append}
 use Rattle.rewriting.specs.Rules.{Right, Put, symbolsOf, _⇒_}
 use Rattle.rewriting.proofs.Ranges.{RuleRanges, rule-ranges}
-use Rattle.image.specs.Image.{body}
-use Rattle.image.proofs.Image.{length-bodies}
+use Rattle.layout.specs.Image.{body}
+use Rattle.layout.proofs.Image.{length-bodies}
 use Rattle.text.specs.declared.Place.the-variants as places
 use Rattle.text.specs.declared.Reader.{Reader}
-use Rattle.text.specs.Grammar.{Between, Ending, Reading, ruleSetOf}
-use Rattle.text.specs.Held.{RuleBegun, Sound, ruleAt, placeOf, sideOf, Held}
+use Rattle.grammar.specs.Grammar.{Between, Ending, Reading, ruleSetOf}
+use Rattle.grammar.specs.Sound.{RuleBegun, Sound}
+use Rattle.text.specs.Held.{ruleAt, placeOf, sideOf, Held}
 use Rattle.text.proofs.Places.{place-at}
-use Rattle.text.proofs.Sound.{place-sound}
+use Rattle.grammar.proofs.Sound.{place-sound}
 use Rattle.text.proofs.Keeping.{
   place-number,
   symbols-number,

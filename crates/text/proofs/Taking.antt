@@ -11,16 +11,16 @@ use lib.ListN.{length, set, length-append}
 use borrow.Author.Tests.{lt-ltb, le-ltb}
 use Rattle.rewriting.specs.Lists.{all, same}
 use Rattle.rewriting.specs.Rules.{Right, Put, symbolsOf, _⇒_}
-use Rattle.image.specs.Image.{kind, lengthOrVerdict, body}
+use Rattle.layout.specs.Image.{kind, lengthOrVerdict, body}
 use Rattle.text.specs.declared.Place as code
 use Rattle.text.specs.declared.Place.the-variants as places
 use Rattle.text.specs.declared.Reader.{Reader}
 use Rattle.text.specs.declared.Taken.the-variants as taken
-use Rattle.text.specs.declared.Numbered as numbered-as
-use Rattle.text.specs.Tokens.{isName}
-use Rattle.text.specs.Names as Names
-use Rattle.text.specs.Names.{numberOf, Numbered, orNew, numbered}
-use Rattle.text.specs.Grammar.{
+use Rattle.tokens.specs.declared.Numbered as numbered-as
+use Rattle.grammar.specs.Tokens.{isName}
+use Rattle.grammar.specs.Names as Names
+use Rattle.grammar.specs.Names.{numberOf, Numbered, orNew, numbered}
+use Rattle.grammar.specs.Grammar.{
   Place,
   First,
   Events,
@@ -47,19 +47,10 @@ use Rattle.text.specs.Grammar.{
   closeRule,
   stop,
 }
-use Rattle.text.specs.Held.{
-  Sound,
-  ruleAt,
-  placeOf,
-  leftOf,
-  sideOf,
-  Keeps,
-  TakenIs,
-  Lengthens,
-  Closed,
-  NumberedIs,
-}
-use Rattle.text.proofs.Sound.{Kept, number-below, numbered-kept}
+use Rattle.grammar.specs.Sound.{Sound}
+use Rattle.text.specs.Held.{ruleAt, placeOf, leftOf, sideOf, Keeps, TakenIs, Lengthens, Closed}
+use Rattle.tokens.specs.Numbered.{NumberedIs}
+use Rattle.grammar.proofs.Sound.{Kept, number-below, numbered-kept}
 use Rattle.text.proofs.Keeping.{
   symbols-number,
   side-number,

@@ -10,18 +10,19 @@ use lib.Seq.{sets-eq, length-sets, paste, take-append-seam, drop-append-add, dro
 use borrow.Author.Tests.{le-leb, lt-leb}
 use Rattle.rewriting.specs.Lists.{over}
 use Rattle.rewriting.specs.Rules.{symbolsOf}
-use Rattle.image.specs.Image.{contents, body, imageOf}
-use Rattle.image.specs.Refusals.{refusal}
-use Rattle.image.proofs.Image.{length-contents, length-image}
+use Rattle.layout.specs.Image.{contents, body, imageOf}
+use Rattle.layout.specs.Refusals.{refusal}
+use Rattle.layout.proofs.Image.{length-contents, length-image}
 use Rattle.text.specs.declared.Reader.{Reader}
-use Rattle.text.specs.declared.Read.the-variants as read
+use Rattle.grammar.specs.declared.Read.the-variants as read
 use Rattle.text.specs.declared.Finished as finished-as
 use Rattle.text.specs.declared.Finished.the-variants as finished
-use Rattle.text.specs.declared.Read.{Read}
-use Rattle.text.specs.Grammar.{Place, Between, Reading, ruleSetOf}
-use Rattle.text.specs.Read.{Result, Good, Bad, readText, namesOf, Outcome, readChecks, written, unless, readOf}
-use Rattle.text.specs.Held.{EventsKnown, Sound, ruleAt, bodiesOf, Keeps, FinishedIs, Small}
-use Rattle.text.proofs.Sound.{place-sound}
+use Rattle.grammar.specs.declared.Read.{Read}
+use Rattle.grammar.specs.Grammar.{Place, Between, Reading, ruleSetOf}
+use Rattle.grammar.specs.Read.{Result, Good, Bad, readText, namesOf, Outcome, readChecks, written, unless, readOf}
+use Rattle.grammar.specs.Sound.{EventsKnown, Sound}
+use Rattle.text.specs.Held.{ruleAt, bodiesOf, Keeps, FinishedIs, Small}
+use Rattle.grammar.proofs.Sound.{place-sound}
 use Rattle.text.proofs.Keeping.{
   prefix-take,
   symbols-number,

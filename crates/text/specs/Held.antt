@@ -1,70 +1,24 @@
 -- How the code keeps a reading: a struct of numbers, two areas of name slots, the contents and the bodies of the rules.
-use Prim.Native.Nat.{ℕ, _+_, _<_, _≤_}
+use Prim.Native.Nat.{ℕ, _+_, _≤_}
 use mathlib.Core.Path.{_≡_}
 use mathlib.Core.Bool.{true}
-use mathlib.Core.Option.{Option, none, some}
 use mathlib.Core.List.{List, [], _∷_, _++_, flatMap}
 use lib.ListN.{length}
-use Rattle.rewriting.specs.Lists.{all, prefix}
-use Rattle.rewriting.specs.Rules.{Right, Put, Rule, _⇒_, ruleInRange}
-use Rattle.image.specs.Image as Image
-use Rattle.image.specs.Image.{kind, lengthOrVerdict, body}
-use Rattle.text.specs.declared.Kind.{Kind}
-use Rattle.text.specs.declared.Kind.the-variants as kinds
+use Rattle.rewriting.specs.Lists.{prefix}
+use Rattle.rewriting.specs.Rules.{Right, Put, Rule, _⇒_}
+use Rattle.layout.specs.Image as Image
+use Rattle.layout.specs.Image.{kind, lengthOrVerdict, body}
 use Rattle.text.specs.declared.Place as place
 use Rattle.text.specs.declared.Place.the-variants as places
 use Rattle.text.specs.declared.Reader.{Reader}
 use Rattle.text.specs.declared.Taken as taken-as
 use Rattle.text.specs.declared.Taken.the-variants as taken
-use Rattle.text.specs.declared.Numbered as numbered-as
-use Rattle.text.specs.declared.Found.{Found}
-use Rattle.text.specs.declared.Found.the-variants as found
 use Rattle.text.specs.declared.Finished as finished-as
 use Rattle.text.specs.declared.Finished.the-variants as finished
-use Rattle.text.specs.Tokens.{isName}
-use Rattle.text.specs.Names.{slots, Numbered, numbered}
-use Rattle.text.specs.Grammar.{
-  Place,
-  First,
-  Events,
-  Between,
-  InLeft,
-  InRight,
-  Ending,
-  Reading,
-  Taken,
-  Goes,
-  Breaks,
-  ruleSetOf,
-}
-use Rattle.text.specs.Read.{Result, Good, Bad}
-
--- What every reading keeps. `read-sound` (proofs/Sound.antt) proves it of each that a text gives.
-
-abbrev pub EventsKnown : Reading → Type 0
-EventsKnown s = (1 ≤ s .events) × (s .events ≤ length (s .symbols))
-
--- a rule begun: the symbols so far are in range, and there is room for it
-abbrev pub RuleBegun : Reading → Rule → Type 0
-RuleBegun s r = EventsKnown s × (length (s .rules) < 64) × (ruleInRange (ruleSetOf s) r ≡ true)
-
-abbrev pub SoundAt : Reading → Place → Type 0
-SoundAt s First = Unit {0}
-SoundAt s Events = Unit {0}
-SoundAt s Between = EventsKnown s
-SoundAt s (InLeft l) = RuleBegun s (l ⇒ Put [])
-SoundAt s (InRight l v) = RuleBegun s (l ⇒ Put v)
-SoundAt s (Ending l r) = RuleBegun s (l ⇒ r)
-
-pub record Sound (s : Reading) : Type 0 where
-  pub symbols-named : all isName (s .symbols) ≡ true
-  pub few-symbols : length (s .symbols) ≤ 32
-  pub words-named : all isName (s .words) ≡ true
-  pub some-words : 2 ≤ length (s .words)
-  pub few-words : length (s .words) ≤ 16
-  pub few-rules : length (s .rules) ≤ 64
-  pub all-rules : all (ruleInRange (ruleSetOf s)) (s .rules) ≡ true
-  pub here : SoundAt s (s .place)
+use Rattle.grammar.specs.Names.{slots}
+use Rattle.grammar.specs.Grammar.{Place, First, Events, Between, InLeft, InRight, Ending, Reading, Taken, Goes, Breaks}
+use Rattle.grammar.specs.Read.{Result, Good, Bad}
+use Rattle.grammar.specs.Sound.{Sound}
 
 -- the rule that a place is in, as far as it has been read
 unfoldable pub ruleAt : Place → Rule
@@ -163,24 +117,6 @@ pub record Closed (p : Place) : Type 0 where
   pub left : leftOf p ≡ length (ruleAt p .left)
   pub right : sideOf p ≡ lengthOrVerdict (ruleAt p .right)
 
--- a name or a word is followed by its name
-abbrev pub Named : Kind → List ℕ → Type 0
-Named kinds.Name x = isName x ≡ true
-Named kinds.Word x = isName x ≡ true
-Named kinds.Arrow x = Unit {0}
-Named kinds.Stop x = Unit {0}
-Named kinds.None x = Unit {0}
-
--- the code's number of a name, and the slots then, are the definition's
-abbrev pub NumberedIs : ℕ → List (List ℕ) → Option Numbered → numbered-as.Numbered → List ℕ → Type 0
-NumberedIs most names none r area = (r .number ≡ most) × (r .count ≡ length names) × (area ≡ slots most names)
-NumberedIs most names (some n) r area = (r .number ≡ n .number) × (r .count ≡ length (n .names)) × (area ≡ slots most (n .names))
-
-abbrev pub NumberedAs : ℕ → List (List ℕ) → ℕ → List ℕ → List ℕ → numbered-as.Numbered → List ℕ → Type 0
-NumberedAs most names count area x r area′ =
-    area ≡ slots most names → count ≡ length names → length names ≤ most → all isName names ≡ true → isName x ≡ true
-    → NumberedIs most names (numbered most names x) r area′
-
 -- how the reading of a text ended
 abbrev pub FinishedIs : Result → finished-as.Finished → List ℕ → List ℕ → List ℕ → List ℕ → Type 0
 FinishedIs (Good s) (finished.Good r) symbols words contents bodies =
@@ -196,8 +132,3 @@ pub record Small (r : Reader) : Type 0 where
   pub events : r .events ≤ 32
   pub rules : r .rules ≤ 64
   pub bodies : r .bodies ≤ 1024
-
--- what a lookup answers
-unfoldable pub foundAs : Found → Option ℕ
-foundAs (found.Symbol i) = some i
-foundAs found.None = none

@@ -1,42 +1,21 @@
-// The reader of rule texts, and the lookup of a name that it read.
+// The reader of rule texts.
 ghost use Prim.Native.Nat.{ℕ, _+_, _≤_};
 ghost use mathlib.Core.Path.{_≡_};
 ghost use mathlib.Core.List.{List, _++_};
 ghost use lib.ListN.{length, replicate};
 ghost use lib.Seq.{paste};
 ghost use Rattle.rewriting.specs.Lists.{over};
-ghost use Rattle.image.specs.Image.{imageOf};
-ghost use Rattle.text.specs.Names.{slots};
-ghost use Rattle.text.specs.Scanned.{firstRun};
-ghost use Rattle.text.specs.Grammar.{Between, Reading, begun, ruleSetOf};
-ghost use Rattle.text.specs.Read.{ended, readText, readOf};
-ghost use Rattle.text.specs.Lookup.{symbolNamed};
-ghost use Rattle.text.specs.Held.{Sound, readerOf, Keeps, FinishedIs, Small, foundAs};
+ghost use Rattle.layout.specs.Image.{imageOf};
+ghost use Rattle.grammar.specs.Names.{slots};
+ghost use Rattle.grammar.specs.Grammar.{Between, Reading, begun, ruleSetOf};
+ghost use Rattle.grammar.specs.Read.{ended, readText, readOf};
+ghost use Rattle.grammar.specs.Sound.{Sound};
+ghost use Rattle.text.specs.Held.{readerOf, Keeps, FinishedIs, Small};
+use grammar::Read;
+use tokens::bytes;
+use tokens::names;
 
-mod grammar;
-mod names;
-mod tokens;
-
-// What the reader answers: the length of the image, or the number of the refusal and its place in the text.
-pub enum Read {
-    Image(usize),
-    Refused(u32, usize),
-}
-
-// The first run of a part of a text: where in that part it begins and ends.
-pub struct Run {
-    pub start: usize,
-    pub end: usize,
-}
-
-// What a run of bytes is; None where it is no token.
-pub enum Kind {
-    Name,
-    Word,
-    Arrow,
-    Stop,
-    None,
-}
+mod after_token;
 
 // Where in the grammar a token stands.
 pub enum Place {
@@ -62,12 +41,6 @@ pub struct Reader {
     pub kind: u8,
 }
 
-// The number of a name, and how many names there are then.
-pub struct Numbered {
-    pub number: usize,
-    pub count: usize,
-}
-
 // What a token makes of what has been read: it goes on, or the text breaks here, by this refusal.
 pub enum Taken {
     Goes(Reader),
@@ -78,12 +51,6 @@ pub enum Taken {
 pub enum Finished {
     Good(Reader),
     Bad(u32, usize),
-}
-
-// What a lookup answers.
-pub enum Found {
-    Symbol(usize),
-    None,
 }
 
 // Nothing read: two words, `fail` and `succeed`.
@@ -141,23 +108,23 @@ fn read_tokens(
     let mut reader = begin(words);
     let mut at: usize = 0;
     'tokens: loop {
-        let start = at + tokens::gap_of(&text[at..]);
+        let start = at + bytes::gap_of(&text[at..]);
         if text.len() <= start {
             break 'tokens ended(reader, text.len());
         }
-        let from = start + tokens::lead_of(&text[start..]);
+        let from = start + bytes::lead_of(&text[start..]);
         let mut end = from;
         loop {
-            let b = tokens::byte_at(text, end);
-            if !tokens::is_name_byte(b) {
-                if tokens::is_separator(b) {
+            let b = bytes::byte_at(text, end);
+            if !bytes::is_name_byte(b) {
+                if bytes::is_separator(b) {
                     break;
                 }
                 break 'tokens Finished::Bad(3, start);
             }
             end += 1;
         }
-        let kind = tokens::kind_of(&text[start..end]);
+        let kind = bytes::kind_of(&text[start..end]);
         match reader.token(kind, &text[from..end], symbols, words, contents, bodies) {
             Taken::Goes(next) => reader = next,
             Taken::Breaks(n) => break 'tokens Finished::Bad(n, start),
@@ -238,38 +205,4 @@ pub fn read_rules(text: &[u8], image: &mut [u8], names: &mut [u8]) -> Read
             Read::Image(size)
         }
     }
-}
-
-// The name reader: the first run of a part of a text, where it begins and ends in it. Where there is none, both are its end.
-pub fn first_run(part: &[u8]) -> Run
-    ensures { λ r. ⌜ r ≡ firstRun (now (part .entry)) ⌝ }
-{
-    let start = tokens::gap_of(part);
-    let size = tokens::unbroken_length(&part[start..]);
-    Run {
-        start: start,
-        end: start + size,
-    }
-}
-
-// The symbol with this name, by the name slots that read_rules wrote.
-pub fn symbol(names: &[u8], x: &[u8]) -> Found
-    ensures { λ r. ⌜ foundAs r ≡ symbolNamed (now (names .entry)) (now (x .entry)) ⌝ }
-{
-    if x.len() < 1 {
-        return Found::None;
-    }
-    if 24 < x.len() {
-        return Found::None;
-    }
-    if names.len() < 800 {
-        return Found::None;
-    }
-    let mut key: [u8; 25] = [0; 25];
-    names::make_slot(&mut key, x);
-    let i = names::find(names, 32, &key, x.len());
-    if i < 32 {
-        return Found::Symbol(i);
-    }
-    Found::None
 }

@@ -1,7 +1,7 @@
 // The program `watch`: it reads a rule text and event names from standard input and writes a line for each name. All that it
 // writes comes from `report`; reading and writing are left here.
 ghost use Prim.Native.Nat.{_≤_};
-ghost use Rattle.report.specs.Turns.{lineMost};
+ghost use Rattle.printing.specs.Turns.{lineMost};
 use libc::STDIN_FILENO;
 use libc::STDOUT_FILENO;
 use report::Begun;

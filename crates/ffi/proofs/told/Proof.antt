@@ -1,6 +1,6 @@
 -- `told` meets its contract.
 -- Assumes nothing.
-use Rattle.image.specs.Refusals.{refusalNumber}
+use Rattle.layout.specs.Refusals.{refusalNumber}
 use Rattle.machine.specs.Calls.{refusedBy}
 use Rattle.machine.proofs.AnswerKinds.{accepted}
 use Rattle.ffi.specs.Heads.{headAfter, callWords}

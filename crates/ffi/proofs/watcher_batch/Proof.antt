@@ -1,7 +1,7 @@
 -- `watcher_batch` meets its contract.
 -- Assumes nothing.
 use mathlib.Core.Path.{ap}
-use Rattle.image.specs.Refusals.{refusalNumber}
+use Rattle.layout.specs.Refusals.{refusalNumber}
 use Rattle.monitor.specs.Lent.{refusedAs}
 use Rattle.ffi.specs.Heads.{headAfter}
 use Rattle.ffi.proofs.Made.{batch-word, batch-made}

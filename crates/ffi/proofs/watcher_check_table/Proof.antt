@@ -1,8 +1,8 @@
 -- `ffi::watcher_check_table` meets its contract, by the answer of check.
 -- Assumes nothing.
 use mathlib.Core.Path.{sym, _∙_}
-use Rattle.table.specs.Check.{refusedBy}
-use Rattle.image.specs.Refusals.{refusalNumber}
+use Rattle.layout.specs.TableCheck.{refusedBy}
+use Rattle.layout.specs.Refusals.{refusalNumber}
 use Rattle.ffi.specs.Numbers.{checkedNumber}
 use borrow.Author.Needs.{needs}
 use Rattle.ffi.proofs.watcher_check_table.Statement.{statement}

@@ -1,8 +1,8 @@
 -- `ffi::watcher_compile` meets its contract, by the answer of compile.
 -- Assumes nothing.
 use mathlib.Core.Path.{sym, _∙_}
-use Rattle.table.specs.Compile.{refusedBy, wordCount}
-use Rattle.image.specs.Refusals.{refusalNumber}
+use Rattle.layout.specs.Compile.{refusedBy, wordCount}
+use Rattle.layout.specs.Refusals.{refusalNumber}
 use Rattle.ffi.specs.Numbers.{compiledNumber}
 use borrow.Author.Needs.{needs}
 use Rattle.ffi.proofs.watcher_compile.Statement.{statement}

@@ -1,6 +1,6 @@
 -- `watcher_fresh` meets its contract.
 -- Assumes nothing.
-use Rattle.image.specs.Refusals.{refusalNumber}
+use Rattle.layout.specs.Refusals.{refusalNumber}
 use Rattle.monitor.specs.Lent.{refusedAs}
 use Rattle.ffi.proofs.Made.{fresh-word, fresh-made}
 use borrow.Author.Needs.{needs}

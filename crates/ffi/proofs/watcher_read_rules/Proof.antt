@@ -1,8 +1,8 @@
 -- `ffi::watcher_read_rules` meets its contract, by the answer of read_rules.
 -- Assumes nothing.
 use mathlib.Core.Path.{sym, _∙_}
-use Rattle.text.specs.Read.{refusedBy, refusalPlace, imageLength}
-use Rattle.image.specs.Refusals.{refusalNumber}
+use Rattle.grammar.specs.Read.{refusedBy, refusalPlace, imageLength}
+use Rattle.layout.specs.Refusals.{refusalNumber}
 use Rattle.ffi.specs.Numbers.{readNumber, readWords}
 use borrow.Author.Needs.{needs}
 use Rattle.ffi.proofs.watcher_read_rules.Statement.{statement}

@@ -3,9 +3,8 @@
 use mathlib.Core.Path.{sym, ap, _∙_}
 use native.Mathlib.Omega.{arith}
 use borrow.Author.Needs.{needs}
-use Rattle.text.specs.Lookup.{numberOr}
-use Rattle.text.specs.Held.{foundAs}
-use Rattle.text.proofs.Numbering.{lookup-below}
+use Rattle.grammar.specs.Lookup.{numberOr, foundAs}
+use Rattle.tokens.proofs.Numbering.{lookup-below}
 use Rattle.ffi.proofs.watcher_symbol.Statement.{statement}
 use Rattle.ffi.proofs.watcher_symbol.Tie as tie
 

@@ -9,7 +9,7 @@ use lib.ListN.{length, take}
 use lib.Seq.{take-all}
 use borrow.Author.Tests.{lt-ltb}
 use Rattle.rewriting.specs.Lists.{below}
-use Rattle.image.proofs.Check.{most-new, most-kept}
+use Rattle.layout.proofs.ImageCheck.{most-new, most-kept}
 use Rattle.image.proofs.all_below.Statement.{statement}
 use Rattle.image.proofs.all_below.Tie as tie
 

@@ -3,7 +3,7 @@
 use mathlib.Core.Path.{sym}
 use native.Mathlib.Omega.{arith}
 use borrow.Author.Needs.{needs}
-use Rattle.image.proofs.Places.{contents-within, bodies-behind}
+use Rattle.layout.proofs.Places.{contents-within, bodies-behind}
 use Rattle.image.proofs.bodies_length.Statement.{statement}
 use Rattle.image.proofs.bodies_length.Tie as tie
 

@@ -6,8 +6,8 @@ use native.Mathlib.Omega.{arith}
 use borrow.Author.Needs.{needs}
 use lib.ListN.{length}
 use Rattle.rewriting.specs.Rules.{symbolsOf, Rule, rule}
-use Rattle.image.specs.Image.{body, read}
-use Rattle.image.proofs.Places.{body-left, left-within, put-length, close-length}
+use Rattle.layout.specs.Image.{body, read}
+use Rattle.layout.proofs.Places.{body-left, left-within, put-length, close-length}
 use Rattle.image.proofs.body_length.Statement.{statement}
 use Rattle.image.proofs.body_length.Tie as tie
 

@@ -3,7 +3,7 @@
 use mathlib.Core.Path.{sym}
 use native.Mathlib.Omega.{arith}
 use borrow.Author.Needs.{needs}
-use Rattle.image.proofs.Check.{
+use Rattle.layout.proofs.ImageCheck.{
   size-string,
   size-verdict,
   size-no-left,

@@ -6,8 +6,8 @@ use mathlib.Core.Path.{_≡_, sym, _∙_}
 use native.Mathlib.Nat.{sub-zero}
 use native.Mathlib.Omega.{arith}
 use lib.ListN.{getD, drop}
-use Rattle.image.specs.Check.{announces}
-use Rattle.image.proofs.Check.{announces-end, turn-out, turn-more, turn-on}
+use Rattle.layout.specs.ImageCheck.{announces}
+use Rattle.layout.proofs.ImageCheck.{announces-end, turn-out, turn-more, turn-on}
 use Rattle.image.proofs.contents_in_range.Statement.{statement}
 use Rattle.image.proofs.contents_in_range.Tie as tie
 

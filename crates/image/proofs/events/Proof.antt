@@ -2,7 +2,7 @@
 -- Assumes nothing.
 use native.Mathlib.Omega.{arith}
 use borrow.Author.Needs.{needs}
-use Rattle.image.proofs.Places.{contents-within, header-events}
+use Rattle.layout.proofs.Places.{contents-within, header-events}
 use Rattle.image.proofs.events.Statement.{statement}
 use Rattle.image.proofs.events.Tie as tie
 

@@ -7,7 +7,7 @@ use native.Mathlib.Omega.{arith}
 use borrow.Author.Needs.{needs}
 use lib.ListN.{getD}
 use Rattle.rewriting.specs.Lists.{below}
-use Rattle.image.proofs.Check.{
+use Rattle.layout.proofs.ImageCheck.{
   HeaderOf,
   all-behind,
   valid-header,

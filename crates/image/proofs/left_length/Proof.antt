@@ -2,7 +2,7 @@
 -- Assumes nothing.
 use native.Mathlib.Omega.{arith}
 use borrow.Author.Needs.{needs}
-use Rattle.image.proofs.Places.{contents-inside, contents-left}
+use Rattle.layout.proofs.Places.{contents-inside, contents-left}
 use Rattle.image.proofs.left_length.Statement.{statement}
 use Rattle.image.proofs.left_length.Tie as tie
 

@@ -5,9 +5,9 @@ use mathlib.Core.Path.{_≡_, sym, ap, _∙_}
 use native.Mathlib.Omega.{arith}
 use borrow.Author.Needs.{needs}
 use Rattle.rewriting.specs.Rules.{rule}
-use Rattle.image.specs.Image.{kind, read}
-use Rattle.image.specs.declared.RightSide.{RightSide}
-use Rattle.image.proofs.Places.{contents-inside, contents-kind, contents-right, right-close, right-put}
+use Rattle.layout.specs.Image.{kind, read}
+use Rattle.layout.specs.declared.RightSide.{RightSide}
+use Rattle.layout.proofs.Places.{contents-inside, contents-kind, contents-right, right-close, right-put}
 use Rattle.image.proofs.right_side.Statement.{statement}
 use Rattle.image.proofs.right_side.Tie as tie
 

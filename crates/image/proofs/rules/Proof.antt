@@ -2,7 +2,7 @@
 -- Assumes nothing.
 use native.Mathlib.Omega.{arith}
 use borrow.Author.Needs.{needs}
-use Rattle.image.proofs.Places.{contents-within, header-rules}
+use Rattle.layout.proofs.Places.{contents-within, header-rules}
 use Rattle.image.proofs.rules.Statement.{statement}
 use Rattle.image.proofs.rules.Tie as tie
 

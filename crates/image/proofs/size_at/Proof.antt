@@ -1,7 +1,7 @@
 -- `image::size_at` meets its contract: it hands on the four bytes of contents.
 -- Assumes nothing.
 use borrow.Author.Needs.{needs}
-use Rattle.image.proofs.Check.{size-at}
+use Rattle.layout.proofs.ImageCheck.{size-at}
 use Rattle.image.proofs.size_at.Statement.{statement}
 use Rattle.image.proofs.size_at.Tie as tie
 

@@ -2,7 +2,7 @@
 -- Assumes nothing.
 use native.Mathlib.Omega.{arith}
 use borrow.Author.Needs.{needs}
-use Rattle.image.proofs.Places.{contents-within, header-symbols}
+use Rattle.layout.proofs.Places.{contents-within, header-symbols}
 use Rattle.image.proofs.symbols.Statement.{statement}
 use Rattle.image.proofs.symbols.Tie as tie
 

@@ -8,9 +8,9 @@ use native.Mathlib.Omega.{arith}
 use lib.ListN.{length, getD}
 use borrow.Author.Needs.{needs}
 use Rattle.rewriting.specs.Rules.{Put, rule}
-use Rattle.image.specs.declared.RightSide.{RightSide}
-use Rattle.image.specs.Image.{read, valid}
-use Rattle.image.specs.Places.{rightSideOf}
+use Rattle.layout.specs.declared.RightSide.{RightSide}
+use Rattle.layout.specs.Image.{read, valid}
+use Rattle.layout.specs.Places.{rightSideOf}
 use Rattle.machine.specs.Areas.{Monitor}
 use Rattle.machine.specs.Lent.{monitorIn}
 use Rattle.machine.proofs.RightSides.{is-put, is-close, put-few, put-within, put-here}

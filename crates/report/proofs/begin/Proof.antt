@@ -4,13 +4,13 @@ use mathlib.Core.Path.{refl, sym, ap, _∙_}
 use native.Mathlib.Omega.{arith}
 use lib.Seq.{length-take-le}
 use borrow.Author.Needs.{needs}
-use Rattle.report.specs.Ascii.{bytes}
-use Rattle.report.specs.Lines.{refusedLine, tooLongLine}
-use Rattle.report.specs.Watch.{ruleTextRead}
-use Rattle.report.specs.Turns.{areas}
-use Rattle.report.proofs.Writing.{writes-all}
-use Rattle.report.proofs.Split.{rule-part-le, rule-text}
-use Rattle.report.proofs.Starting.{read-bad, read-good, begin-long, begin-bad, begin-good, message-is, ready-is}
+use Rattle.printing.specs.Ascii.{bytes}
+use Rattle.printing.specs.Lines.{refusedLine, tooLongLine}
+use Rattle.printing.specs.Watch.{ruleTextRead}
+use Rattle.printing.specs.Turns.{areas}
+use Rattle.lines.proofs.Writing.{writes-all}
+use Rattle.printing.proofs.Split.{rule-part-le, rule-text}
+use Rattle.printing.proofs.Starting.{read-bad, read-good, begin-long, begin-bad, begin-good, message-is, ready-is}
 use Rattle.report.proofs.begin.Statement.{statement}
 use Rattle.report.proofs.begin.Tie as tie
 

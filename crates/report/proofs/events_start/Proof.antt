@@ -3,7 +3,7 @@
 use mathlib.Core.Path.{_≡_, sym, _∙_}
 use lib.ListN.{length}
 use native.Mathlib.Omega.{arith}
-use Rattle.report.proofs.Split.{rule-part-le, events-at, events-at-end}
+use Rattle.printing.proofs.Split.{rule-part-le, events-at, events-at-end}
 use borrow.Author.Needs.{needs}
 use Rattle.report.proofs.events_start.Statement.{statement}
 use Rattle.report.proofs.events_start.Tie as tie

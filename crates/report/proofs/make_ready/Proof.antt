@@ -3,11 +3,10 @@
 use Prim.Native.Nat.{ℕ}
 use mathlib.Core.Path.{_≡_, sym, ap, _∙_}
 use borrow.Author.Needs.{needs}
-use Rattle.table.specs.declared.Compiled.the-variants.{Words}
+use Rattle.layout.specs.declared.Compiled.the-variants.{Words}
 use Rattle.machine.specs.Areas.{Monitor}
 use Rattle.machine.specs.Calls.{Fresh}
-use Rattle.monitor.specs.Lent.{headOut}
-use Rattle.report.proofs.Starting.{compile-answers, compile-writes, compile-takes, is-fresh}
+use Rattle.printing.proofs.Starting.{compile-answers, compile-writes, compile-takes, is-fresh}
 use Rattle.report.proofs.make_ready.Statement.{statement}
 use Rattle.report.proofs.make_ready.Tie as tie
 
@@ -42,7 +41,7 @@ returns-2 c =
     let made =
     ap (λ (f : Fresh). f .monitor) (c .before .fresh .ensures) ∙ is-fresh _ _ (c .before .before .before .fresh-arg .given .0 .1) (c .before .before .fresh-arg2 .given .0 .1)
     in (
-      rw (written, ap (λ (m : Monitor). headOut (m .head)) made),
+      rw (written, ap (λ (m : Monitor). m .head) made),
       (
         c .before .before .before .before .before .before .before .compile .ensures .1 ∙ compile-writes image table (start .pre) size,
         (ap (λ (m : Monitor). m .bytes) made, ap (λ (m : Monitor). m .words) made),

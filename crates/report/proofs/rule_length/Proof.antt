@@ -5,8 +5,8 @@ use mathlib.Core.Path.{_≡_}
 use native.Mathlib.Omega.{arith}
 use lib.ListN.{length, drop}
 use borrow.Author.Needs.{needs}
-use Rattle.report.specs.Watch.{rulePart}
-use Rattle.report.proofs.Split.{rule-stops, rule-passes, rule-ends}
+use Rattle.printing.specs.Watch.{rulePart}
+use Rattle.printing.proofs.Split.{rule-stops, rule-passes, rule-ends}
 use Rattle.report.proofs.rule_length.Statement.{statement}
 use Rattle.report.proofs.rule_length.Tie as tie
 

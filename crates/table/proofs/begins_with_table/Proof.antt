@@ -1,7 +1,7 @@
 -- `table::begins_with_table` meets its contract: either array has room for the trie.
 -- Assumes nothing.
 use mathlib.Core.Path.{refl}
-use Rattle.table.proofs.Walk.{roomy-small, roomy-large}
+use Rattle.trie.proofs.Walking.{roomy-small, roomy-large}
 use borrow.Author.Needs.{needs}
 use Rattle.table.proofs.begins_with_table.Statement.{statement}
 use Rattle.table.proofs.begins_with_table.Tie as tie

@@ -1,7 +1,7 @@
 -- `table::check` meets its contract: refused 7 where the image is not valid, 9 where the table is not its table.
 -- Assumes nothing.
 use mathlib.Core.Path.{sym, _∙_}
-use Rattle.table.proofs.Checking.{check-seven, check-nine, check-passed}
+use Rattle.layout.proofs.TableCheck.{check-seven, check-nine, check-passed}
 use borrow.Author.Needs.{needs}
 use Rattle.table.proofs.check.Statement.{statement}
 use Rattle.table.proofs.check.Tie as tie

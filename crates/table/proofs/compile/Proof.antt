@@ -1,8 +1,8 @@
 -- `table::compile` meets its contract: refused 7 where the image is not valid, else compiled with an array of its size.
 -- Assumes nothing.
 use mathlib.Core.Path.{refl, sym, _∙_}
-use Rattle.table.proofs.Walk.{roomy-small, roomy-large}
-use Rattle.table.proofs.Compilation.{compile-seven}
+use Rattle.trie.proofs.Walking.{roomy-small, roomy-large}
+use Rattle.layout.proofs.Compilation.{compile-seven}
 use borrow.Author.Needs.{needs}
 use Rattle.table.proofs.compile.Statement.{statement}
 use Rattle.table.proofs.compile.Tie as tie

@@ -3,7 +3,8 @@
 use mathlib.Core.Path.{sym, _∙_}
 use native.Mathlib.Omega.{arith}
 use lib.Seq.{length-take-le}
-use Rattle.table.proofs.Compilation.{words-built, compile-eight, compile-words}
+use Rattle.layout.proofs.Compilation.{compile-eight, compile-words}
+use Rattle.table.proofs.Written.{words-built}
 use borrow.Author.Needs.{needs}
 use Rattle.table.proofs.compile_with.Statement.{statement}
 use Rattle.table.proofs.compile_with.Tie as tie

@@ -5,9 +5,9 @@ use mathlib.Core.Path.{refl}
 use native.Mathlib.Omega.{arith}
 use lib.ListN.{length, length-set}
 use Rattle.rewriting.proofs.Ranges.{ranges}
-use Rattle.image.specs.Image.{read}
-use Rattle.image.proofs.Image.{valid-in-range}
-use Rattle.table.proofs.States.{few-states}
+use Rattle.layout.specs.Image.{read}
+use Rattle.layout.proofs.Image.{valid-in-range}
+use Rattle.layout.proofs.States.{few-states}
 use Rattle.table.proofs.Written.{area-some, rows-room, matches-end, matches-room, area-length, table-written}
 use borrow.Author.Needs.{needs}
 use Rattle.table.proofs.write.Statement.{statement}

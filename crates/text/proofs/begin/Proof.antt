@@ -6,11 +6,11 @@ use native.Mathlib.Omega.{arith}
 use lib.ListN.{length}
 use borrow.Author.Needs.{needs}
 use Rattle.rewriting.specs.Rules.{symbolsOf}
-use Rattle.image.specs.Image.{kind, body}
-use Rattle.text.specs.Names.{slot, slots}
-use Rattle.text.specs.Grammar.{begun}
+use Rattle.layout.specs.Image.{kind, body}
+use Rattle.grammar.specs.Names.{slot, slots}
+use Rattle.grammar.specs.Grammar.{begun}
 use Rattle.text.specs.Held.{placeOf, ruleAt, leftOf, sideOf, readerOf}
-use Rattle.text.proofs.Slots.{length-slot}
+use Rattle.grammar.proofs.Slots.{length-slot}
 use Rattle.text.proofs.begin.Statement.{statement}
 use Rattle.text.proofs.begin.Tie as tie
 

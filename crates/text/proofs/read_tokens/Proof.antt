@@ -7,9 +7,9 @@ use native.Mathlib.Omega.{arith}
 use lib.ListN.{length}
 use borrow.Author.Needs.{needs}
 use borrow.Author.Tests.{not-true, not-false}
-use Rattle.text.specs.Tokens.{separator, nameByte}
-use Rattle.text.proofs.Runs.{start-within, next-none, next-run}
-use Rattle.text.proofs.RunBytes.{leading, Scanning, scanning-first, scanning-inside, scanning-next, scanning-stop, scanning-passed, scanning-breaks, bytes-some, run-no-token, run-token, run-named}
+use Rattle.grammar.specs.Tokens.{separator, nameByte}
+use Rattle.grammar.proofs.Runs.{start-within, next-none, next-run}
+use Rattle.tokens.proofs.RunBytes.{leading, Scanning, scanning-first, scanning-inside, scanning-next, scanning-stop, scanning-passed, scanning-breaks, bytes-some, run-no-token, run-token, run-named}
 use Rattle.text.proofs.Reading.{Going, going-first, going-held, symbols-size, words-size, going-ended, no-token, broken, going-on}
 use Rattle.text.proofs.read_tokens.Statement.{statement}
 use Rattle.text.proofs.read_tokens.Tie as tie

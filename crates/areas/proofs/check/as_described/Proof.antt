@@ -7,8 +7,8 @@ use lib.ListN.{length}
 use lib.Seq.{length-take-le}
 use borrow.Author.Needs.{needs}
 use borrow.Author.Tests.{not-true, not-false}
-use Rattle.image.specs.Image.{read}
-use Rattle.image.proofs.Check.{decided, denied, valid-header, valid-room}
+use Rattle.layout.specs.Image.{read}
+use Rattle.layout.proofs.ImageCheck.{decided, denied, valid-header, valid-room}
 use Rattle.machine.specs.Areas.{Head}
 use Rattle.machine.proofs.AreaTests.{not-described, rest-decides, is-not, is-so}
 use Rattle.areas.proofs.check.as_described.Statement.{statement}

@@ -5,7 +5,7 @@ use mathlib.Core.Path.{sym, _∙_}
 use native.Mathlib.Omega.{arith}
 use lib.ListN.{take}
 use borrow.Author.Needs.{needs}
-use Rattle.image.specs.Image.{read}
+use Rattle.layout.specs.Image.{read}
 use Rattle.machine.specs.Lent.{Settled}
 use Rattle.machine.proofs.SettledTurns.{
   settled-none,

@@ -2,7 +2,7 @@
 -- Assumes nothing.
 use native.Mathlib.Omega.{arith}
 use borrow.Author.Needs.{needs}
-use Rattle.image.specs.Image.{read}
+use Rattle.layout.specs.Image.{read}
 use Rattle.machine.proofs.VerdictRule.{stands-none, stands-no-rule, stands-put, stands-close}
 use Rattle.areas.proofs.check.stands_by.Statement.{statement}
 use Rattle.areas.proofs.check.stands_by.Tie as tie

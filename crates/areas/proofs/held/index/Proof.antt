@@ -5,8 +5,8 @@ use mathlib.Core.Path.{_≡_, refl}
 use native.Mathlib.Omega.{arith}
 use lib.ListN.{length, length-set}
 use borrow.Author.Needs.{needs}
-use Rattle.image.specs.Image.{read}
-use Rattle.image.proofs.Places.{contents-within}
+use Rattle.layout.specs.Image.{read}
+use Rattle.layout.proofs.Places.{contents-within}
 use Rattle.machine.proofs.Indexed.{Indexing, indexing-first, start-small, left-small, indexing-next, indexing-last}
 use Rattle.areas.proofs.held.index.Statement.{statement}
 use Rattle.areas.proofs.held.index.Tie as tie

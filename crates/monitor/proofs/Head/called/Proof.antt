@@ -6,7 +6,7 @@ use native.Mathlib.Omega.{arith}
 use lib.ListN.{length}
 use borrow.Author.Needs.{needs}
 use borrow.Author.Tests.{not-true, not-false}
-use Rattle.image.specs.Image.{read}
+use Rattle.layout.specs.Image.{read}
 use Rattle.machine.specs.Areas.{Monitor, stateOf}
 use Rattle.machine.specs.Lent.{callWith}
 use Rattle.monitor.specs.Lent.{headIn, lent, outcomeFrom}

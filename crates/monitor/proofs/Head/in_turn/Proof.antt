@@ -6,15 +6,15 @@ use native.Mathlib.Omega.{arith}
 use native.Mathlib.Numerals.{add-one}
 use lib.ListN.{length, getD}
 use borrow.Author.Needs.{needs}
-use Rattle.image.specs.Image.{read}
+use Rattle.layout.specs.Image.{read}
 use Rattle.machine.specs.Run.{noCounts, plus}
 use Rattle.machine.specs.Lent.{callsWith}
 use Rattle.monitor.specs.Lent.{lent, refusedAs, outcomeFrom}
 use Rattle.machine.proofs.AnswerKinds.{accepted}
 use Rattle.machine.proofs.Stepping.{passed-valid, passed-table}
 use Rattle.machine.proofs.TableWords.{table-header, states-in}
-use Rattle.image.proofs.Image.{valid-in-range}
-use Rattle.table.proofs.States.{few-states}
+use Rattle.layout.proofs.Image.{valid-in-range}
+use Rattle.layout.proofs.States.{few-states}
 use Rattle.machine.proofs.Offering.{Offering, offering-first, offering-passed, offering-number, offering-sums, offering-next, offering-refused, offering-all, call-at, fuel-with, calls-length}
 use Rattle.monitor.proofs.Head.in_turn.Statement.{statement}
 use Rattle.monitor.proofs.Head.in_turn.Tie as tie

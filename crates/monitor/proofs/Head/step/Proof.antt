@@ -6,7 +6,7 @@ use mathlib.Core.List.{List, _∷_}
 use native.Mathlib.Omega.{arith}
 use lib.ListN.{length, getD, length-set}
 use borrow.Author.Needs.{needs}
-use Rattle.image.specs.Image.{read}
+use Rattle.layout.specs.Image.{read}
 use Rattle.machine.specs.Areas.{Monitor, stateOf}
 use Rattle.monitor.specs.Lent.{lent}
 use Rattle.machine.proofs.Stepping.{Held, held, waits, settled-step}

@@ -8,13 +8,13 @@ use mathlib.Core.List.{List}
 use borrow.Author.Needs.{needs}
 use Rattle.machine.specs.Areas.{Monitor, documentCapacity}
 use Rattle.machine.specs.Calls.{Outcome, offerOf}
-use Rattle.text.specs.declared.Found.{Found}
-use Rattle.text.specs.Held.{foundAs}
-use Rattle.text.proofs.Numbering.{lookup-below}
-use Rattle.text.specs.Lookup.{symbolNamed}
-use Rattle.report.specs.Watch.{Watch, offered, offeredName}
-use Rattle.report.specs.Turns.{offering, watchWith}
-use Rattle.report.proofs.Writing.{writes-then, writes-as, writes-all, reaches}
+use Rattle.grammar.specs.declared.Found.{Found}
+use Rattle.grammar.specs.Lookup.{foundAs, symbolNamed}
+use Rattle.tokens.proofs.Numbering.{lookup-below}
+use Rattle.printing.specs.Watch.{Watch, offered, offeredName}
+use Rattle.report.specs.Lent.{walkIn}
+use Rattle.printing.specs.Turns.{offering, watchWith}
+use Rattle.lines.proofs.Writing.{writes-then, writes-as, writes-all, reaches}
 use Rattle.report.proofs.Walking.{turn-is}
 use Rattle.report.proofs.Offered.{named-short, made-slot, made-small, line-unknown, line-offered}
 use Rattle.report.proofs.Walk.named.Statement.{statement}
@@ -89,7 +89,7 @@ returns : tie.Need-returns
 unfolding offering offeredName offered
 returns c =
     let start = c .before .before .before .before .before .before .before .before .before .before .before .before .before .before .before in
-    let w = watchWith (start .args .self) (start .args .image .now) (start .args .table .now) (start .args .names .now) (start .args .bytes .now) (start .args .words .now) in
+    let w = watchWith (walkIn (start .args .self)) (start .args .image .now) (start .args .table .now) (start .args .names .now) (start .args .bytes .now) (start .args .words .now) in
     let unknown = missing _ _ (c .before .before .before .before .before .symbol .ensures) (c .before .before .before .enum-told .given .1) in
     let all =
     writes-all
@@ -104,7 +104,7 @@ returns-2 : tie.Need-returns-2
 unfolding offering offeredName offered
 returns-2 c =
     let start = c .before .before .before .before .before .before .before .before .before .before .before .before .before .before .before .before .before .before .before .before .before .before .before in
-    let w = watchWith (start .args .self) (start .args .image .now) (start .args .table .now) (start .args .names .now) (start .args .bytes .now) (start .args .words .now) in
+    let w = watchWith (walkIn (start .args .self)) (start .args .image .now) (start .args .table .now) (start .args .names .now) (start .args .bytes .now) (start .args .words .now) in
     let known = found _ _ _ (c .before .before .before .before .before .before .before .before .before .before .before .before .before .symbol .ensures) (c .before .before .before .before .before .before .before .before .before .before .before .a .given .1) in
     let line = line-offered w (start .args .x .now) _ _ _ _ known (c .before .before .before .before .before .before .before .offer .ensures) in
     let all =

@@ -4,7 +4,8 @@ use Rattle.report.proofs.Walking.{turn-place, run-inside, run-bytes, ru
 use mathlib.Core.Path.{refl}
 use native.Mathlib.Omega.{arith}
 use borrow.Author.Needs.{needs}
-use Rattle.report.specs.Turns.{watchWith}
+use Rattle.report.specs.Lent.{walkIn}
+use Rattle.printing.specs.Turns.{watchWith}
 use Rattle.report.proofs.Walk.turn.Statement.{statement}
 use Rattle.report.proofs.Walk.turn.Tie as tie
 
@@ -14,7 +15,7 @@ over-requires c κs = search needs
 returns : tie.Need-returns
 returns c =
     let start = c .before .before .before .before .before in
-    let w = watchWith (start .args .self) (start .args .image .now) (start .args .table .now) (start .args .names .now) (start .args .bytes .now) (start .args .words .now) in (
+    let w = watchWith (walkIn (start .args .self)) (start .args .image .now) (start .args .table .now) (start .args .names .now) (start .args .bytes .now) (start .args .words .now) in (
       turn-nothing _ w _ _ _ _ _ (next-long w (start .args .input .now) (start .args .self .at) (c .before .if1 .taken)) (c .over .ensures) refl,
       (rw (c .over .ensures) (omega arith), λ some-line. absurd (some-line (rw (c .over .ensures)))),
     )
@@ -25,7 +26,7 @@ over-requires-2 c κs = search needs
 returns-2 : tie.Need-returns-2
 returns-2 c =
     let start = c .before .before .before .before .before .before in
-    let w = watchWith (start .args .self) (start .args .image .now) (start .args .table .now) (start .args .names .now) (start .args .bytes .now) (start .args .words .now) in (
+    let w = watchWith (walkIn (start .args .self)) (start .args .image .now) (start .args .table .now) (start .args .names .now) (start .args .bytes .now) (start .args .words .now) in (
       turn-nothing _ w _ _ _ _ _ (next-end w (start .args .input .now) (start .args .self .at) (c .before .if2 .taken)) (c .over2 .ensures) refl,
       (rw (c .over2 .ensures) (omega arith), λ some-line. absurd (some-line (rw (c .over2 .ensures)))),
     )
@@ -54,7 +55,7 @@ over-requires-3 c κs = search needs
 returns-3 : tie.Need-returns-3
 returns-3 c =
     let start = c .before .before .before .before .before .before .before .before .before .before .before in
-    let w = watchWith (start .args .self) (start .args .image .now) (start .args .table .now) (start .args .names .now) (start .args .bytes .now) (start .args .words .now) in (
+    let w = watchWith (walkIn (start .args .self)) (start .args .image .now) (start .args .table .now) (start .args .names .now) (start .args .bytes .now) (start .args .words .now) in (
       turn-nothing _ w _ _ _ _ _ (next-none (c .before .before .before .before .before .before .before .before .before .before .before .args .input .now) (c .before .before .before .before .before .before .before .before .before .before .before .args .self .at) _ (c .before .before .before .before .first-run .ensures) (c .before .before .before .before .before .before .if2 .left) w (c .before .before .before .before .before .before .before .if1 .left) (c .before .if3 .taken)) (c .over3 .ensures) refl,
       (rw (c .over3 .ensures) (omega arith), λ some-line. absurd (some-line (rw (c .over3 .ensures)))),
     )
@@ -75,7 +76,7 @@ returns-4 : tie.Need-returns-4
 returns-4 c =
     let start = c .before .before .before .before .before .before .before .before .before .before .before .before .before .before .before in
     let input = start .args .input .now in
-    let w = watchWith (start .args .self) (start .args .image .now) (start .args .table .now) (start .args .names .now) (start .args .bytes .now) (start .args .words .now) in
+    let w = watchWith (walkIn (start .args .self)) (start .args .image .now) (start .args .table .now) (start .args .names .now) (start .args .bytes .now) (start .args .words .now) in
     let next = next-some (c .before .before .before .before .before .before .before .before .before .before .before .before .before .before .before .args .input .now) (c .before .before .before .before .before .before .before .before .before .before .before .before .before .before .before .args .self .at) _ (c .before .before .before .before .before .before .before .before .first-run .ensures) (c .before .before .before .before .before .before .before .before .before .before .if2 .left) w (c .before .before .before .before .before .before .before .before .before .before .before .if1 .left) (c .before .before .before .before .before .if3 .left) in
     let bytes = run-bytes (c .before .before .before .before .before .before .before .before .before .before .before .before .before .before .before .args .input .now) (c .before .before .before .before .before .before .before .before .before .before .before .before .before .before .before .args .self .at) _ (c .before .before .before .before .before .before .before .before .first-run .ensures) (c .before .before .before .before .before .before .before .before .before .before .if2 .left) in
     let place = turn-place _ _ _ _ _ _ _ _ _ (c .named .ensures .0) in

@@ -7,10 +7,10 @@ use mathlib.Core.Logic.{⊎-elim}
 use native.Mathlib.Omega.{arith}
 use lib.Dec.{eqb}
 use borrow.Author.Needs.{needs}
-use Rattle.table.specs.Nodes.{tally}
-use Rattle.table.specs.Words.{transition}
+use Rattle.trie.specs.Nodes.{tally}
+use Rattle.layout.specs.Words.{transition}
 use Rattle.table.specs.Consistent.{differing}
-use Rattle.table.proofs.Tally.{tally-differ, tally-equal}
+use Rattle.trie.proofs.Tally.{tally-differ, tally-equal}
 use Rattle.table.proofs.compare.differences.Statement.{statement}
 use Rattle.table.proofs.compare.differences.Tie as tie
 

@@ -4,8 +4,8 @@ use Prim.Native.Nat.{_+_, _*_, _≤_}
 use mathlib.Core.Path.{sym, _∙_}
 use native.Mathlib.Omega.{arith}
 use borrow.Author.Needs.{needs}
-use Rattle.image.specs.Image.{read}
-use Rattle.image.proofs.Image.{valid-in-range}
+use Rattle.layout.specs.Image.{read}
+use Rattle.layout.proofs.Image.{valid-in-range}
 use Rattle.table.proofs.Compared.{table-small, part-lengths, short-table, other-states, other-symbols, compared}
 use Rattle.table.proofs.compare.holds.Statement.{statement}
 use Rattle.table.proofs.compare.holds.Tie as tie

@@ -6,8 +6,8 @@ use mathlib.Core.Path.{_≡_, refl}
 use native.Mathlib.Omega.{arith}
 use lib.ListN.{length, length-set}
 use borrow.Author.Needs.{needs}
-use Rattle.image.specs.Image.{read}
-use Rattle.image.proofs.Image.{valid-in-range}
+use Rattle.layout.specs.Image.{read}
+use Rattle.layout.proofs.Image.{valid-in-range}
 use Rattle.table.proofs.CheckLoop.{Checking, root-asks, checking-root, wrong-root, checking-end, node-room, failure-asks, no-failure, no-state, state-asks, checking-more}
 use Rattle.table.proofs.compare.states_hold.Statement.{statement}
 use Rattle.table.proofs.compare.states_hold.Tie as tie

@@ -8,9 +8,9 @@ use native.Mathlib.Omega.{arith}
 use lib.Dec.{eqb}
 use lib.ListN.{getD}
 use borrow.Author.Needs.{needs}
-use Rattle.table.specs.Nodes.{tally}
+use Rattle.trie.specs.Nodes.{tally}
 use Rattle.table.specs.Consistent.{leaving}
-use Rattle.table.proofs.Tally.{tally-differ, tally-equal}
+use Rattle.trie.proofs.Tally.{tally-differ, tally-equal}
 use Rattle.table.proofs.compare.transitions.Statement.{statement}
 use Rattle.table.proofs.compare.transitions.Tie as tie
 

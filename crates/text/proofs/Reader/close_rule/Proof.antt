@@ -4,7 +4,7 @@ use Prim.Native.Nat.{_*_}
 use native.Mathlib.Omega.{arith}
 use lib.ListN.{length-set}
 use borrow.Author.Needs.{needs}
-use Rattle.text.specs.Grammar.{closeRule}
+use Rattle.grammar.specs.Grammar.{closeRule}
 use Rattle.text.proofs.Keeping.{sets-four, keeps-rule}
 use Rattle.text.proofs.Reader.close_rule.Statement.{statement}
 use Rattle.text.proofs.Reader.close_rule.Tie as tie

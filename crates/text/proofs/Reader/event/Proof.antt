@@ -3,7 +3,7 @@
 use mathlib.Core.Path.{sym, _∙_}
 use borrow.Author.Needs.{needs}
 use Rattle.text.proofs.Places.{place-at}
-use Rattle.text.proofs.Slots.{name-short}
+use Rattle.grammar.proofs.Slots.{name-short}
 use Rattle.text.proofs.Keeping.{place-number, symbols-number}
 use Rattle.text.proofs.Taking.{event-twice, event-33, event-new}
 use Rattle.text.proofs.Reader.event.Statement.{statement}

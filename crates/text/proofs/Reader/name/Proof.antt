@@ -4,7 +4,7 @@ use mathlib.Core.Path.{refl, sym, _∙_}
 use mathlib.Core.List.{[]}
 use native.Mathlib.Omega.{arith}
 use borrow.Author.Needs.{needs}
-use Rattle.text.specs.Grammar.{InLeft, InRight}
+use Rattle.grammar.specs.Grammar.{InLeft, InRight}
 use Rattle.text.proofs.Places.{place-at}
 use Rattle.text.proofs.Keeping.{place-number, rules-number}
 use Rattle.text.proofs.Room.{symbol-room, first-room, left-room, right-room}

@@ -2,7 +2,7 @@
 -- Assumes nothing.
 use native.Mathlib.Omega.{arith}
 use borrow.Author.Needs.{needs}
-use Rattle.text.proofs.Slots.{name-short}
+use Rattle.grammar.proofs.Slots.{name-short}
 use Rattle.text.proofs.Keeping.{symbols-number}
 use Rattle.text.proofs.Taking.{ninth, symbol-33, side-longer}
 use Rattle.text.proofs.Reader.side_symbol.Statement.{statement}

@@ -2,8 +2,8 @@
 -- Assumes nothing.
 use mathlib.Core.Path.{refl}
 use borrow.Author.Needs.{needs}
-use Rattle.text.specs.Grammar.{afterRun, afterToken}
-use Rattle.text.specs.Scanned.{tokenAs}
+use Rattle.grammar.specs.Grammar.{afterRun, afterToken}
+use Rattle.tokens.specs.Scanned.{tokenAs}
 use Rattle.text.proofs.Reader.token.Statement.{statement}
 use Rattle.text.proofs.Reader.token.Tie as tie
 

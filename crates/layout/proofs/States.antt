@@ -1,0 +1,299 @@
+-- Laws of the list of states: which strings it holds, that each stands in it once, and how long it is.
+-- Assumes nothing.
+use Prim.Native.Nat.{ℕ, zero, suc, _+_, _*_, _≤_, _<_}
+use mathlib.Core.Path.{_≡_, refl, sym, ap, _∙_}
+use mathlib.Core.Bool.{Bool, true, false, cond, _&&_, _||_, or-false, or-assoc, and-false, and-or-distrib-left}
+use mathlib.Core.Logic.{_⊎_, inl, inr}
+use mathlib.Core.List.{List, [], _∷_, _++_, map, flatMap}
+use native.Mathlib.Omega.{arith}
+use native.Mathlib.Nat.{le-of-suc-le-suc, not-suc-le-zero}
+use lib.Dec.{eqb, ltb}
+use lib.ListN.{length, getD, drop, length-append, length-map, List·getD-append}
+use lib.Seq.{getD-at}
+use borrow.Author.Tests.{ltb-true, ltb-false, eqb-true, eqb-false, eq-eqb, ne-eqb}
+use Rattle.rewriting.specs.Lists.{all, same, prefix}
+use Rattle.rewriting.specs.Rules.{Rule, RuleSet, ruleInRange, inRange}
+use Rattle.rewriting.proofs.Lists.{and-left, and-right, or-cases, or-left, or-right, same-eq, same-refl, prefix-rest}
+use Rattle.rewriting.proofs.Ranges.{rule-ranges, ranges}
+use Rattle.layout.specs.States.{isPrefix, state, next, prefixes, known, numbered, states, number}
+use Rattle.layout.specs.Words.{text}
+use Rattle.layout.proofs.Matching.{state-is-prefix, next-child}
+
+eqb-sym : (x y : ℕ) → eqb x y ≡ eqb y x
+eqb-sym x y = go (eqb x y) refl
+  where
+    go : (b : Bool) → eqb x y ≡ b → b ≡ eqb y x
+    go true e = sym (eq-eqb y x (sym (eqb-true x y e)))
+    go false e = sym (ne-eqb y x (λ p. eqb-false x y e (sym p)))
+
+-- a string with a symbol added at its end is known by what it was before, and by that symbol
+pub snoc-parts : (u w : List ℕ) (x y : ℕ) → u ++ x ∷ [] ≡ w ++ y ∷ [] → (u ≡ w) × (x ≡ y)
+snoc-parts [] [] x y e = (refl, cc)
+snoc-parts [] (z ∷ w) x y e = absurd (omega (arith, simp length-append at (ap length e)))
+snoc-parts (z ∷ u) [] x y e = absurd (omega (arith, simp length-append at (ap length e)))
+snoc-parts (z ∷ u) (z′ ∷ w) x y e =
+    let rest : u ++ x ∷ [] ≡ w ++ y ∷ [] = cc in
+    let ih = snoc-parts u w x y rest in
+    ((cc), ih .1)
+
+pub snoc-some : (u : List ℕ) (x : ℕ) → u ++ x ∷ [] ≡ [] → ⊥
+snoc-some u x e = omega (arith, simp length-append at (ap length e))
+
+-- a string stands among two lists if it stands in one of them
+pub known-append : (s t : List (List ℕ)) (v : List ℕ) → known (s ++ t) v ≡ (known s v || known t v)
+unfolding known
+known-append [] t v = refl
+known-append (u ∷ s) t v = ap (λ (b : Bool). same u v || b) (known-append s t v) ∙ sym (or-assoc (same u v) (known s v) (known t v))
+
+-- after the strings of vs have got numbers, those of s and those of vs have one
+pub known-numbered : (s vs : List (List ℕ)) (v : List ℕ) → known (numbered s vs) v ≡ (known s v || known vs v)
+unfolding numbered known
+known-numbered s [] v = sym (or-false (known s v))
+known-numbered s (w ∷ vs) v = known-numbered (cond (known s w) s (s ++ w ∷ [])) vs v ∙ go (known s w) refl
+  where
+    old : (b : Bool) → same w v ≡ b → known s w ≡ true → (known s v || known vs v) ≡ (known s v || (b || known vs v))
+    old true e k = let p : w ≡ v = same-eq w v e in let q : known s v ≡ true = rw (← p) k in rw q
+    old false e k = refl
+
+    go : (b : Bool) → known s w ≡ b → (known (cond b s (s ++ w ∷ [])) v || known vs v) ≡ (known s v || (same w v || known vs v))
+    go true e = old (same w v) refl e
+    go false e = rw (known-append s (w ∷ []) v, or-false, or-assoc)
+
+-- a symbol put before each string of a list
+known-map : (y x : ℕ) (v : List ℕ) (s : List (List ℕ)) → known (map (λ u. y ∷ u) s) (x ∷ v) ≡ (eqb y x && known s v)
+unfolding known
+known-map y x v [] = sym (and-false (eqb y x))
+known-map y x v (u ∷ s) = rw (known-map y x v s, and-or-distrib-left)
+
+-- the list of a left side's prefixes holds them all, but for the empty one
+known-prefixes : (l v : List ℕ) → (same [] v || known (prefixes l) v) ≡ prefix v l
+unfolding known prefixes
+known-prefixes l [] = refl
+known-prefixes [] (x ∷ v) = refl
+known-prefixes (y ∷ l) (x ∷ v) = rw (known-map y x v (prefixes l), ← and-or-distrib-left, known-prefixes l v, eqb-sym y x)
+
+-- the states are the empty string and the prefixes of left sides
+pub known-states : (rules : List Rule) (v : List ℕ) → known (states rules) v ≡ (same [] v || isPrefix rules v)
+unfolding states known flatMap isPrefix
+known-states rules v = known-numbered ([] ∷ []) (flatMap (λ r. prefixes (r .left)) rules) v ∙ rw or-false (walk rules v)
+  where
+    walk : (rules : List Rule) (v : List ℕ)
+        → (same [] v || known (flatMap (λ r. prefixes (r .left)) rules) v) ≡ (same [] v || isPrefix rules v)
+    walk rules [] = refl
+    walk [] (x ∷ v) = refl
+    walk (r ∷ rules) (x ∷ v) =
+        known-append (prefixes (r .left)) (flatMap (λ r. prefixes (r .left)) rules) (x ∷ v)
+        ∙ rw (known-prefixes (r .left) (x ∷ v), walk rules (x ∷ v))
+
+pub known-nil : (rules : List Rule) → known (states rules) [] ≡ true
+known-nil rules = known-states rules []
+
+-- every prefix of a left side is a state
+pub prefix-known : (rules : List Rule) (v : List ℕ) → isPrefix rules v ≡ true → known (states rules) v ≡ true
+prefix-known rules v e = known-states rules v ∙ or-right (same [] v) (isPrefix rules v) e
+
+-- and every state is one, or empty
+pub known-prefix : (rules : List Rule) (v : List ℕ) → known (states rules) v ≡ true → (v ≡ []) ⊎ (isPrefix rules v ≡ true)
+known-prefix rules [] e = inl refl
+known-prefix rules (x ∷ v) e = inr (sym (known-states rules (x ∷ v)) ∙ e)
+
+-- a string with a symbol added is a state just where it is a prefix of a left side
+pub known-snoc : (rules : List Rule) (v : List ℕ) (a : ℕ) → known (states rules) (v ++ a ∷ []) ≡ isPrefix rules (v ++ a ∷ [])
+known-snoc rules [] a = known-states rules (a ∷ [])
+known-snoc rules (y ∷ v) a = known-states rules (y ∷ v ++ a ∷ [])
+
+-- and then it is the next state
+pub next-listed : (rules : List Rule) (v : List ℕ) (a : ℕ) → known (states rules) (v ++ a ∷ []) ≡ true → next rules v a ≡ v ++ a ∷ []
+next-listed rules v a k = next-child rules v a (sym (known-snoc rules v a) ∙ k)
+
+-- what a string leads to is a state
+pub state-known : (rules : List Rule) (p : List ℕ) → known (states rules) (state rules p) ≡ true
+state-known rules p = go (state-is-prefix rules p)
+  where
+    go : (state rules p ≡ []) ⊎ (isPrefix rules (state rules p) ≡ true) → known (states rules) (state rules p) ≡ true
+    go (inl e) = rw e (known-nil rules)
+    go (inr e) = prefix-known rules (state rules p) e
+
+pub next-known : (rules : List Rule) (q : List ℕ) (a : ℕ) → known (states rules) (next rules q a) ≡ true
+unfolding next
+next-known rules q a = state-known rules (q ++ a ∷ [])
+
+-- the number of a string that stands in the list is its place
+pub number-at : (s : List (List ℕ)) (v : List ℕ) → known s v ≡ true → (number s v < length s) × (getD s (number s v) [] ≡ v)
+unfolding known number
+number-at [] v e = let z : _≡_ {A = ℕ} 0 1 = cc in absurd (omega arith)
+number-at (u ∷ s) v e = go (same u v) refl e (number-at s v)
+  where
+    go : (b : Bool) → same u v ≡ b → (b || known s v) ≡ true
+        → (known s v ≡ true → (number s v < length s) × (getD s (number s v) [] ≡ v))
+        → (number (u ∷ s) v < length (u ∷ s)) × (getD (u ∷ s) (number (u ∷ s) v) [] ≡ v)
+    go true p k ih = rw p (omega arith, same-eq u v p)
+    go false p k ih = rw p (let h : number s v < length s = ih k .0 in omega arith, ih k .1)
+
+-- a next state has a number
+pub next-below : (rules : List Rule) (q : List ℕ) (a : ℕ) → number (states rules) (next rules q a) < length (states rules)
+next-below rules q a = number-at (states rules) (next rules q a) (next-known rules q a) .0
+
+-- each string of the list stands in it
+pub known-at : (s : List (List ℕ)) (i : ℕ) → i < length s → known s (getD s i []) ≡ true
+unfolding known
+known-at [] i h = absurd (not-suc-le-zero h)
+known-at (u ∷ s) zero h = or-left (same u u) (known s u) (same-refl u)
+known-at (u ∷ s) (suc i) h =
+    or-right (same u (getD s i [])) (known s (getD s i [])) (known-at s i (le-of-suc-le-suc h))
+
+-- each state listed is empty or a prefix of a left side
+pub listed-prefix : (rules : List Rule) (i : ℕ) → i < length (states rules)
+    → (text rules i ≡ []) ⊎ (isPrefix rules (text rules i) ≡ true)
+listed-prefix rules i h = known-prefix rules (text rules i) (known-at (states rules) i h)
+
+-- a string keeps its number when others follow
+pub number-old : (s t : List (List ℕ)) (v : List ℕ) → known s v ≡ true → number (s ++ t) v ≡ number s v
+unfolding known number
+number-old [] t v e = let z : _≡_ {A = ℕ} 0 1 = cc in absurd (omega arith)
+number-old (u ∷ s) t v e = go (same u v) refl e (number-old s t v)
+  where
+    go : (b : Bool) → same u v ≡ b → (b || known s v) ≡ true → (known s v ≡ true → number (s ++ t) v ≡ number s v)
+        → number (u ∷ s ++ t) v ≡ number (u ∷ s) v
+    go true p k ih = rw p
+    go false p k ih = rw (p, ih k)
+
+-- a new string gets the next number
+pub number-new : (s : List (List ℕ)) (v : List ℕ) → known s v ≡ false → number (s ++ v ∷ []) v ≡ length s
+unfolding known number
+number-new [] v e = rw (same-refl v)
+number-new (u ∷ s) v e = go (same u v) refl e (number-new s v)
+  where
+    go : (b : Bool) → same u v ≡ b → (b || known s v) ≡ false → (known s v ≡ false → number (s ++ v ∷ []) v ≡ length s)
+        → number (u ∷ s ++ v ∷ []) v ≡ suc (length s)
+    go true p k ih = let z : _≡_ {A = ℕ} 0 1 = cc in absurd (omega arith)
+    go false p k ih = rw (p, ih k)
+
+-- what holds of a list and of it with a new string added holds when strings get numbers
+numbered-keeps : (P : List (List ℕ) → Type 0) → ((s : List (List ℕ)) (v : List ℕ) → known s v ≡ false → P s → P (s ++ v ∷ []))
+    → (s vs : List (List ℕ)) → P s → P (numbered s vs)
+unfolding numbered
+numbered-keeps P grow s [] h = h
+numbered-keeps P grow s (v ∷ vs) h = numbered-keeps P grow (cond (known s v) s (s ++ v ∷ [])) vs (go (known s v) refl)
+  where
+    go : (b : Bool) → known s v ≡ b → P (cond b s (s ++ v ∷ []))
+    go true e = h
+    go false e = grow s v e h
+
+first-state : (rules : List Rule) → (0 < length (states rules)) × (text rules 0 ≡ [])
+unfolding states
+first-state rules =
+    numbered-keeps (λ s. (0 < length s) × (getD s 0 [] ≡ []))
+    (λ s v new h. (simp length-append (omega arith), List·getD-append s (v ∷ []) [] 0 (h .0) ∙ h .1))
+    ([] ∷ []) (flatMap (λ r. prefixes (r .left)) rules) (omega arith, refl)
+
+pub some-state : (rules : List Rule) → 0 < length (states rules)
+some-state rules = first-state rules .0
+
+-- the empty string is state 0
+pub state-zero : (rules : List Rule) → text rules 0 ≡ []
+state-zero rules = first-state rules .1
+
+-- each string of the list stands in it once
+abbrev pub Once : List (List ℕ) → Type 0
+Once s = (i : ℕ) → i < length s → number s (getD s i []) ≡ i
+
+pub once-new : (s : List (List ℕ)) (v : List ℕ) → known s v ≡ false → Once s → Once (s ++ v ∷ [])
+once-new s v new once i h = go (ltb i (length s)) refl
+  where
+    go : (b : Bool) → ltb i (length s) ≡ b → number (s ++ v ∷ []) (getD (s ++ v ∷ []) i []) ≡ i
+    go true e =
+        let lt : i < length s = ltb-true i (length s) e in
+        rw (List·getD-append s (v ∷ []) [] i lt, number-old s (v ∷ []) (getD s i []) (known-at s i lt)) (once i lt)
+    go false e =
+        let here : length s ≡ i = omega (arith, ltb-false i (length s) e, simp length-append at h) in
+        rw (getD-at s v [] [] i here, number-new s v new) here
+
+-- no state stands twice: the number of the state at place i is i
+pub number-back : (rules : List Rule) (i : ℕ) → i < length (states rules) → number (states rules) (text rules i) ≡ i
+unfolding states number
+number-back rules =
+    numbered-keeps Once once-new ([] ∷ []) (flatMap (λ r. prefixes (r .left)) rules) first
+  where
+    first : Once ([] ∷ [])
+    first zero h = refl
+    first (suc i) h = absurd (omega arith)
+
+pub number-zero : (rules : List Rule) → number (states rules) [] ≡ 0
+number-zero rules = rw state-zero at (number-back rules 0 (some-state rules))
+
+-- a child's number is not 0
+pub child-some : (rules : List Rule) (v : List ℕ) (a : ℕ) → known (states rules) (v ++ a ∷ []) ≡ true
+    → number (states rules) (v ++ a ∷ []) ≡ 0 → ⊥
+child-some rules v a k e =
+    snoc-some v a
+    (sym (number-at (states rules) (v ++ a ∷ []) k .1)
+    ∙ ap (text rules) e
+    ∙ state-zero rules)
+
+-- each state but the first has a symbol
+pub state-long : (rules : List Rule) (c : ℕ) → 0 < c → c < length (states rules) → 0 < length (text rules c)
+state-long rules c pos below = go (text rules c) refl
+  where
+    go : (v : List ℕ) → text rules c ≡ v → 0 < length v
+    go [] e =
+        let zero-too : c ≡ 0 = sym (number-back rules c below) ∙ ap (number (states rules)) e ∙ number-zero rules in
+        absurd (omega arith)
+    go (y ∷ w) e = omega arith
+
+pub length-numbered : (s vs : List (List ℕ)) → length (numbered s vs) ≤ length s + length vs
+unfolding numbered
+length-numbered s [] = omega arith
+length-numbered s (v ∷ vs) = go (known s v) (length-numbered (cond (known s v) s (s ++ v ∷ [])) vs)
+  where
+    go : (b : Bool) → length (numbered s (v ∷ vs)) ≤ length (cond b s (s ++ v ∷ [])) + length vs
+        → length (numbered s (v ∷ vs)) ≤ length s + length (v ∷ vs)
+    go true h = omega arith
+    go false h = omega (arith, simp length-append at h)
+
+pub length-prefixes : (l : List ℕ) → length (prefixes l) ≡ length l
+unfolding prefixes
+length-prefixes [] = refl
+length-prefixes (x ∷ l) = rw (length-map, length-prefixes l)
+
+pub few-prefixes : (set : RuleSet) (rules : List Rule) → all (ruleInRange set) rules ≡ true
+    → length (flatMap (λ r. prefixes (r .left)) rules) ≤ 8 * length rules
+unfolding flatMap
+few-prefixes set [] e = omega arith
+few-prefixes set (r ∷ rules) e =
+    let rest = few-prefixes set rules (and-right (ruleInRange set r) (all (ruleInRange set) rules) e) in
+    let own = rule-ranges set r (and-left (ruleInRange set r) (all (ruleInRange set) rules) e) in
+    simp (length-append, length-prefixes) (omega arith)
+
+-- "N is at most 513": the empty string, and at most 64 left sides with at most 8 prefixes each
+pub few-states : (set : RuleSet) → inRange set ≡ true → length (states (set .rules)) ≤ 513
+unfolding states
+few-states set e =
+    let h = ranges set e in
+    let few = few-prefixes set (set .rules) (h .all-rules) in
+    omega (arith, length-numbered ([] ∷ []) (flatMap (λ r. prefixes (r .left)) (set .rules)))
+
+-- a prefix of a left side has at most 8 symbols, and so has each state
+prefix-short : (set : RuleSet) (rules : List Rule) → all (ruleInRange set) rules ≡ true
+    → (v : List ℕ) → isPrefix rules v ≡ true → length v ≤ 8
+unfolding isPrefix
+prefix-short set [] e v p = let z : _≡_ {A = ℕ} 0 1 = cc in absurd (omega arith)
+prefix-short set (r ∷ rules) e v p =
+    go (or-cases (prefix v (r .left)) (isPrefix rules v) p)
+    (prefix-short set rules (and-right (ruleInRange set r) (all (ruleInRange set) rules) e) v)
+  where
+    go : (prefix v (r .left) ≡ true) ⊎ (isPrefix rules v ≡ true) → (isPrefix rules v ≡ true → length v ≤ 8) → length v ≤ 8
+    go (inl h) ih =
+        let own = rule-ranges set r (and-left (ruleInRange set r) (all (ruleInRange set) rules) e) in
+        let size : length (r .left) ≡ length v + length (drop (length v) (r .left)) =
+        ap length (prefix-rest v (r .left) h) ∙ length-append v (drop (length v) (r .left))
+        in
+        omega (arith, own .short-left)
+    go (inr h) ih = ih h
+
+pub short-state : (set : RuleSet) → inRange set ≡ true → (c : ℕ) → c < length (states (set .rules)) → length (text (set .rules) c) ≤ 8
+short-state set e c h = go (listed-prefix (set .rules) c h)
+  where
+    go : (text (set .rules) c ≡ []) ⊎ (isPrefix (set .rules) (text (set .rules) c) ≡ true) → length (text (set .rules) c) ≤ 8
+    go (inl p) = let size = ap length p in omega arith
+    go (inr p) = prefix-short set (set .rules) (ranges set e .all-rules) (text (set .rules) c) p

@@ -1,0 +1,24 @@
+-- States by their numbers, and the words of rows and match words, as the code meets them.
+use Prim.Native.Nat.{ℕ, _+_, _*_}
+use mathlib.Core.Bool.{cond}
+use mathlib.Core.List.{List, []}
+use lib.Dec.{eqb}
+use lib.ListN.{getD, drop}
+use Rattle.rewriting.specs.Rules.{Rule}
+use Rattle.layout.specs.States.{state, states}
+
+-- the string of state c
+abbrev pub text : List Rule → ℕ → List ℕ
+text rules c = getD (states rules) c []
+
+-- the failure state of v, a state other than the empty one: the state of v without its first symbol
+abbrev pub failureState : List Rule → List ℕ → List ℕ
+failureState rules v = state rules (drop 1 v)
+
+-- the next state of q on symbol a, in rows of so many symbols
+abbrev pub transition : List ℕ → ℕ → ℕ → ℕ → ℕ
+transition rows symbols q a = getD rows (q * symbols + a) 0
+
+-- a word of a state's own, or where that is 0 its failure state's
+abbrev pub ownOr : ℕ → ℕ → ℕ
+ownOr own other = cond (eqb own 0) other own

@@ -1,0 +1,2 @@
+-- What the functions that write a line promise.
+pub mod Wrote

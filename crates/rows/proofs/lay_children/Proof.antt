@@ -1,0 +1,163 @@
+-- `table::rows::lay_children` meets its contract. The loop's invariant: the children below `c` are laid.
+-- Assumes nothing.
+use Prim.Native.Nat.{ℕ, _+_, _*_, _≤_, _<_, _-_}
+use mathlib.Core.Path.{_≡_, refl, ap, _∙_}
+use native.Mathlib.Omega.{arith}
+use lib.ListN.{length, replicate, length-set, length-replicate}
+use borrow.Author.Needs.{needs}
+use Rattle.layout.specs.Image.{read}
+use Rattle.layout.proofs.Image.{valid-in-range}
+use Rattle.layout.specs.States.{states}
+use Rattle.trie.specs.Nodes.{parent, symbol}
+use Rattle.layout.proofs.States.{some-state}
+use Rattle.rows.proofs.Laying.{LaidBelow, laid-none, laid-more, laid-all, Within, within}
+use Rattle.rows.proofs.lay_children.Statement.{statement}
+use Rattle.rows.proofs.lay_children.Tie as tie
+
+abbrev Inv-loop : tie.InvT-loop
+Inv-loop image trie n rows₀ s c₀ rows c =
+    (0 < c) × (c ≤ n) × (length rows ≡ length rows₀) × LaidBelow (read image) rows c
+
+abbrev μ-loop : tie.MeasureT-loop
+μ-loop image trie n rows₀ s c₀ rows c = n - c
+
+-- the rows have their length at each turn
+sized : (c : tie.At-loop Inv-loop μ-loop)
+    → length (c .loop .rows)
+    ≡ length (states (read (c .before .before .before .before .before .args .image .now) .rules))
+    * read (c .before .before .before .before .before .args .image .now) .symbols
+sized c =
+    let start = c .before .before .before .before .before in
+    c .loop .inv .2 ∙ ap length (start .pre .1 .1 .1) ∙ length-replicate _ 0
+    ∙ ap (λ (n : ℕ). n * read (start .args .image .now) .symbols) (start .pre .1 .1 .0)
+
+bounds : (c : tie.In-loop Inv-loop μ-loop)
+    → Within (c .before .before .before .before .before .before .args .trie .now) (c .before .loop .rows)
+    (read (c .before .before .before .before .before .before .args .image .now) .symbols) (c .before .loop .c)
+bounds c =
+    let start = c .before .before .before .before .before .before in
+    within (read (start .args .image .now)) (start .args .trie .now) (c .before .loop .rows)
+    (valid-in-range (start .args .image .now) (start .pre .0)) (start .pre .1 .0) (sized (c .before)) (c .before .loop .c)
+    (c .before .loop .inv .0) (omega arith)
+
+-- the word that is stored is the one of the node in its parent's row
+place : (c : tie.After-wide2 Inv-loop μ-loop)
+    → c .before .before .wide .result * c .before .before .before .before .before .before .symbols .result + c .wide2 .result
+    ≡ parent (c .before .before .before .before .before .before .before .before .before .before .args .trie .now)
+    (c .before .before .before .before .before .loop .c)
+    * read (c .before .before .before .before .before .before .before .before .before .before .args .image .now) .symbols
+    + symbol (c .before .before .before .before .before .before .before .before .before .before .args .trie .now)
+    (c .before .before .before .before .before .loop .c)
+place c = rw (c .before .before .wide .ensures, c .before .before .before .before .before .before .symbols .ensures, c .wide2 .ensures)
+
+symbols-requires : tie.Need-symbols-requires Inv-loop μ-loop
+symbols-requires c κs = search needs
+
+loop-holds : tie.Need-loop-holds Inv-loop μ-loop
+loop-holds c =
+    let start = c .before .before .before .before in (
+      omega arith,
+      omega (arith, some-state (read (start .args .image .now) .rules)),
+      refl,
+      laid-none (read (start .args .image .now)) (start .args .rows .now)
+          (start .pre .1 .1 .1
+          ∙ ap (λ (n : ℕ). replicate (n * read (start .args .image .now) .symbols) 0) (start .pre .1 .1 .0)),
+    )
+
+mul-wide : tie.Need-mul-wide Inv-loop μ-loop
+mul-wide c = omega (arith, bounds c)
+
+mul-wide-2 : tie.Need-mul-wide-2 Inv-loop μ-loop
+mul-wide-2 c = omega (arith, bounds c)
+
+shared-slice-read-wide : tie.Need-shared-slice-read-wide Inv-loop μ-loop
+shared-slice-read-wide c = omega (arith, bounds (c .before))
+
+wide-requires : tie.Need-wide-requires Inv-loop μ-loop
+wide-requires c κs = search needs
+
+mul-wide-3 : tie.Need-mul-wide-3 Inv-loop μ-loop
+mul-wide-3 c = omega (arith, bounds (c .before .before))
+
+add-wide : tie.Need-add-wide Inv-loop μ-loop
+add-wide c = omega (arith, bounds (c .before .before))
+
+mul-wide-4 : tie.Need-mul-wide-4 Inv-loop μ-loop
+mul-wide-4 c = omega (arith, bounds (c .before .before))
+
+shared-slice-read-wide-2 : tie.Need-shared-slice-read-wide-2 Inv-loop μ-loop
+shared-slice-read-wide-2 c = omega (arith, bounds (c .before .before .before))
+
+wide-requires-2 : tie.Need-wide-requires-2 Inv-loop μ-loop
+wide-requires-2 c κs = search needs
+
+cast-rows : tie.Need-cast-rows Inv-loop μ-loop
+cast-rows c = omega (arith, bounds (c .before .before .before .before))
+
+mul-rows : tie.Need-mul-rows Inv-loop μ-loop
+mul-rows c = omega (arith, place c, bounds (c .before .before .before .before))
+
+add-rows : tie.Need-add-rows Inv-loop μ-loop
+add-rows c = omega (arith, place c, bounds (c .before .before .before .before))
+
+mul-rows-2 : tie.Need-mul-rows-2 Inv-loop μ-loop
+mul-rows-2 c = omega (arith, place c, bounds (c .before .before .before .before))
+
+slice-write-rows : tie.Need-slice-write-rows Inv-loop μ-loop
+slice-write-rows c = omega (arith, place c, bounds (c .before .before .before .before))
+
+add-c : tie.Need-add-c Inv-loop μ-loop
+add-c c = omega arith
+
+loop-less : tie.Need-loop-less Inv-loop μ-loop
+loop-less c = omega arith
+
+loop-again : tie.Need-loop-again Inv-loop μ-loop
+loop-again c =
+    let start = c .before .before .before .before .before .before .before .before .before .before in
+    let turn = c .before .before .before .before .before .loop in (
+      omega arith,
+      omega arith,
+      simp length-set (turn .inv .2),
+      rw (place c)
+          (laid-more (read (start .args .image .now)) (start .args .trie .now) (turn .rows) (turn .c) (start .pre .1 .0)
+          (sized (c .before .before .before .before .before)) (turn .inv .0) (omega arith) (turn .inv .3)),
+    )
+
+same-length : tie.Need-same-length Inv-loop μ-loop
+same-length c = c .before .loop .inv .2
+
+returns : tie.Need-returns Inv-loop μ-loop
+returns c =
+    let start = c .before .before .before .before .before .before in
+    let turn = c .before .loop in
+    let all : turn .c ≡ length (states (read (start .args .image .now) .rules)) = omega arith in
+    laid-all (read (start .args .image .now)) (turn .rows) (sized (c .before)) (rw all at (turn .inv .3))
+
+pub lay-children-spec : {M : Type 1} → statement M
+lay-children-spec =
+    tie.close
+    (tie.spec
+    Inv-loop
+    μ-loop
+    symbols-requires
+    loop-holds
+    mul-wide
+    mul-wide-2
+    shared-slice-read-wide
+    wide-requires
+    mul-wide-3
+    add-wide
+    mul-wide-4
+    shared-slice-read-wide-2
+    wide-requires-2
+    cast-rows
+    mul-rows
+    add-rows
+    mul-rows-2
+    slice-write-rows
+    add-c
+    loop-less
+    loop-again
+    same-length
+    returns)

@@ -1,0 +1,185 @@
+-- The bytes of a run, one by one: the loop over the bytes of a name.
+-- Assumes nothing.
+use Prim.Native.Nat.{ℕ, suc, _+_, _-_, _≤_, _<_}
+use mathlib.Core.Path.{_≡_, refl, sym, ap, _∙_}
+use mathlib.Core.Bool.{Bool, true, false}
+use mathlib.Core.Option.{none}
+use mathlib.Core.List.{List, [], _∷_}
+use native.Mathlib.Omega.{arith}
+use native.Mathlib.Numerals.{add-one}
+use lib.Dec.{eqb, ltb}
+use lib.ListN.{length, getD, take, drop, length-drop, drop-of-length-le, List·getD-eq-default}
+use lib.Seq.{drop-cons, drop-drop}
+use borrow.Rule.Slice.PartAt.{part-to-end}
+use borrow.Author.Tests.{ltb-true, ltb-false, eqb-true}
+use Rattle.rewriting.specs.Lists.{all}
+use Rattle.tokens.specs.declared.Kind.{Kind}
+use Rattle.grammar.specs.Tokens.{separator, nameByte, unbroken, tokenOf}
+use Rattle.tokens.specs.Scanned.{lead, kindOf, tokenAs, Named}
+use Rattle.tokens.proofs.ByteTests.{false-true, name-no-separator}
+use Rattle.grammar.proofs.Runs.{unbroken-le, unbroken-take, restOf, stopOf}
+use Rattle.tokens.proofs.TokenOf.{nameOf, told}
+
+-- the byte at a place, and a space behind the last
+pub byte-here : (t : List ℕ) (i : ℕ) → i < length t → getD t i 0 ≡ getD t i 32
+byte-here t i h = let e : getD t i 0 ∷ drop (suc i) t ≡ getD t i 32 ∷ drop (suc i) t = sym (drop-cons t i 0 h) ∙ drop-cons t i 32 h in ap (λ (l : List ℕ). getD l 0 0) e
+
+-- A separator ends a run; any other byte is in it.
+module _ (text : List ℕ) (i : ℕ) where
+  pub rest-none : separator (getD text i 32) ≡ true → restOf text i ≡ []
+  unfolding unbroken
+  rest-none e = go (ltb i (length text)) refl
+    where
+      go : (h : Bool) → ltb i (length text) ≡ h → restOf text i ≡ []
+      go true h = rw (drop-cons text i 32 (ltb-true i (length text) h), e)
+      go false h = rw (drop-of-length-le text (ltb-false i (length text) h))
+
+  pub rest-inside : separator (getD text i 32) ≡ false → i < length text
+  unfolding separator
+  rest-inside e = go (ltb i (length text)) refl
+    where
+      go : (h : Bool) → ltb i (length text) ≡ h → i < length text
+      go true h = ltb-true i (length text) h
+      go false h =
+          let space : getD text i 32 ≡ 32 = List·getD-eq-default text 32 {n = i} (ltb-false i (length text) h) in
+          absurd (false-true (sym (rw space at e)))
+
+  pub rest-byte : separator (getD text i 32) ≡ false → restOf text i ≡ getD text i 32 ∷ restOf text (i + 1)
+  unfolding unbroken
+  rest-byte e = rw (add-one, drop-cons text i 32 (rest-inside e), e)
+
+-- What stands before a name is in its run: the name is what is left of the run behind it.
+abbrev Leads : List ℕ → Type 0
+Leads t =
+    (unbroken (drop (lead t) t) ≡ nameOf (unbroken t)) × (length (unbroken t) ≡ lead t + length (unbroken (drop (lead t) t)))
+
+leads-dash : (t : List ℕ) → Leads (45 ∷ t)
+unfolding lead unbroken separator
+leads-dash [] = (refl, refl)
+leads-dash (y ∷ u) = arrow (eqb 62 y) refl
+  where
+    other : (h : Bool) → separator y ≡ h → eqb 62 y ≡ false → Leads (45 ∷ y ∷ u)
+    other true e f = rw (f, e) (refl, omega arith)
+    other false e f = rw (f, e, f) (refl, omega arith)
+
+    arrow : (h : Bool) → eqb 62 y ≡ h → Leads (45 ∷ y ∷ u)
+    arrow true e = rw (← eqb-true 62 y e) (refl, omega arith)
+    arrow false e = other (separator y) refl e
+
+leads : (t : List ℕ) → Leads t
+unfolding lead unbroken separator
+leads [] = (refl, refl)
+leads (b ∷ t) = hash (eqb b 35) refl
+  where
+    other : (h : Bool) → separator b ≡ h → eqb b 35 ≡ false → eqb b 46 ≡ false → eqb b 45 ≡ false → Leads (b ∷ t)
+    other true e f g k = rw (f, g, k, e) (refl, omega arith)
+    other false e f g k = rw (f, g, k, e, f, g, k) (refl, omega arith)
+
+    dash : (h : Bool) → eqb b 45 ≡ h → eqb b 35 ≡ false → eqb b 46 ≡ false → Leads (b ∷ t)
+    dash true e f g = rw (eqb-true b 45 e) (leads-dash t)
+    dash false e f g = other (separator b) refl f g e
+
+    stop : (h : Bool) → eqb b 46 ≡ h → eqb b 35 ≡ false → Leads (b ∷ t)
+    stop true e f = rw (eqb-true b 46 e) (refl, omega arith)
+    stop false e f = dash (eqb b 45) refl f e
+
+    hash : (h : Bool) → eqb b 35 ≡ h → Leads (b ∷ t)
+    hash true e = rw (eqb-true b 35 e) (refl, omega arith)
+    hash false e = stop (eqb b 46) refl e
+
+-- The name of the run that begins at `start` begins at `from`.
+pub record Leading (text : List ℕ) (start from : ℕ) : Type 0 where
+  pub name : restOf text from ≡ nameOf (restOf text start)
+  pub stop : stopOf text start ≡ stopOf text from
+  pub behind : start ≤ from
+  pub within : from ≤ length text
+
+-- as it is counted in the part that begins at `start`
+pub leading :
+    (text : List ℕ) (start n : ℕ) → start ≤ length text → n ≡ lead (take (length text - start) (drop start text))
+    → Leading text start (start + n)
+leading text start n inside found =
+    let t : List ℕ = drop start text in
+    let counted : n ≡ lead t = rw part-to-end at found in
+    let rest : unbroken (drop (lead t) t) ≡ restOf text (start + n) = rw counted (ap unbroken (drop-drop (lead t) start text)) in
+    let size = leads t .1 in
+    record {
+      name = sym rest ∙ leads t .0;
+      stop = omega (arith, counted, size, ap length rest);
+      behind = omega arith;
+      within = omega (arith, counted, size, unbroken-le t, length-drop start text);
+    }
+
+-- The bytes from `from` to `end` may be in a name: those behind decide.
+pub record Scanning (text : List ℕ) (start from end : ℕ) : Type 0 where
+  pub stop : stopOf text start ≡ stopOf text end
+  pub passed : all nameByte (restOf text from) ≡ all nameByte (restOf text end)
+  pub behind : from ≤ end
+  pub within : end ≤ length text
+
+pub scanning-first : {text : List ℕ} {start from : ℕ} → Leading text start from → Scanning text start from from
+scanning-first l = record { stop = l .stop; passed = refl; behind = omega arith; within = l .within }
+
+module _ {text : List ℕ} {start from end : ℕ} (s : Scanning text start from end) where
+  pub scanning-inside : nameByte (getD text end 32) ≡ true → end < length text
+  scanning-inside e = rest-inside text end (name-no-separator (getD text end 32) e)
+
+  pub scanning-next : nameByte (getD text end 32) ≡ true → Scanning text start from (end + 1)
+  scanning-next e =
+      let byte = rest-byte text end (name-no-separator (getD text end 32) e) in
+      record {
+        stop = s .stop ∙ omega (arith, ap length byte);
+        passed = s .passed ∙ rw (byte, e);
+        behind = omega (arith, s .behind);
+        within = omega (arith, scanning-inside e);
+      }
+
+  -- a separator: here the run ends
+  pub scanning-stop : separator (getD text end 32) ≡ true → end ≡ stopOf text start
+  scanning-stop e = omega (arith, s .stop, ap length (rest-none text end e))
+
+  pub scanning-passed : separator (getD text end 32) ≡ true → all nameByte (restOf text from) ≡ true
+  scanning-passed e = s .passed ∙ rw (rest-none text end e)
+
+  -- neither
+  pub scanning-breaks : nameByte (getD text end 32) ≡ false → separator (getD text end 32) ≡ false → all nameByte (restOf text from) ≡ false
+  scanning-breaks e f = s .passed ∙ rw (rest-byte text end f, e)
+
+-- a part of a text, as a slice of it is handed on
+abbrev pub bytesOf : List ℕ → ℕ → ℕ → List ℕ
+bytesOf text i end = take (end - i) (drop i text)
+
+bytes-rest : (text : List ℕ) (i end : ℕ) → end ≡ stopOf text i → bytesOf text i end ≡ restOf text i
+bytes-rest text i end e =
+    let size : end - i ≡ length (restOf text i) = omega (arith, e) in
+    rw size (sym (unbroken-take (drop i text)))
+
+-- a run is not empty
+pub bytes-some : (text : List ℕ) (start end : ℕ) → end ≡ stopOf text start → start < end → 1 ≤ length (bytesOf text start end)
+bytes-some text start end e some = rw (bytes-rest text start end e) (omega (arith, e))
+
+module _ {text : List ℕ} {start from : ℕ} (l : Leading text start from) where
+  -- a byte of the name may not be in one
+  pub run-no-token : all nameByte (restOf text from) ≡ false → tokenOf (restOf text start) ≡ none
+  run-no-token e =
+      let by = told (restOf text start) .0 in
+      rw (← l .name, e) at by
+
+  -- all may: which token the run is, and that its name is a name
+  module _ (end : ℕ) (stop : end ≡ stopOf text start) (k : Kind) (kind : k ≡ kindOf (bytesOf text start end))
+      (passed : all nameByte (restOf text from) ≡ true) where
+    kind-rest : k ≡ kindOf (restOf text start)
+    kind-rest = kind ∙ ap kindOf (bytes-rest text start end stop)
+
+    named : bytesOf text from end ≡ restOf text from
+    named = bytes-rest text from end (stop ∙ l .stop)
+
+    pub run-token : tokenOf (restOf text start) ≡ tokenAs k (bytesOf text from end)
+    run-token =
+        let by = told (restOf text start) .0 in
+        rw (named, kind-rest) (rw (← l .name, passed) at by)
+
+    pub run-named : Named k (bytesOf text from end)
+    run-named =
+        let by = told (restOf text start) .1 in
+        rw (named, kind-rest) ((rw (← l .name) at by) passed)

@@ -1,0 +1,65 @@
+-- `text::tokens::gap_of` meets its contract. The loop's invariant: the separators are counted up to byte i.
+-- Assumes nothing.
+use Prim.Native.Nat.{_+_, _-_, _≤_}
+use mathlib.Core.Path.{_≡_, sym, _∙_}
+use native.Mathlib.Omega.{arith}
+use lib.ListN.{length, drop}
+use borrow.Author.Needs.{needs}
+use borrow.Author.Tests.{not-true, not-false}
+use Rattle.grammar.specs.FirstRun.{gap}
+use Rattle.grammar.proofs.Runs.{gap-stops, gap-passes, gap-ends}
+use Rattle.tokens.proofs.bytes.gap_of.Statement.{statement}
+use Rattle.tokens.proofs.bytes.gap_of.Tie as tie
+
+abbrev Inv-loop : tie.InvT-loop
+Inv-loop part i₀ i = (i ≤ length part) × (gap part ≡ i + gap (drop i part))
+
+abbrev μ-loop : tie.MeasureT-loop
+μ-loop part i₀ i = length part - i
+
+loop-holds : tie.Need-loop-holds Inv-loop μ-loop
+loop-holds c = omega arith
+
+shared-slice-read-is-separator : tie.Need-shared-slice-read-is-separator Inv-loop μ-loop
+shared-slice-read-is-separator c = omega arith
+
+is-separator-requires : tie.Need-is-separator-requires Inv-loop μ-loop
+is-separator-requires c κs = search needs
+
+returns : tie.Need-returns Inv-loop μ-loop
+returns c =
+    let l = c .before .before .before .before .loop in
+    gap-stops _ _ (l .inv .1) (c .before .before .before .loop-test .taken)
+    (sym (c .before .is-separator .ensures) ∙ not-true _ (c .if1 .taken))
+
+add-i : tie.Need-add-i Inv-loop μ-loop
+add-i c = omega arith
+
+loop-less : tie.Need-loop-less Inv-loop μ-loop
+loop-less c = omega arith
+
+loop-again : tie.Need-loop-again Inv-loop μ-loop
+loop-again c =
+    let l = c .before .before .before .before .loop in (
+      omega arith,
+      gap-passes _ _ (l .inv .1) (c .before .before .before .loop-test .taken)
+          (sym (c .before .is-separator .ensures) ∙ not-false _ (c .if1 .left)),
+    )
+
+returns-2 : tie.Need-returns-2 Inv-loop μ-loop
+returns-2 c = gap-ends _ _ (c .before .loop .inv .1) (c .loop-test .left)
+
+pub gap-of-spec : {M : Type 1} → statement M
+gap-of-spec =
+    tie.close
+    (tie.spec
+    Inv-loop
+    μ-loop
+    loop-holds
+    shared-slice-read-is-separator
+    is-separator-requires
+    returns
+    add-i
+    loop-less
+    loop-again
+    returns-2)

@@ -1,0 +1,173 @@
+// Bytes, runs of bytes, and the tokens that they are. What a function asks of its caller, the reader of texts has shown.
+ghost use Prim.Native.Nat.{_≤_};
+ghost use mathlib.Core.Path.{_≡_};
+ghost use lib.ListN.{length, getD, drop};
+ghost use Rattle.rewriting.specs.Lists.{same, between};
+ghost use Rattle.grammar.specs.Tokens.{separator, letter, nameByte, unbroken};
+ghost use Rattle.grammar.specs.FirstRun.{gap};
+ghost use Rattle.tokens.specs.Scanned.{lead, namedAs, kindOf};
+use crate::Kind;
+
+// Space, tab, CR or LF.
+pub fn is_separator(b: u8) -> bool
+    ensures { λ r. ⌜ r ≡ separator b ⌝ }
+{
+    if b == b' ' {
+        return true;
+    }
+    if b == b'\t' {
+        return true;
+    }
+    if b == b'\r' {
+        return true;
+    }
+    b == b'\n'
+}
+
+// Whether the byte is one from `low` to `high`.
+fn is_between(low: u8, b: u8, high: u8) -> bool
+    ensures { λ r. ⌜ r ≡ between low b high ⌝ }
+{
+    if low <= b {
+        return b <= high;
+    }
+    false
+}
+
+// A to Z, a to z.
+fn is_letter(b: u8) -> bool
+    ensures { λ r. ⌜ r ≡ letter b ⌝ }
+{
+    if is_between(b'A', b, b'Z') {
+        return true;
+    }
+    is_between(b'a', b, b'z')
+}
+
+// A letter, a digit or `_`.
+pub fn is_name_byte(b: u8) -> bool
+    ensures { λ r. ⌜ r ≡ nameByte b ⌝ }
+{
+    if is_letter(b) {
+        return true;
+    }
+    if is_between(b'0', b, b'9') {
+        return true;
+    }
+    b == b'_'
+}
+
+// How many separators stand before the first run of a part of a text.
+pub fn gap_of(part: &[u8]) -> usize
+    ensures { λ r. ⌜ r ≡ gap (now (part .entry)) ⌝ }
+{
+    let mut i: usize = 0;
+    while i < part.len() {
+        if !is_separator(part[i]) {
+            return i;
+        }
+        i += 1;
+    }
+    i
+}
+
+// How many bytes stand before its first separator.
+pub fn unbroken_length(part: &[u8]) -> usize
+    ensures { λ r. ⌜ r ≡ length (unbroken (now (part .entry))) ⌝ }
+{
+    let mut i: usize = 0;
+    while i < part.len() {
+        if is_separator(part[i]) {
+            return i;
+        }
+        i += 1;
+    }
+    i
+}
+
+// The byte at a place, and a space behind the last one.
+pub fn byte_at(text: &[u8], i: usize) -> u8
+    ensures { λ r. ⌜ r ≡ getD (now (text .entry)) i 32 ⌝ }
+{
+    if i < text.len() {
+        return text[i];
+    }
+    b' '
+}
+
+// How many bytes stand before the name of a run that begins here: those of `#`, `.` and `->`.
+pub fn lead_of(part: &[u8]) -> usize
+    ensures { λ r. ⌜ r ≡ lead (now (part .entry)) ⌝ }
+{
+    let first = byte_at(part, 0);
+    if first == b'#' {
+        return 1;
+    }
+    if first == b'.' {
+        return 1;
+    }
+    if first != b'-' {
+        return 0;
+    }
+    if byte_at(part, 1) == b'>' {
+        return 2;
+    }
+    0
+}
+
+// The kind of a run whose name begins at `at`, if it begins with a letter and is not too long.
+fn named(run: &[u8], at: usize, kind: Kind) -> Kind
+    requires { ⌜ at ≤ length (now run) ⌝ }
+    ensures { λ r. ⌜ r ≡ namedAs kind (drop at (now (run .entry))) ⌝ }
+{
+    let n = run.len() - at;
+    if n < 1 {
+        return Kind::None;
+    }
+    if 24 < n {
+        return Kind::None;
+    }
+    if is_letter(run[at]) {
+        return kind;
+    }
+    Kind::None
+}
+
+// What a run is, if all bytes of its name may be in one.
+pub fn kind_of(run: &[u8]) -> Kind
+    requires { ⌜ 1 ≤ length (now run) ⌝ }
+    ensures { λ r. ⌜ r ≡ kindOf (now (run .entry)) ⌝ }
+{
+    let first = run[0];
+    if first == b'.' {
+        if run.len() == 1 {
+            return Kind::Stop;
+        }
+        return Kind::None;
+    }
+    if first == b'-' {
+        if is_same(run, b"->") {
+            return Kind::Arrow;
+        }
+        return Kind::None;
+    }
+    if first == b'#' {
+        return named(run, 1, Kind::Word);
+    }
+    named(run, 0, Kind::Name)
+}
+
+// Whether the two are equal.
+pub fn is_same(x: &[u8], y: &[u8]) -> bool
+    ensures { λ r. ⌜ r ≡ same (now (x .entry)) (now (y .entry)) ⌝ }
+{
+    if x.len() != y.len() {
+        return false;
+    }
+    for i in 0..x.len() {
+        if x[i] != y[i] {
+            return false;
+        }
+    }
+    true
+}

@@ -1,0 +1,105 @@
+-- `table::trie::build` meets its contract. After i rules it has the trie of the first i.
+-- Assumes nothing.
+use Prim.Native.Nat.{_-_}
+use mathlib.Core.Path.{refl, _∙_}
+use native.Mathlib.Omega.{arith}
+use native.Mathlib.Numerals.{add-one}
+use lib.ListN.{length}
+use Rattle.rewriting.proofs.Ranges.{ranges}
+use Rattle.layout.specs.Image.{read}
+use Rattle.layout.proofs.Image.{valid-in-range}
+use Rattle.layout.proofs.Places.{left-within}
+use Rattle.trie.proofs.Building.{Building, build-first, build-next, build-last, followed-room}
+use Rattle.trie.proofs.build.Statement.{statement}
+use Rattle.trie.proofs.build.Tie as tie
+
+abbrev Inv-loop : tie.InvT-loop
+Inv-loop image trie₀ rules n₀ at₀ i₀ trie n at i = Building (read image) (length trie₀) i n at trie
+
+abbrev μ-loop : tie.MeasureT-loop
+μ-loop image trie₀ rules n₀ at₀ i₀ trie n at i = rules - i
+
+rules-requires : tie.Need-rules-requires Inv-loop μ-loop
+rules-requires c κs = c .before .before .pre .0
+
+mul-at : tie.Need-mul-at Inv-loop μ-loop
+mul-at c = omega (arith, c .rules .ensures, ranges _ (valid-in-range _ (c .before .before .before .pre .0)))
+
+add-at : tie.Need-add-at Inv-loop μ-loop
+add-at c = omega (arith, c .rules .ensures, ranges _ (valid-in-range _ (c .before .before .before .pre .0)))
+
+loop-holds : tie.Need-loop-holds Inv-loop μ-loop
+loop-holds c = build-first _ _ (c .before .before .before .pre .1 .0) (c .before .before .before .pre .1 .1) _ (rw (c .rules .ensures) refl)
+
+walk-requires : tie.Need-walk-requires Inv-loop μ-loop
+walk-requires c κs =
+    let start = c .before .before .before .before .before .before in
+    let turn = c .before .before .loop .inv in
+    let more = rw (c .before .before .before .rules .ensures) at (c .before .loop-test .taken) in
+    (start .pre .0, ((more, turn .place), ((turn .grown, rw (turn .size) (start .pre .1 .1)), turn .nodes)))
+
+mark-requires : tie.Need-mark-requires Inv-loop μ-loop
+mark-requires c κs =
+    let start = c .before .before .before .before .before .before .before .before .before .before in
+    let turn = c .before .before .before .before .before .before .loop .inv in
+    let more = rw (c .before .before .before .before .before .before .before .rules .ensures) at (c .before .before .before .before .before .loop-test .taken) in
+    let walked = c .before .before .before .walk .ensures in
+    let room = followed-room _ (valid-in-range _ (start .pre .0)) _ (start .pre .1 .1) _ more _ _ (walked .0) in
+    (rw (walked .1 ∙ turn .size) (room .2), room .1)
+
+body-length-requires : tie.Need-body-length-requires Inv-loop μ-loop
+body-length-requires c κs =
+    let start = c .before .before .before .before .before .before .before .before .before .before .before .before .before in
+    let turn = c .before .before .before .before .before .before .before .before .before .loop .inv in
+    let more = rw (c .before .before .before .before .before .before .before .before .before .before .rules .ensures) at (c .before .before .before .before .before .before .before .before .loop-test .taken) in
+    (start .pre .0, more)
+
+add-at-2 : tie.Need-add-at-2 Inv-loop μ-loop
+add-at-2 c =
+    let start = c .before .before .before .before .before .before .before .before .before .before .before .before .before .before in
+    let turn = c .before .before .before .before .before .before .before .before .before .before .loop .inv in
+    let more = rw (c .before .before .before .before .before .before .before .before .before .before .before .rules .ensures) at (c .before .before .before .before .before .before .before .before .before .loop-test .taken) in
+    omega (arith, c .body-length .ensures, turn .place, left-within _ (start .pre .0) _ more)
+
+add-i : tie.Need-add-i Inv-loop μ-loop
+add-i c = omega arith
+
+loop-less : tie.Need-loop-less Inv-loop μ-loop
+loop-less c = omega arith
+
+loop-again : tie.Need-loop-again Inv-loop μ-loop
+loop-again c =
+    let start = c .before .before .before .before .before .before .before .before .before .before .before .before .before .before in
+    let turn = c .before .before .before .before .before .before .before .before .before .before .loop .inv in
+    let more = rw (c .before .before .before .before .before .before .before .before .before .before .before .rules .ensures) at (c .before .before .before .before .before .before .before .before .before .loop-test .taken) in
+    let walked = c .before .before .before .before .before .before .before .walk .ensures in
+    let room = followed-room _ (valid-in-range _ (start .pre .0)) _ (start .pre .1 .1) _ more _ _ (walked .0) in
+    rw add-one
+    (build-next _ _ _ _ _ _ turn more _ _ (walked .0) (rw (walked .1 ∙ turn .size) (room .0)) _ (c .before .before .before .mark .ensures)
+    (c .before .before .before .mark .kept .0 ∙ walked .1 ∙ turn .size) _ (c .body-length .ensures))
+
+same-length : tie.Need-same-length Inv-loop μ-loop
+same-length c = c .before .loop .inv .size
+
+returns : tie.Need-returns Inv-loop μ-loop
+returns c = build-last _ _ _ _ _ _ (c .before .loop .inv) (rw (c .before .before .rules .ensures) at (c .loop-test .left))
+
+pub build-spec : {M : Type 1} → statement M
+build-spec =
+    tie.close
+    (tie.spec
+    Inv-loop
+    μ-loop
+    rules-requires
+    mul-at
+    add-at
+    loop-holds
+    walk-requires
+    mark-requires
+    body-length-requires
+    add-at-2
+    add-i
+    loop-less
+    loop-again
+    same-length
+    returns)

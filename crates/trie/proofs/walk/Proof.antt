@@ -1,0 +1,91 @@
+-- `table::trie::walk` meets its contract. After j symbols it stands at the node of the first j, and their prefixes have nodes.
+-- Assumes nothing.
+use Prim.Native.Nat.{_-_}
+use mathlib.Core.Path.{refl, _∙_}
+use native.Mathlib.Omega.{arith}
+use native.Mathlib.Numerals.{add-one}
+use lib.ListN.{length}
+use borrow.Author.Needs.{needs}
+use Rattle.layout.specs.Image.{read}
+use Rattle.layout.proofs.Image.{valid-in-range}
+use Rattle.trie.proofs.Walking.{Walking, walk-first, walk-room, walk-next, walk-last, symbol-within, symbol-at}
+use Rattle.trie.proofs.walk.Statement.{statement}
+use Rattle.trie.proofs.walk.Tie as tie
+
+abbrev Inv-loop : tie.InvT-loop
+Inv-loop image i at trie₀ n long q₀ nodes₀ j₀ trie q nodes j = Walking (read image) i (length trie₀) j q nodes trie
+
+abbrev μ-loop : tie.MeasureT-loop
+μ-loop image i at trie₀ n long q₀ nodes₀ j₀ trie q nodes j = long - j
+
+left-length-requires : tie.Need-left-length-requires Inv-loop μ-loop
+left-length-requires c κs = (c .before .before .pre .0, c .before .before .pre .1 .0 .0)
+
+loop-holds : tie.Need-loop-holds Inv-loop μ-loop
+loop-holds c =
+    let start = c .before .before .before in
+    walk-first _ _ _ _ (start .pre .1 .1 .0 .0) _ (start .pre .1 .1 .1) refl
+
+add-word : tie.Need-add-word Inv-loop μ-loop
+add-word c =
+    let start = c .before .before .before .before .before .before in
+    let more = rw (c .before .before .before .left-length .ensures) at (c .before .loop-test .taken) in
+    omega (arith, symbol-within _ (start .pre .0) _ _ _ (start .pre .1 .0 .0) (start .pre .1 .0 .1) more)
+
+shared-slice-read-word : tie.Need-shared-slice-read-word Inv-loop μ-loop
+shared-slice-read-word c =
+    let start = c .before .before .before .before .before .before .before in
+    let more = rw (c .before .before .before .before .left-length .ensures) at (c .before .before .loop-test .taken) in
+    symbol-within _ (start .pre .0) _ _ _ (start .pre .1 .0 .0) (start .pre .1 .0 .1) more
+
+word-requires : tie.Need-word-requires Inv-loop μ-loop
+word-requires c κs = search needs
+
+follow-requires : tie.Need-follow-requires Inv-loop μ-loop
+follow-requires c κs =
+    let start = c .before .before .before .before .before .before .before .before in
+    let more = rw (c .before .before .before .before .before .left-length .ensures) at (c .before .before .before .loop-test .taken) in
+    let room = walk-room _ _ _ (valid-in-range _ (start .pre .0)) (start .pre .1 .1 .0 .1) (start .pre .1 .0 .0) _ _ _ _ (c .before .before .before .before .loop .inv) more in
+    (room .linked, ((room .node, room .few), (room .room, (room .shallow, room .narrow))))
+
+add-j : tie.Need-add-j Inv-loop μ-loop
+add-j c = omega arith
+
+loop-less : tie.Need-loop-less Inv-loop μ-loop
+loop-less c = omega arith
+
+loop-again : tie.Need-loop-again Inv-loop μ-loop
+loop-again c =
+    let start = c .before .before .before .before .before .before .before .before .before .before .before in
+    let more = rw (c .before .before .before .before .before .before .before .before .left-length .ensures) at (c .before .before .before .before .before .before .loop-test .taken) in
+    let at = symbol-at _ (start .pre .0) _ _ _ (start .pre .1 .0 .0) (start .pre .1 .0 .1) more in
+    rw add-one
+    (walk-next _ _ _ (valid-in-range _ (start .pre .0)) (start .pre .1 .1 .0 .1) (start .pre .1 .0 .0) _ _ _ _ (c .before .before .before .before .before .before .before .loop .inv) more _
+    (c .before .before .before .word .ensures ∙ at) _ _ (c .before .before .follow .ensures))
+
+same-length : tie.Need-same-length Inv-loop μ-loop
+same-length c = c .before .loop .inv .size
+
+returns : tie.Need-returns Inv-loop μ-loop
+returns c =
+    let start = c .before .before .before .before .before in
+    let far = rw (c .before .before .left-length .ensures) at (c .loop-test .left) in
+    (walk-last _ _ _ (start .pre .1 .0 .0) _ _ _ _ (c .before .loop .inv) far, c .before .loop .inv .size)
+
+pub walk-spec : {M : Type 1} → statement M
+walk-spec =
+    tie.close
+    (tie.spec
+    Inv-loop
+    μ-loop
+    left-length-requires
+    loop-holds
+    add-word
+    shared-slice-read-word
+    word-requires
+    follow-requires
+    add-j
+    loop-less
+    loop-again
+    same-length
+    returns)

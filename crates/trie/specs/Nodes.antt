@@ -1,0 +1,152 @@
+-- The trie of the left sides, as the code holds it while it compiles or checks a table: a node for each state, in the
+-- order of the states' numbers, eight words each.
+--
+--     word 8 c        parent: the state without its last symbol
+--     word 8 c + 1    that symbol
+--     word 8 c + 2    depth: how many symbols the state has
+--     word 8 c + 3    its youngest child, 0 if none
+--     word 8 c + 4    its parent's next older child, 0 if none
+--     word 8 c + 5    how many children it has
+--     word 8 c + 6    match word: first of the rules whose left side is the state itself, in the end the table's
+--     word 8 c + 7    failure state, once it is known
+use Prim.Native.Nat.{ℕ, zero, suc, _+_, _*_, _≤_, _<_}
+use mathlib.Core.Path.{_≡_}
+use mathlib.Core.Bool.{Bool, cond}
+use mathlib.Core.Logic.{_⊎_}
+use mathlib.Core.List.{List, [], _∷_, _++_, flatMap}
+use lib.Dec.{eqb}
+use lib.ListN.{length, getD, set, take}
+use Rattle.rewriting.specs.Rules.{Rule, RuleSet, rule}
+use Rattle.rewriting.specs.Occurrences.{lowest}
+use Rattle.trie.specs.declared.Walked.{Walked}
+use Rattle.layout.specs.States.{known, number, states}
+use Rattle.layout.specs.Table.{matchWord}
+use Rattle.layout.specs.Words.{text, failureState, transition}
+
+module _ (t : List ℕ) (c : ℕ) where
+  abbrev pub parent : ℕ
+  parent = getD t (8 * c) 0
+
+  abbrev pub symbol : ℕ
+  symbol = getD t (8 * c + 1) 0
+
+  abbrev pub depth : ℕ
+  depth = getD t (8 * c + 2) 0
+
+  abbrev pub youngest : ℕ
+  youngest = getD t (8 * c + 3) 0
+
+  abbrev pub older : ℕ
+  older = getD t (8 * c + 4) 0
+
+  abbrev pub children : ℕ
+  children = getD t (8 * c + 5) 0
+
+  abbrev pub matched : ℕ
+  matched = getD t (8 * c + 6) 0
+
+  abbrev pub failure : ℕ
+  failure = getD t (8 * c + 7) 0
+
+-- how many of 0, 1, .., n - 1 pass the test
+unfoldable pub tally : (ℕ → Bool) → ℕ → ℕ
+tally test zero = 0
+tally test (suc n) = tally test n + cond (test n) 1 0
+
+-- The links of n nodes: a parent comes before its children, and the youngest child and then the next older one, again and
+-- again, meet every child of a node.
+pub record Linked (t : List ℕ) (n : ℕ) : Type 0 where
+  pub size : 8 * n ≤ length t
+  pub up : (c : ℕ) → 0 < c → c < n → parent t c < c
+  pub young : (q : ℕ) → q < n → youngest t q < n
+  pub young-of : (q : ℕ) → q < n → 0 < youngest t q → parent t (youngest t q) ≡ q
+  pub young-last : (q c : ℕ) → q < n → 0 < c → c < n → parent t c ≡ q → c ≤ youngest t q
+  pub old : (c : ℕ) → 0 < c → c < n → older t c < c
+  pub old-of : (c : ℕ) → 0 < c → c < n → 0 < older t c → parent t (older t c) ≡ parent t c
+  pub old-next : (c b : ℕ) → 0 < c → c < n → 0 < b → b < c → parent t b ≡ parent t c → b ≤ older t c
+
+-- t holds the trie of the states s, of a rule set with so many symbols. Words behind the last node are 0.
+pub record Trie (s : List (List ℕ)) (symbols : ℕ) (t : List ℕ) : Type 0 where
+  pub linked : Linked t (length s)
+  pub some-node : 0 < length s
+  pub root : getD s 0 [] ≡ []
+  pub once : (i : ℕ) → i < length s → number s (getD s i []) ≡ i
+  pub made : (c : ℕ) → 0 < c → c < length s → getD s c [] ≡ getD s (parent t c) [] ++ symbol t c ∷ []
+  pub small : (c : ℕ) → 0 < c → c < length s → symbol t c < symbols
+  pub deep : (c : ℕ) → c < length s → depth t c ≡ length (getD s c [])
+  pub counted : (c : ℕ) → c < length s → children t c ≡ tally (λ a. known s (getD s c [] ++ a ∷ [])) symbols
+  pub clear : (k : ℕ) → 8 * length s ≤ k → getD t k 0 ≡ 0
+
+-- each node's match word is that of the lowest rule whose left side is the state itself
+abbrev pub Owned : List Rule → List (List ℕ) → List ℕ → Type 0
+Owned rules s t = (c : ℕ) → c < length s → matched t c ≡ matchWord (lowest rules (getD s c []))
+
+-- node c holds its failure state
+abbrev pub RightFailure : List Rule → List ℕ → ℕ → Type 0
+RightFailure rules t c = failure t c ≡ number (states rules) (failureState rules (text rules c))
+
+-- the failure state of node c, found from that of its parent and the parent's failure state's row; rows of so many symbols
+unfoldable pub failureBy : List ℕ → List ℕ → ℕ → ℕ → ℕ
+failureBy t rows symbols c =
+    cond (eqb (parent t c) 0) 0 (transition rows symbols (failure t (parent t c)) (symbol t c))
+
+-- c is the child of q by symbol a, one of n nodes
+pub record IsChild (t : List ℕ) (n q a c : ℕ) : Type 0 where
+  pub some : 0 < c
+  pub node : c < n
+  pub of : parent t c ≡ q
+  pub by : symbol t c ≡ a
+
+-- r is the child of q by symbol a, or n where q has none
+abbrev pub ChildOr : List ℕ → ℕ → ℕ → ℕ → ℕ → Type 0
+ChildOr t n q a r = IsChild t n q a r ⊎ ((r ≡ n) × ((c : ℕ) → IsChild t n q a c → ⊥))
+
+-- t with node n as a child of q by symbol a
+unfoldable pub added : List ℕ → ℕ → ℕ → ℕ → List ℕ
+added t n q a =
+    set
+    (set (set (set (set (set t (8 * n) q) (8 * n + 1) a) (8 * n + 2) (depth t q + 1)) (8 * n + 4) (youngest t q))
+    (8 * q + 3) n)
+    (8 * q + 5) (children t q + 1)
+
+-- A symbol was followed from node q: to a child that was there, or to a node that was added.
+pub record Found (t : List ℕ) (n q a : ℕ) (w : Walked) (t′ : List ℕ) : Type 0 where
+  pub child : IsChild t n q a (w .node)
+  pub nodes : w .nodes ≡ n
+  pub kept : t′ ≡ t
+
+pub record New (t : List ℕ) (n q a : ℕ) (w : Walked) (t′ : List ℕ) : Type 0 where
+  pub none : (c : ℕ) → IsChild t n q a c → ⊥
+  pub node : w .node ≡ n
+  pub nodes : w .nodes ≡ n + 1
+  pub grown : t′ ≡ added t n q a
+
+abbrev pub Followed : List ℕ → ℕ → ℕ → ℕ → Walked → List ℕ → Type 0
+Followed t n q a w t′ = Found t n q a w t′ ⊎ New t n q a w t′
+
+-- t with rule i as the rule of node q, unless a lower rule has it already
+unfoldable pub marked : List ℕ → ℕ → ℕ → List ℕ
+marked t q i = cond (eqb (matched t q) 0) (set t (8 * q + 6) (i + 1)) t
+
+-- t holds the trie of the first i rules, with the rules that their left sides end in
+pub record Grown (set : RuleSet) (i : ℕ) (t : List ℕ) : Type 0 where
+  pub trie : Trie (states (take i (set .rules))) (set .symbols) t
+  pub owned : Owned (take i (set .rules)) (states (take i (set .rules))) t
+
+-- The left side of rule i was followed from the root: each of its prefixes has a node, and it ends in the node w says.
+pub record FollowedRule (set : RuleSet) (i : ℕ) (w : Walked) (t : List ℕ) : Type 0 where
+  pub trie : Trie (states (take (suc i) (set .rules))) (set .symbols) t
+  pub owned : Owned (take i (set .rules)) (states (take (suc i) (set .rules))) t
+  pub nodes : w .nodes ≡ length (states (take (suc i) (set .rules)))
+  pub node : w .node < w .nodes
+  pub ends : text (take (suc i) (set .rules)) (w .node) ≡ rule (set .rules) i .left
+
+-- k words have room for a node for the root and one for each symbol of a left side
+abbrev pub Roomy : RuleSet → ℕ → Type 0
+Roomy set k = 8 * suc (length (flatMap (λ r. r .left) (set .rules))) ≤ k
+
+-- t holds the trie of all rules, which has n nodes
+pub record Built (set : RuleSet) (n : ℕ) (t : List ℕ) : Type 0 where
+  pub trie : Trie (states (set .rules)) (set .symbols) t
+  pub owned : Owned (set .rules) (states (set .rules)) t
+  pub nodes : n ≡ length (states (set .rules))

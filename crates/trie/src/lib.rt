@@ -1,0 +1,151 @@
+// The trie of the left sides, one node of eight words for each state. specs/Nodes.antt has the layout.
+// The module is private: what its functions ask, compile and check have shown.
+ghost use Prim.Native.Nat.{_+_, _*_, _<_};
+ghost use mathlib.Core.Path.{_≡_};
+ghost use mathlib.Core.Bool.{true};
+ghost use lib.ListN.{length, take, replicate};
+ghost use Rattle.layout.specs.Image.{read, valid};
+ghost use Rattle.layout.specs.Places.{leftAt};
+ghost use Rattle.layout.specs.States.{states};
+ghost use Rattle.trie.specs.Nodes.{parent, symbol, depth, children, failure, failureBy, Linked, ChildOr, added, Followed, marked, Grown, FollowedRule, Roomy, Built};
+
+// Where a walk has come to, and the number of nodes.
+pub struct Walked {
+    pub node: usize,
+    pub nodes: usize,
+}
+
+// A word as an index.
+pub fn wide(x: u16) -> usize
+    ensures { λ r. ⌜ r ≡ x ⌝ }
+{
+    x as usize
+}
+
+// A symbol as a word.
+fn word(x: u8) -> u16
+    ensures { λ r. ⌜ r ≡ x ⌝ }
+{
+    x as u16
+}
+
+// The failure state of node q, by the failure state of its parent and the row of that: state 0 for a child of the root.
+pub fn failure_of(trie: &[u16], rows: &[u16], s: usize, q: usize) -> usize
+    requires node { ⌜ 8 * q + 1 < length (now trie) ⌝ }
+    requires up { ⌜ 8 * parent (now trie) q + 7 < length (now trie) ⌝ }
+    requires row { ⌜ (0 < parent (now trie) q → failure (now trie) (parent (now trie) q) * s + symbol (now trie) q < length (now rows)) ⌝ }
+    ensures { λ r. ⌜ r ≡ failureBy (now (trie .entry)) (now (rows .entry)) s q ⌝ }
+{
+    let p = wide(trie[8 * q]);
+    if p == 0 {
+        return 0;
+    }
+    let a = wide(trie[8 * q + 1]);
+    let f = wide(trie[8 * p + 7]);
+    wide(rows[f * s + a])
+}
+
+// The child of node q by symbol a, or n, the number of nodes, where it has none.
+fn child(trie: &[u16], n: usize, q: usize, a: u16) -> usize
+    requires links { ⌜ Linked (now trie) n ⌝ }
+    requires node { ⌜ q < n ⌝ }
+    ensures { λ r. ⌜ ChildOr (now (trie .entry)) n q a r ⌝ }
+{
+    let mut c = wide(trie[8 * q + 3]);
+    while 0 < c {
+        if trie[8 * c + 1] == a {
+            return c;
+        }
+        c = wide(trie[8 * c + 4]);
+    }
+    n
+}
+
+// Node n becomes a child of q by symbol a.
+fn add(trie: &mut [u16], n: usize, q: usize, a: u16)
+    requires node { ⌜ (q < n) × (n < 513) ⌝ }
+    requires room { ⌜ 8 * n + 7 < length (now trie) ⌝ }
+    requires counts { ⌜ (depth (now trie) q < 513) × (children (now trie) q < 513) ⌝ }
+    ensures { λ _. ⌜ now (trie .exit) ≡ added (now (trie .entry)) n q a ⌝ }
+{
+    let depth = trie[8 * q + 2];
+    let youngest = trie[8 * q + 3];
+    let children = trie[8 * q + 5];
+    trie[8 * n] = q as u16;
+    trie[8 * n + 1] = a;
+    trie[8 * n + 2] = depth + 1;
+    trie[8 * n + 4] = youngest;
+    trie[8 * q + 3] = n as u16;
+    trie[8 * q + 5] = children + 1;
+}
+
+// The child of node q by symbol a, added where there is none.
+fn follow(trie: &mut [u16], n: usize, q: usize, a: u16) -> Walked
+    requires links { ⌜ Linked (now trie) n ⌝ }
+    requires node { ⌜ (q < n) × (n < 513) ⌝ }
+    requires room { ⌜ 8 * n + 7 < length (now trie) ⌝ }
+    requires counts { ⌜ (depth (now trie) q < 513) × (children (now trie) q < 513) ⌝ }
+    ensures { λ r. ⌜ Followed (now (trie .entry)) n q a r (now (trie .exit)) ⌝ }
+{
+    let c = child(trie, n, q, a);
+    if c < n {
+        return Walked { node: c, nodes: n };
+    }
+    add(trie, n, q, a);
+    Walked {
+        node: n,
+        nodes: n + 1,
+    }
+}
+
+// Rule i becomes the rule of node q, unless a lower rule has it already.
+fn mark(trie: &mut [u16], q: usize, i: usize)
+    requires node { ⌜ 8 * q + 7 < length (now trie) ⌝ }
+    requires rule { ⌜ i < 64 ⌝ }
+    ensures { λ _. ⌜ now (trie .exit) ≡ marked (now (trie .entry)) q i ⌝ }
+{
+    if trie[8 * q + 6] == 0 {
+        trie[8 * q + 6] = (i + 1) as u16;
+    }
+}
+
+// Follows the left side of rule i, which begins at byte `at`, in the trie of the n states of the rules before it.
+fn walk(image: &[u8], i: usize, at: usize, trie: &mut [u16], n: usize) -> Walked
+    requires image { ⌜ valid (now image) ≡ true ⌝ }
+    requires rule { ⌜ (i < length (read (now image) .rules)) × (at ≡ leftAt (read (now image)) i) ⌝ }
+    requires trie { ⌜ (Grown (read (now image)) i (now trie)) × (Roomy (read (now image)) (length (now trie))) ⌝ }
+    requires nodes { ⌜ n ≡ length (states (take i (read (now image) .rules))) ⌝ }
+    ensures { λ r. ⌜ (FollowedRule (read (now (image .entry))) i r (now (trie .exit))) × (length (now (trie .exit)) ≡ length (now (trie .entry))) ⌝ }
+{
+    let long = image::left_length(image, i);
+    let mut q = 0;
+    let mut nodes = n;
+    let mut j = 0;
+    while j < long {
+        let w = follow(trie, nodes, q, word(image[at + j]));
+        q = w.node;
+        nodes = w.nodes;
+        j += 1;
+    }
+    Walked { node: q, nodes }
+}
+
+// The trie of all left sides, in words that were 0, and the number of its nodes.
+pub fn build(image: &[u8], trie: &mut [u16]) -> usize
+    requires image { ⌜ valid (now image) ≡ true ⌝ }
+    requires trie { ⌜ (now trie ≡ replicate (length (now trie)) 0) × (Roomy (read (now image)) (length (now trie))) ⌝ }
+    ensures { λ r. ⌜ Built (read (now (image .entry))) r (now (trie .exit)) ⌝ }
+{
+    let rules = image::rules(image);
+    let mut n = 1;
+    let mut at = 4 + 4 * rules;
+    let mut i = 0;
+    while i < rules {
+        let w = walk(image, i, at, trie, n);
+        mark(trie, w.node, i);
+        n = w.nodes;
+        at += image::body_length(image, i);
+        i += 1;
+    }
+    n
+}
