@@ -1,5 +1,4 @@
 // Writes into the two areas, and the looks into a table that a step needs.
-// The module is private: what its functions ask, the checks of a call have shown.
 ghost use Prim.Native.Nat.{_+_, _*_, _-_, _≤_, _<_};
 ghost use mathlib.Core.Path.{_≡_};
 ghost use mathlib.Core.Bool.{true};
@@ -7,13 +6,7 @@ ghost use lib.ListN.{length, getD, set, drop, replicate};
 ghost use lib.Seq.{paste};
 ghost use Rattle.layout.specs.Image.{read, valid};
 ghost use Rattle.machine.specs.Lent.{nextIn, matchIn, wordBefore, Starts};
-
-// A word as a number.
-pub fn wide(x: u16) -> usize
-    ensures { λ r. ⌜ r ≡ x ⌝ }
-{
-    x as usize
-}
+use image::wide;
 
 // The next state of q on symbol a.
 pub fn next_state(table: &[u16], q: usize, a: usize) -> usize
@@ -21,9 +14,9 @@ pub fn next_state(table: &[u16], q: usize, a: usize) -> usize
     requires inside { ⌜ 2 + getD (now table) 0 0 + q * getD (now table) 1 0 + a < length (now table) ⌝ }
     ensures { λ r. ⌜ r ≡ nextIn (now (table .entry)) q a ⌝ }
 {
-    let n = wide(table[0]);
-    let s = wide(table[1]);
-    wide(table[2 + n + q * s + a])
+    let n = wide::word(table[0]);
+    let s = wide::word(table[1]);
+    wide::word(table[2 + n + q * s + a])
 }
 
 // The same, where the rows are known to begin at `rows` and to have `width` words each: a step does not look them up again.
@@ -31,7 +24,7 @@ pub fn next_at(table: &[u16], rows: usize, width: usize, q: usize, a: usize) -> 
     requires { ⌜ rows + q * width + a < length (now table) ⌝ }
     ensures { λ r. ⌜ r ≡ getD (now (table .entry)) (rows + q * width + a) 0 ⌝ }
 {
-    wide(table[rows + q * width + a])
+    wide::word(table[rows + q * width + a])
 }
 
 // The match word of state q.
@@ -39,7 +32,7 @@ pub fn match_word(table: &[u16], q: usize) -> usize
     requires { ⌜ 2 + q < length (now table) ⌝ }
     ensures { λ r. ⌜ r ≡ matchIn (now (table .entry)) q ⌝ }
 {
-    wide(table[2 + q])
+    wide::word(table[2 + q])
 }
 
 // The word before the next one, where n words are in use: 0 at the start.
@@ -50,7 +43,7 @@ pub fn word_before(words: &[u16], n: usize) -> usize
     if n == 0 {
         return 0;
     }
-    wide(words[n - 1])
+    wide::word(words[n - 1])
 }
 
 // Sets bytes and words from .. to to 0. Few are taken off at a time, so one loop for both is faster than two.

@@ -11,12 +11,7 @@ ghost use Rattle.layout.specs.Image.{body, read, valid};
 ghost use Rattle.layout.specs.Places.{rightSideOf};
 use layout::RightSide;
 
-// A byte as a number.
-fn wide(x: u8) -> usize
-    ensures { λ r. ⌜ r ≡ x ⌝ }
-{
-    x as usize
-}
+pub mod wide;
 
 // Whether S, R, V and E are in range.
 fn header_in_range(s: u8, r: u8, v: u8, e: u8) -> bool
@@ -79,7 +74,7 @@ fn size_at(image: &[u8], at: usize, verdicts: u8) -> usize
     requires { ⌜ at + 4 ≤ length (now image) ⌝ }
     ensures { λ r. ⌜ r ≡ firstSize verdicts (drop at (now (image .entry))) ⌝ }
 {
-    wide(body_size(
+    wide::byte(body_size(
         verdicts,
         image[at],
         image[at + 1],
@@ -132,7 +127,7 @@ pub fn is_valid(image: &[u8]) -> bool
         return false;
     }
     if header_in_range(image[0], image[1], image[2], image[3]) {
-        let rules = wide(image[1]);
+        let rules = wide::byte(image[1]);
         let bodies = 4 + 4 * rules;
         if image.len() < bodies {
             return false;
@@ -152,7 +147,7 @@ pub fn symbols(image: &[u8]) -> usize
     requires { ⌜ valid (now image) ≡ true ⌝ }
     ensures { λ r. ⌜ r ≡ read (now (image .entry)) .symbols ⌝ }
 {
-    wide(image[0])
+    wide::byte(image[0])
 }
 
 // R, the number of rules.
@@ -160,7 +155,7 @@ pub fn rules(image: &[u8]) -> usize
     requires { ⌜ valid (now image) ≡ true ⌝ }
     ensures { λ r. ⌜ r ≡ length (read (now (image .entry)) .rules) ⌝ }
 {
-    wide(image[1])
+    wide::byte(image[1])
 }
 
 // E, the number of events.
@@ -168,7 +163,7 @@ pub fn events(image: &[u8]) -> usize
     requires { ⌜ valid (now image) ≡ true ⌝ }
     ensures { λ r. ⌜ r ≡ read (now (image .entry)) .events ⌝ }
 {
-    wide(image[3])
+    wide::byte(image[3])
 }
 
 // The number of symbols of rule i's left side.
@@ -177,7 +172,7 @@ pub fn left_length(image: &[u8], i: usize) -> usize
     requires { ⌜ i < length (read (now image) .rules) ⌝ }
     ensures { λ r. ⌜ r ≡ length (rule (read (now (image .entry)) .rules) i .left) ⌝ }
 {
-    wide(image[4 + 4 * i])
+    wide::byte(image[4 + 4 * i])
 }
 
 // The right side of rule i.
@@ -190,7 +185,7 @@ pub fn right_side(image: &[u8], i: usize) -> RightSide
     if image[5 + 4 * i] == 1 {
         RightSide::Close(n as u64)
     } else {
-        RightSide::Put(wide(n))
+        RightSide::Put(wide::byte(n))
     }
 }
 

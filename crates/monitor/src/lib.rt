@@ -10,14 +10,14 @@ ghost use Rattle.machine.specs.Run.{noCounts};
 ghost use Rattle.machine.specs.Calls.{freshOf, lentChecks, offerOf, goOnOf};
 ghost use Rattle.machine.specs.Batch.{batchOf};
 ghost use Rattle.monitor.specs.Lent.{headIn, lent, freshFrom, outcomeFrom, batchFrom};
-use areas::check;
+use areas::described;
 use areas::held;
 use layout::Checked;
 pub use machine::Answer;
 pub use machine::Counts;
 pub use machine::Standing;
 
-mod checked;
+mod decide;
 mod steps;
 
 // Document 01's 2,048: the number of bytes and of words.
@@ -151,7 +151,7 @@ impl Head {
                     return 10;
                 }
                 let verdict = self.verdict;
-                if check::as_described(
+                if described::as_described(
                     self.settled,
                     self.waiting,
                     verdict,

@@ -64,7 +64,7 @@ impl Head {
         let matched = held::match_word(table, next);
         if matched != 0 {
             let verdict = self.verdict;
-            let rewritten = parts::rewrite(
+            let rewritten = areas::rewrite(
                 settled,
                 self.waiting,
                 verdict,

@@ -11,8 +11,8 @@ ghost use Rattle.layout.specs.Table.{matchWord};
 ghost use Rattle.layout.specs.Words.{ownOr};
 ghost use Rattle.trie.specs.Nodes.{depth, Trie, Built};
 ghost use Rattle.rows.specs.Rows.{Laid, Merged, Noted, FillingAt, Matched, Filled};
+use image::wide;
 use trie::failure_of;
-use trie::wide;
 
 // All words 0.
 fn clear(rows: &mut [u16])
@@ -33,8 +33,8 @@ fn lay_children(image: &[u8], trie: &[u16], n: usize, rows: &mut [u16])
 {
     let s = image::symbols(image);
     for c in 1..n {
-        let p = wide(trie[8 * c]);
-        let a = wide(trie[8 * c + 1]);
+        let p = wide::word(trie[8 * c]);
+        let a = wide::word(trie[8 * c + 1]);
         rows[p * s + a] = c as u16;
     }
 }

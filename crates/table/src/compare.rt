@@ -12,8 +12,8 @@ ghost use Rattle.layout.specs.Table.{tableOf};
 ghost use Rattle.trie.specs.Nodes.{parent, symbol, matched, failure, Built};
 ghost use Rattle.layout.specs.Words.{transition, ownOr};
 ghost use Rattle.table.specs.Consistent.{differing, leaving, Passes, RootPassed, RightTable};
+use image::wide;
 use trie::failure_of;
-use trie::wide;
 
 // How many words of the rows of q and f differ. It counts to the end, so that the loop compares many words at once.
 fn differences(rows: &[u16], s: usize, q: usize, f: usize) -> u16
@@ -52,9 +52,9 @@ fn led_to(trie: &[u16], rows: &[u16], s: usize, q: usize) -> usize
     requires row { ⌜ parent (now trie) q * s + symbol (now trie) q < length (now rows) ⌝ }
     ensures { λ r. ⌜ r ≡ transition (now (rows .entry)) s (parent (now (trie .entry)) q) (symbol (now (trie .entry)) q) ⌝ }
 {
-    let p = wide(trie[8 * q]);
-    let a = wide(trie[8 * q + 1]);
-    wide(rows[p * s + a])
+    let p = wide::word(trie[8 * q]);
+    let a = wide::word(trie[8 * q + 1]);
+    wide::word(rows[p * s + a])
 }
 
 // The match word that node q should have: its own, or else its failure state's.
@@ -67,7 +67,7 @@ fn inherited(trie: &[u16], matches: &[u16], q: usize) -> u16
     if own != 0 {
         return own;
     }
-    let f = wide(trie[8 * q + 7]);
+    let f = wide::word(trie[8 * q + 7]);
     matches[f]
 }
 
@@ -107,7 +107,7 @@ fn state_holds(trie: &[u16], matches: &[u16], rows: &[u16], s: usize, q: usize) 
     if m != matches[q] {
         return false;
     }
-    let f = wide(trie[8 * q + 7]);
+    let f = wide::word(trie[8 * q + 7]);
     let n = differences(rows, s, q, f);
     if n != trie[8 * q + 5] {
         return false;
@@ -154,10 +154,10 @@ pub fn holds(image: &[u8], trie: &mut [u16], n: usize, table: &[u16]) -> bool
     if table.len() < end {
         return false;
     }
-    if wide(table[0]) != n {
+    if wide::word(table[0]) != n {
         return false;
     }
-    if wide(table[1]) != s {
+    if wide::word(table[1]) != s {
         return false;
     }
     states_hold(image, trie, n, &table[2..first], &table[first..end])

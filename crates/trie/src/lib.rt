@@ -8,18 +8,12 @@ ghost use Rattle.layout.specs.Image.{read, valid};
 ghost use Rattle.layout.specs.Places.{leftAt};
 ghost use Rattle.layout.specs.States.{states};
 ghost use Rattle.trie.specs.Nodes.{parent, symbol, depth, children, failure, failureBy, Linked, ChildOr, added, Followed, marked, Grown, FollowedRule, Roomy, Built};
+use image::wide;
 
 // Where a walk has come to, and the number of nodes.
 pub struct Walked {
     pub node: usize,
     pub nodes: usize,
-}
-
-// A word as an index.
-pub fn wide(x: u16) -> usize
-    ensures { λ r. ⌜ r ≡ x ⌝ }
-{
-    x as usize
 }
 
 // A symbol as a word.
@@ -36,13 +30,13 @@ pub fn failure_of(trie: &[u16], rows: &[u16], s: usize, q: usize) -> usize
     requires row { ⌜ (0 < parent (now trie) q → failure (now trie) (parent (now trie) q) * s + symbol (now trie) q < length (now rows)) ⌝ }
     ensures { λ r. ⌜ r ≡ failureBy (now (trie .entry)) (now (rows .entry)) s q ⌝ }
 {
-    let p = wide(trie[8 * q]);
+    let p = wide::word(trie[8 * q]);
     if p == 0 {
         return 0;
     }
-    let a = wide(trie[8 * q + 1]);
-    let f = wide(trie[8 * p + 7]);
-    wide(rows[f * s + a])
+    let a = wide::word(trie[8 * q + 1]);
+    let f = wide::word(trie[8 * p + 7]);
+    wide::word(rows[f * s + a])
 }
 
 // The child of node q by symbol a, or n, the number of nodes, where it has none.
@@ -51,12 +45,12 @@ fn child(trie: &[u16], n: usize, q: usize, a: u16) -> usize
     requires node { ⌜ q < n ⌝ }
     ensures { λ r. ⌜ ChildOr (now (trie .entry)) n q a r ⌝ }
 {
-    let mut c = wide(trie[8 * q + 3]);
+    let mut c = wide::word(trie[8 * q + 3]);
     while 0 < c {
         if trie[8 * c + 1] == a {
             return c;
         }
-        c = wide(trie[8 * c + 4]);
+        c = wide::word(trie[8 * c + 4]);
     }
     n
 }

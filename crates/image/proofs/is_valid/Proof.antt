@@ -23,7 +23,7 @@ use Rattle.image.proofs.is_valid.Tie as tie
 
 -- the header is in range
 header :
-    (c : tie.After-wide)
+    (c : tie.After-byte)
     → HeaderOf (c .before .before .before .before .before .before .before .before .before .before .args .image .now)
 header c =
     let h = c .before .before .before .header-in-range in
@@ -49,11 +49,11 @@ shared-slice-read-header-in-range-4 c = search needs
 header-in-range-requires : tie.Need-header-in-range-requires
 header-in-range-requires c κs = search needs
 
-shared-slice-read-wide : tie.Need-shared-slice-read-wide
-shared-slice-read-wide c = search needs
+shared-slice-read-byte : tie.Need-shared-slice-read-byte
+shared-slice-read-byte c = search needs
 
-wide-requires : tie.Need-wide-requires
-wide-requires c κs = search needs
+byte-requires : tie.Need-byte-requires
+byte-requires c κs = search needs
 
 mul-bodies : tie.Need-mul-bodies
 mul-bodies c = omega (arith, header c)
@@ -88,17 +88,17 @@ returns-3 : tie.Need-returns-3
 returns-3 c =
     let w = c .before .before .before .before .before .before in
     let b = w .before .before .before .before .before .before .before .before .before .before .args .image .now in
-    let n = w .wide .result in
+    let n = w .byte .result in
     let told = sym (c .before .before .before .before .contents-in-range .ensures) ∙ c .before .before .before .if4 .taken in
     c .all-below .ensures
     ∙ ap (below (getD b 0 0)) (all-behind (4 + 4 * n) b)
-    ∙ checked b n (w .wide .ensures) (header w) (omega arith) told
+    ∙ checked b n (w .byte .ensures) (header w) (omega arith) told
 
 returns-4 : tie.Need-returns-4
 returns-4 c =
     let w = c .before .before .before in
     let b = w .before .before .before .before .before .before .before .before .before .before .args .image .now in
-    unannounced b (w .wide .result) (w .wide .ensures) (sym (c .before .contents-in-range .ensures) ∙ c .if4 .left)
+    unannounced b (w .byte .result) (w .byte .ensures) (sym (c .before .contents-in-range .ensures) ∙ c .if4 .left)
 
 returns-5 : tie.Need-returns-5
 returns-5 c =
@@ -116,8 +116,8 @@ is-valid-spec =
     shared-slice-read-header-in-range-3
     shared-slice-read-header-in-range-4
     header-in-range-requires
-    shared-slice-read-wide
-    wide-requires
+    shared-slice-read-byte
+    byte-requires
     mul-bodies
     add-bodies
     returns-2

@@ -6,21 +6,21 @@ use Rattle.layout.proofs.Places.{contents-inside, contents-left}
 use Rattle.image.proofs.left_length.Statement.{statement}
 use Rattle.image.proofs.left_length.Tie as tie
 
-mul-wide : tie.Need-mul-wide
-mul-wide c =
+mul-byte : tie.Need-mul-byte
+mul-byte c =
     omega (arith, contents-inside (c .before .args .image .now) (c .before .pre .0) (c .before .args .i) (c .before .pre .1))
 
-add-wide : tie.Need-add-wide
-add-wide c =
+add-byte : tie.Need-add-byte
+add-byte c =
     omega (arith, contents-inside (c .before .args .image .now) (c .before .pre .0) (c .before .args .i) (c .before .pre .1))
 
-shared-slice-read-wide : tie.Need-shared-slice-read-wide
-shared-slice-read-wide c =
+shared-slice-read-byte : tie.Need-shared-slice-read-byte
+shared-slice-read-byte c =
     let s = c .before .before in
     omega (arith, contents-inside (s .args .image .now) (s .pre .0) (s .args .i) (s .pre .1))
 
-wide-requires : tie.Need-wide-requires
-wide-requires c κs = search needs
+byte-requires : tie.Need-byte-requires
+byte-requires c κs = search needs
 
 returns : tie.Need-returns
 returns c =
@@ -28,4 +28,4 @@ returns c =
     omega (arith, contents-left (s .args .image .now) (s .pre .0) (s .args .i) (s .pre .1))
 
 pub left-length-spec : {M : Type 1} → statement M
-left-length-spec = tie.close (tie.spec mul-wide add-wide shared-slice-read-wide wide-requires returns)
+left-length-spec = tie.close (tie.spec mul-byte add-byte shared-slice-read-byte byte-requires returns)

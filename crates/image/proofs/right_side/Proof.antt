@@ -44,8 +44,8 @@ shared-slice-read-if1 c =
 cast-t11 : tie.Need-cast-t11
 cast-t11 c = omega (arith, c .before .before .shared-slice-known2 .given (6 + 4 * c .before .before .before .before .args .i))
 
-wide-requires : tie.Need-wide-requires
-wide-requires c κs = search needs
+byte-requires : tie.Need-byte-requires
+byte-requires c κs = search needs
 
 returns : tie.Need-returns
 returns c =
@@ -63,7 +63,7 @@ returns-2 c =
     let i = s .args .i in
     let x = rule (read b .rules) i .right in
     let k : kind x ≡ 1 → ⊥ = λ e. omega (arith, contents-kind b (s .pre .0) i (s .pre .1)) in
-    ap RightSide.Put (c .wide .ensures ∙ contents-right b (s .pre .0) i (s .pre .1)) ∙ sym (right-put x k)
+    ap RightSide.Put (c .byte .ensures ∙ contents-right b (s .pre .0) i (s .pre .1)) ∙ sym (right-put x k)
 
 pub right-side-spec : {M : Type 1} → statement M
 right-side-spec =
@@ -76,6 +76,6 @@ right-side-spec =
     add-if1
     shared-slice-read-if1
     cast-t11
-    wide-requires
+    byte-requires
     returns
     returns-2)

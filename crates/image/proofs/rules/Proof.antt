@@ -6,15 +6,15 @@ use Rattle.layout.proofs.Places.{contents-within, header-rules}
 use Rattle.image.proofs.rules.Statement.{statement}
 use Rattle.image.proofs.rules.Tie as tie
 
-shared-slice-read-wide : tie.Need-shared-slice-read-wide
-shared-slice-read-wide c =
+shared-slice-read-byte : tie.Need-shared-slice-read-byte
+shared-slice-read-byte c =
     omega (arith, contents-within (c .before .before .args .image .now) (c .before .before .pre))
 
-wide-requires : tie.Need-wide-requires
-wide-requires c κs = search needs
+byte-requires : tie.Need-byte-requires
+byte-requires c κs = search needs
 
 returns : tie.Need-returns
 returns c = omega (arith, header-rules (c .before .before .before .args .image .now) (c .before .before .before .pre))
 
 pub rules-spec : {M : Type 1} → statement M
-rules-spec = tie.close (tie.spec shared-slice-read-wide wide-requires returns)
+rules-spec = tie.close (tie.spec shared-slice-read-byte byte-requires returns)

@@ -29,8 +29,8 @@ shared-slice-read-body-size-4 c = search needs
 body-size-requires : tie.Need-body-size-requires
 body-size-requires c κs = search needs
 
-wide-requires : tie.Need-wide-requires
-wide-requires c κs = search needs
+byte-requires : tie.Need-byte-requires
+byte-requires c κs = search needs
 
 returns : tie.Need-returns
 returns c =
@@ -49,5 +49,5 @@ size-at-spec =
     add-body-size-3
     shared-slice-read-body-size-4
     body-size-requires
-    wide-requires
+    byte-requires
     returns)

@@ -41,14 +41,14 @@ bounds c =
     (c .before .loop .inv .0) (omega arith)
 
 -- the word that is stored is the one of the node in its parent's row
-place : (c : tie.After-wide2 Inv-loop μ-loop)
-    → c .before .before .wide .result * c .before .before .before .before .before .before .symbols .result + c .wide2 .result
+place : (c : tie.After-word2 Inv-loop μ-loop)
+    → c .before .before .word .result * c .before .before .before .before .before .before .symbols .result + c .word2 .result
     ≡ parent (c .before .before .before .before .before .before .before .before .before .before .args .trie .now)
     (c .before .before .before .before .before .loop .c)
     * read (c .before .before .before .before .before .before .before .before .before .before .args .image .now) .symbols
     + symbol (c .before .before .before .before .before .before .before .before .before .before .args .trie .now)
     (c .before .before .before .before .before .loop .c)
-place c = rw (c .before .before .wide .ensures, c .before .before .before .before .before .before .symbols .ensures, c .wide2 .ensures)
+place c = rw (c .before .before .word .ensures, c .before .before .before .before .before .before .symbols .ensures, c .word2 .ensures)
 
 symbols-requires : tie.Need-symbols-requires Inv-loop μ-loop
 symbols-requires c κs = search needs
@@ -64,32 +64,32 @@ loop-holds c =
           ∙ ap (λ (n : ℕ). replicate (n * read (start .args .image .now) .symbols) 0) (start .pre .1 .1 .0)),
     )
 
-mul-wide : tie.Need-mul-wide Inv-loop μ-loop
-mul-wide c = omega (arith, bounds c)
+mul-word : tie.Need-mul-word Inv-loop μ-loop
+mul-word c = omega (arith, bounds c)
 
-mul-wide-2 : tie.Need-mul-wide-2 Inv-loop μ-loop
-mul-wide-2 c = omega (arith, bounds c)
+mul-word-2 : tie.Need-mul-word-2 Inv-loop μ-loop
+mul-word-2 c = omega (arith, bounds c)
 
-shared-slice-read-wide : tie.Need-shared-slice-read-wide Inv-loop μ-loop
-shared-slice-read-wide c = omega (arith, bounds (c .before))
+shared-slice-read-word : tie.Need-shared-slice-read-word Inv-loop μ-loop
+shared-slice-read-word c = omega (arith, bounds (c .before))
 
-wide-requires : tie.Need-wide-requires Inv-loop μ-loop
-wide-requires c κs = search needs
+word-requires : tie.Need-word-requires Inv-loop μ-loop
+word-requires c κs = search needs
 
-mul-wide-3 : tie.Need-mul-wide-3 Inv-loop μ-loop
-mul-wide-3 c = omega (arith, bounds (c .before .before))
+mul-word-3 : tie.Need-mul-word-3 Inv-loop μ-loop
+mul-word-3 c = omega (arith, bounds (c .before .before))
 
-add-wide : tie.Need-add-wide Inv-loop μ-loop
-add-wide c = omega (arith, bounds (c .before .before))
+add-word : tie.Need-add-word Inv-loop μ-loop
+add-word c = omega (arith, bounds (c .before .before))
 
-mul-wide-4 : tie.Need-mul-wide-4 Inv-loop μ-loop
-mul-wide-4 c = omega (arith, bounds (c .before .before))
+mul-word-4 : tie.Need-mul-word-4 Inv-loop μ-loop
+mul-word-4 c = omega (arith, bounds (c .before .before))
 
-shared-slice-read-wide-2 : tie.Need-shared-slice-read-wide-2 Inv-loop μ-loop
-shared-slice-read-wide-2 c = omega (arith, bounds (c .before .before .before))
+shared-slice-read-word-2 : tie.Need-shared-slice-read-word-2 Inv-loop μ-loop
+shared-slice-read-word-2 c = omega (arith, bounds (c .before .before .before))
 
-wide-requires-2 : tie.Need-wide-requires-2 Inv-loop μ-loop
-wide-requires-2 c κs = search needs
+word-requires-2 : tie.Need-word-requires-2 Inv-loop μ-loop
+word-requires-2 c κs = search needs
 
 cast-rows : tie.Need-cast-rows Inv-loop μ-loop
 cast-rows c = omega (arith, bounds (c .before .before .before .before))
@@ -142,15 +142,15 @@ lay-children-spec =
     μ-loop
     symbols-requires
     loop-holds
-    mul-wide
-    mul-wide-2
-    shared-slice-read-wide
-    wide-requires
-    mul-wide-3
-    add-wide
-    mul-wide-4
-    shared-slice-read-wide-2
-    wide-requires-2
+    mul-word
+    mul-word-2
+    shared-slice-read-word
+    word-requires
+    mul-word-3
+    add-word
+    mul-word-4
+    shared-slice-read-word-2
+    word-requires-2
     cast-rows
     mul-rows
     add-rows

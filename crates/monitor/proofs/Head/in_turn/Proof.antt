@@ -27,20 +27,20 @@ Inv-loop image table starts bytes₀ words₀ offering events fuel answers₀ ro
 abbrev μ-loop : tie.MeasureT-loop
 μ-loop image table starts bytes₀ words₀ offering events fuel answers₀ rows width head₀ steps₀ rewrites₀ put₀ k₀ k-end bytes words answers head steps rewrites put k = length events - k
 
-shared-slice-read-wide : tie.Need-shared-slice-read-wide Inv-loop μ-loop
-shared-slice-read-wide c = omega (arith, table-header (read (c .before .before .before .before .before .before .before .before .args .image .now)) (c .before .before .before .before .before .before .before .before .args .table .now) (passed-table (length (c .before .before .before .before .before .before .before .before .args .bytes .now)) (c .before .before .before .before .before .before .before .before .args .image .now) (c .before .before .before .before .before .before .before .before .args .table .now) (lent (c .before .before .before .before .before .before .before .before .args .self) (c .before .before .before .before .before .before .before .before .args .bytes .now) (c .before .before .before .before .before .before .before .before .args .words .now)) (c .before .before .before .before .before .before .before .before .pre .0)))
+shared-slice-read-word : tie.Need-shared-slice-read-word Inv-loop μ-loop
+shared-slice-read-word c = omega (arith, table-header (read (c .before .before .before .before .before .before .before .before .args .image .now)) (c .before .before .before .before .before .before .before .before .args .table .now) (passed-table (length (c .before .before .before .before .before .before .before .before .args .bytes .now)) (c .before .before .before .before .before .before .before .before .args .image .now) (c .before .before .before .before .before .before .before .before .args .table .now) (lent (c .before .before .before .before .before .before .before .before .args .self) (c .before .before .before .before .before .before .before .before .args .bytes .now) (c .before .before .before .before .before .before .before .before .args .words .now)) (c .before .before .before .before .before .before .before .before .pre .0)))
 
-wide-requires : tie.Need-wide-requires Inv-loop μ-loop
-wide-requires c κs = search needs
+word-requires : tie.Need-word-requires Inv-loop μ-loop
+word-requires c κs = search needs
 
 add-rows : tie.Need-add-rows Inv-loop μ-loop
-add-rows c = omega (arith, c .wide .ensures, states-in (read (c .before .before .before .before .before .before .before .before .before .args .image .now)) (c .before .before .before .before .before .before .before .before .before .args .table .now) (passed-table (length (c .before .before .before .before .before .before .before .before .before .args .bytes .now)) (c .before .before .before .before .before .before .before .before .before .args .image .now) (c .before .before .before .before .before .before .before .before .before .args .table .now) (lent (c .before .before .before .before .before .before .before .before .before .args .self) (c .before .before .before .before .before .before .before .before .before .args .bytes .now) (c .before .before .before .before .before .before .before .before .before .args .words .now)) (c .before .before .before .before .before .before .before .before .before .pre .0)), few-states (read (c .before .before .before .before .before .before .before .before .before .args .image .now)) (valid-in-range (c .before .before .before .before .before .before .before .before .before .args .image .now) (passed-valid (length (c .before .before .before .before .before .before .before .before .before .args .bytes .now)) (c .before .before .before .before .before .before .before .before .before .args .image .now) (c .before .before .before .before .before .before .before .before .before .args .table .now) (lent (c .before .before .before .before .before .before .before .before .before .args .self) (c .before .before .before .before .before .before .before .before .before .args .bytes .now) (c .before .before .before .before .before .before .before .before .before .args .words .now)) (c .before .before .before .before .before .before .before .before .before .pre .0))))
+add-rows c = omega (arith, c .word .ensures, states-in (read (c .before .before .before .before .before .before .before .before .before .args .image .now)) (c .before .before .before .before .before .before .before .before .before .args .table .now) (passed-table (length (c .before .before .before .before .before .before .before .before .before .args .bytes .now)) (c .before .before .before .before .before .before .before .before .before .args .image .now) (c .before .before .before .before .before .before .before .before .before .args .table .now) (lent (c .before .before .before .before .before .before .before .before .before .args .self) (c .before .before .before .before .before .before .before .before .before .args .bytes .now) (c .before .before .before .before .before .before .before .before .before .args .words .now)) (c .before .before .before .before .before .before .before .before .before .pre .0)), few-states (read (c .before .before .before .before .before .before .before .before .before .args .image .now)) (valid-in-range (c .before .before .before .before .before .before .before .before .before .args .image .now) (passed-valid (length (c .before .before .before .before .before .before .before .before .before .args .bytes .now)) (c .before .before .before .before .before .before .before .before .before .args .image .now) (c .before .before .before .before .before .before .before .before .before .args .table .now) (lent (c .before .before .before .before .before .before .before .before .before .args .self) (c .before .before .before .before .before .before .before .before .before .args .bytes .now) (c .before .before .before .before .before .before .before .before .before .args .words .now)) (c .before .before .before .before .before .before .before .before .before .pre .0))))
 
-shared-slice-read-wide-2 : tie.Need-shared-slice-read-wide-2 Inv-loop μ-loop
-shared-slice-read-wide-2 c = omega (arith, table-header (read (c .before .before .before .before .before .before .before .before .before .before .args .image .now)) (c .before .before .before .before .before .before .before .before .before .before .args .table .now) (passed-table (length (c .before .before .before .before .before .before .before .before .before .before .args .bytes .now)) (c .before .before .before .before .before .before .before .before .before .before .args .image .now) (c .before .before .before .before .before .before .before .before .before .before .args .table .now) (lent (c .before .before .before .before .before .before .before .before .before .before .args .self) (c .before .before .before .before .before .before .before .before .before .before .args .bytes .now) (c .before .before .before .before .before .before .before .before .before .before .args .words .now)) (c .before .before .before .before .before .before .before .before .before .before .pre .0)))
+shared-slice-read-word-2 : tie.Need-shared-slice-read-word-2 Inv-loop μ-loop
+shared-slice-read-word-2 c = omega (arith, table-header (read (c .before .before .before .before .before .before .before .before .before .before .args .image .now)) (c .before .before .before .before .before .before .before .before .before .before .args .table .now) (passed-table (length (c .before .before .before .before .before .before .before .before .before .before .args .bytes .now)) (c .before .before .before .before .before .before .before .before .before .before .args .image .now) (c .before .before .before .before .before .before .before .before .before .before .args .table .now) (lent (c .before .before .before .before .before .before .before .before .before .before .args .self) (c .before .before .before .before .before .before .before .before .before .before .args .bytes .now) (c .before .before .before .before .before .before .before .before .before .before .args .words .now)) (c .before .before .before .before .before .before .before .before .before .before .pre .0)))
 
-wide-requires-2 : tie.Need-wide-requires-2 Inv-loop μ-loop
-wide-requires-2 c κs = search needs
+word-requires-2 : tie.Need-word-requires-2 Inv-loop μ-loop
+word-requires-2 c κs = search needs
 
 anew-requires : tie.Need-anew-requires Inv-loop μ-loop
 anew-requires c κs = search needs
@@ -53,7 +53,7 @@ shared-slice-read-called : tie.Need-shared-slice-read-called Inv-loop μ-loop
 shared-slice-read-called c = c .before .before .before .loop-test .taken
 
 called-requires : tie.Need-called-requires Inv-loop μ-loop
-called-requires c κs = (offering-passed (c .before .before .before .before .loop .inv), (c .before .before .before .before .before .before .before .before .before .before .before .before .before .before .before .before .before .pre .1 .0, (ap (λ (x : ℕ). 2 + x) (c .before .before .before .before .before .before .before .before .wide .ensures), c .before .before .before .before .before .before .wide2 .ensures)))
+called-requires c κs = (offering-passed (c .before .before .before .before .loop .inv), (c .before .before .before .before .before .before .before .before .before .before .before .before .before .before .before .before .before .pre .1 .0, (ap (λ (x : ℕ). 2 + x) (c .before .before .before .before .before .before .before .before .word .ensures), c .before .before .before .before .before .before .word2 .ensures)))
 
 enum-known-answer : tie.Need-enum-known-answer Inv-loop μ-loop
 enum-known-answer c = search needs
@@ -124,11 +124,11 @@ in-turn-spec =
     (tie.spec
     Inv-loop
     μ-loop
-    shared-slice-read-wide
-    wide-requires
+    shared-slice-read-word
+    word-requires
     add-rows
-    shared-slice-read-wide-2
-    wide-requires-2
+    shared-slice-read-word-2
+    word-requires-2
     anew-requires
     loop-holds
     shared-slice-read-called

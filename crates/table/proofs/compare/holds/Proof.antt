@@ -35,31 +35,31 @@ returns c =
     let start = c .before .before .before .before .before in
     short-table (read (start .args .image .now)) (start .args .table .now) (start .pre .1 .nodes) (c .before .symbols .ensures) (c .if1 .taken)
 
-shared-slice-read-wide : tie.Need-shared-slice-read-wide
-shared-slice-read-wide c = search needs
+shared-slice-read-word : tie.Need-shared-slice-read-word
+shared-slice-read-word c = search needs
 
-wide-requires : tie.Need-wide-requires
-wide-requires c κs = search needs
+word-requires : tie.Need-word-requires
+word-requires c κs = search needs
 
 returns-2 : tie.Need-returns-2
 returns-2 c =
     let sized = c .before .before .before in
     let start = sized .before .before .before .before .before in
     other-states (read (start .args .image .now)) (start .args .table .now) (start .pre .1 .nodes) (sized .before .symbols .ensures)
-    (λ e. c .if2 .taken (c .before .wide .ensures ∙ e))
+    (λ e. c .if2 .taken (c .before .word .ensures ∙ e))
 
-shared-slice-read-wide-2 : tie.Need-shared-slice-read-wide-2
-shared-slice-read-wide-2 c = search needs
+shared-slice-read-word-2 : tie.Need-shared-slice-read-word-2
+shared-slice-read-word-2 c = search needs
 
-wide-requires-2 : tie.Need-wide-requires-2
-wide-requires-2 c κs = search needs
+word-requires-2 : tie.Need-word-requires-2
+word-requires-2 c κs = search needs
 
 returns-3 : tie.Need-returns-3
 returns-3 c =
     let sized = c .before .before .before .before .before .before in
     let start = sized .before .before .before .before .before in
     other-symbols (read (start .args .image .now)) (start .args .table .now) (start .pre .1 .nodes) (sized .before .symbols .ensures)
-    (λ e. c .if3 .taken (c .before .wide2 .ensures ∙ e))
+    (λ e. c .if3 .taken (c .before .word2 .ensures ∙ e))
 
 sub-states-hold : tie.Need-sub-states-hold
 sub-states-hold c = search needs
@@ -102,7 +102,7 @@ returns-4 c =
     let start = sized .before .before .before .before .before in
     compared (read (start .args .image .now)) (start .args .table .now) (start .pre .1 .nodes) (sized .before .symbols .ensures)
     (valid-in-range (start .args .image .now) (start .pre .0)) (sized .if1 .left)
-    (sym (second .before .wide .ensures) ∙ second .if2 .left) (sym (third .before .wide2 .ensures) ∙ third .if3 .left)
+    (sym (second .before .word .ensures) ∙ second .if2 .left) (sym (third .before .word2 .ensures) ∙ third .if3 .left)
     (c .before .before .states-hold .result) (c .before .before .states-hold .ensures)
 
 pub holds-spec : {M : Type 1} → statement M
@@ -114,11 +114,11 @@ holds-spec =
     mul-end
     add-end
     returns
-    shared-slice-read-wide
-    wide-requires
+    shared-slice-read-word
+    word-requires
     returns-2
-    shared-slice-read-wide-2
-    wide-requires-2
+    shared-slice-read-word-2
+    word-requires-2
     returns-3
     sub-states-hold
     part-states-hold-start

@@ -20,20 +20,20 @@ shared-slice-read-own c = search needs
 returns : tie.Need-returns
 returns c = rw (ne-eqb _ 0 (c .if1 .taken))
 
-mul-wide : tie.Need-mul-wide
-mul-wide c = search needs
+mul-word : tie.Need-mul-word
+mul-word c = search needs
 
-add-wide : tie.Need-add-wide
-add-wide c = search needs
+add-word : tie.Need-add-word
+add-word c = search needs
 
-mul-wide-2 : tie.Need-mul-wide-2
-mul-wide-2 c = search needs
+mul-word-2 : tie.Need-mul-word-2
+mul-word-2 c = search needs
 
-shared-slice-read-wide : tie.Need-shared-slice-read-wide
-shared-slice-read-wide c = search needs
+shared-slice-read-word : tie.Need-shared-slice-read-word
+shared-slice-read-word c = search needs
 
-wide-requires : tie.Need-wide-requires
-wide-requires c κs = search needs
+word-requires : tie.Need-word-requires
+word-requires c κs = search needs
 
 mul-result : tie.Need-mul-result
 mul-result c = search needs
@@ -42,7 +42,7 @@ shared-slice-read-result : tie.Need-shared-slice-read-result
 shared-slice-read-result c = search needs
 
 returns-2 : tie.Need-returns-2
-returns-2 c = rw (eq-eqb _ 0 (c .before .before .before .if1 .left), c .before .wide .ensures)
+returns-2 c = rw (eq-eqb _ 0 (c .before .before .before .if1 .left), c .before .word .ensures)
 
 pub inherited-spec : {M : Type 1} → statement M
 inherited-spec =
@@ -53,11 +53,11 @@ inherited-spec =
     mul-own-2
     shared-slice-read-own
     returns
-    mul-wide
-    add-wide
-    mul-wide-2
-    shared-slice-read-wide
-    wide-requires
+    mul-word
+    add-word
+    mul-word-2
+    shared-slice-read-word
+    word-requires
     mul-result
     shared-slice-read-result
     returns-2)

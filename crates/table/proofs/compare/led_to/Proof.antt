@@ -8,72 +8,72 @@ use Rattle.table.proofs.compare.led_to.Statement.{statement}
 use Rattle.table.proofs.compare.led_to.Tie as tie
 
 -- the word that is read stands in the rows
-inside : (c : tie.After-wide2)
-    → c .before .before .wide .result * (c .before .before .before .before .before .before .args .s) + c .wide2 .result
+inside : (c : tie.After-word2)
+    → c .before .before .word .result * (c .before .before .before .before .before .before .args .s) + c .word2 .result
     < length (c .before .before .before .before .before .before .args .rows .now)
-inside c = rw (c .wide2 .ensures, c .before .before .wide .ensures) (c .before .before .before .before .before .before .pre .1)
+inside c = rw (c .word2 .ensures, c .before .before .word .ensures) (c .before .before .before .before .before .before .pre .1)
 
-mul-wide : tie.Need-mul-wide
-mul-wide c = search needs
+mul-word : tie.Need-mul-word
+mul-word c = search needs
 
-mul-wide-2 : tie.Need-mul-wide-2
-mul-wide-2 c = search needs
+mul-word-2 : tie.Need-mul-word-2
+mul-word-2 c = search needs
 
-shared-slice-read-wide : tie.Need-shared-slice-read-wide
-shared-slice-read-wide c = search needs
+shared-slice-read-word : tie.Need-shared-slice-read-word
+shared-slice-read-word c = search needs
 
-wide-requires : tie.Need-wide-requires
-wide-requires c κs = search needs
+word-requires : tie.Need-word-requires
+word-requires c κs = search needs
 
-mul-wide-3 : tie.Need-mul-wide-3
-mul-wide-3 c = search needs
+mul-word-3 : tie.Need-mul-word-3
+mul-word-3 c = search needs
 
-add-wide : tie.Need-add-wide
-add-wide c = search needs
+add-word : tie.Need-add-word
+add-word c = search needs
 
-mul-wide-4 : tie.Need-mul-wide-4
-mul-wide-4 c = search needs
+mul-word-4 : tie.Need-mul-word-4
+mul-word-4 c = search needs
 
-shared-slice-read-wide-2 : tie.Need-shared-slice-read-wide-2
-shared-slice-read-wide-2 c = search needs
+shared-slice-read-word-2 : tie.Need-shared-slice-read-word-2
+shared-slice-read-word-2 c = search needs
 
-wide-requires-2 : tie.Need-wide-requires-2
-wide-requires-2 c κs = search needs
+word-requires-2 : tie.Need-word-requires-2
+word-requires-2 c κs = search needs
 
-mul-wide-5 : tie.Need-mul-wide-5
-mul-wide-5 c = omega (arith, inside c)
+mul-word-5 : tie.Need-mul-word-5
+mul-word-5 c = omega (arith, inside c)
 
-add-wide-2 : tie.Need-add-wide-2
-add-wide-2 c = omega (arith, inside c)
+add-word-2 : tie.Need-add-word-2
+add-word-2 c = omega (arith, inside c)
 
-mul-wide-6 : tie.Need-mul-wide-6
-mul-wide-6 c = omega (arith, inside c)
+mul-word-6 : tie.Need-mul-word-6
+mul-word-6 c = omega (arith, inside c)
 
-shared-slice-read-wide-3 : tie.Need-shared-slice-read-wide-3
-shared-slice-read-wide-3 c = inside (c .before)
+shared-slice-read-word-3 : tie.Need-shared-slice-read-word-3
+shared-slice-read-word-3 c = inside (c .before)
 
-wide-requires-3 : tie.Need-wide-requires-3
-wide-requires-3 c κs = search needs
+word-requires-3 : tie.Need-word-requires-3
+word-requires-3 c κs = search needs
 
 returns : tie.Need-returns
-returns c = rw (c .wide3 .ensures, c .before .before .wide2 .ensures, c .before .before .before .before .wide .ensures)
+returns c = rw (c .word3 .ensures, c .before .before .word2 .ensures, c .before .before .before .before .word .ensures)
 
 pub led-to-spec : {M : Type 1} → statement M
 led-to-spec =
     tie.close
     (tie.spec
-    mul-wide
-    mul-wide-2
-    shared-slice-read-wide
-    wide-requires
-    mul-wide-3
-    add-wide
-    mul-wide-4
-    shared-slice-read-wide-2
-    wide-requires-2
-    mul-wide-5
-    add-wide-2
-    mul-wide-6
-    shared-slice-read-wide-3
-    wide-requires-3
+    mul-word
+    mul-word-2
+    shared-slice-read-word
+    word-requires
+    mul-word-3
+    add-word
+    mul-word-4
+    shared-slice-read-word-2
+    word-requires-2
+    mul-word-5
+    add-word-2
+    mul-word-6
+    shared-slice-read-word-3
+    word-requires-3
     returns)

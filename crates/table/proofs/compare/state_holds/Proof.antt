@@ -24,25 +24,25 @@ shared-slice-read-if2 c = search needs
 returns-2 : tie.Need-returns-2
 returns-2 c = search needs
 
-mul-wide : tie.Need-mul-wide
-mul-wide c = search needs
+mul-word : tie.Need-mul-word
+mul-word c = search needs
 
-add-wide : tie.Need-add-wide
-add-wide c = search needs
+add-word : tie.Need-add-word
+add-word c = search needs
 
-mul-wide-2 : tie.Need-mul-wide-2
-mul-wide-2 c = search needs
+mul-word-2 : tie.Need-mul-word-2
+mul-word-2 c = search needs
 
-shared-slice-read-wide : tie.Need-shared-slice-read-wide
-shared-slice-read-wide c = search needs
+shared-slice-read-word : tie.Need-shared-slice-read-word
+shared-slice-read-word c = search needs
 
-wide-requires : tie.Need-wide-requires
-wide-requires c κs = search needs
+word-requires : tie.Need-word-requires
+word-requires c κs = search needs
 
 differences-requires : tie.Need-differences-requires
 differences-requires c κs =
     let pre = c .before .before .before .before .before .before .before .before .before .before .pre in
-    (pre .0, (pre .1 .1 .1 .1 .0, rw (c .wide .ensures) (pre .1 .1 .1 .1 .1)))
+    (pre .0, (pre .1 .1 .1 .1 .0, rw (c .word .ensures) (pre .1 .1 .1 .1 .1)))
 
 mul-if3 : tie.Need-mul-if3
 mul-if3 c = search needs
@@ -58,7 +58,7 @@ shared-slice-read-if3 c = search needs
 
 returns-3 : tie.Need-returns-3
 returns-3 c = λ p.
-    c .if3 .taken (c .before .before .differences .ensures ∙ rw (c .before .before .before .wide .ensures) (p .differs))
+    c .if3 .taken (c .before .before .differences .ensures ∙ rw (c .before .before .before .word .ensures) (p .differs))
 
 returns-4 : tie.Need-returns-4
 returns-4 c =
@@ -67,7 +67,7 @@ returns-4 c =
     passes (start .args .trie .now) (start .args .matches .now) (start .args .rows .now) (start .args .s) (start .args .q)
     (led .before .led-to .ensures) (led .if1 .left)
     (c .before .before .before .before .before .before .before .inherited .ensures) (c .before .before .before .before .before .if2 .left)
-    (c .before .before .before .wide .ensures) (c .before .before .differences .ensures) (c .if3 .left)
+    (c .before .before .before .word .ensures) (c .before .before .differences .ensures) (c .if3 .left)
 
 pub state-holds-spec : {M : Type 1} → statement M
 state-holds-spec =
@@ -79,11 +79,11 @@ state-holds-spec =
     mul-if2
     shared-slice-read-if2
     returns-2
-    mul-wide
-    add-wide
-    mul-wide-2
-    shared-slice-read-wide
-    wide-requires
+    mul-word
+    add-word
+    mul-word-2
+    shared-slice-read-word
+    word-requires
     differences-requires
     mul-if3
     add-if3

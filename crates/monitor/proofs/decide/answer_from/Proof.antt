@@ -2,8 +2,8 @@
 -- Assumes nothing.
 use borrow.Author.Needs.{needs}
 use borrow.Author.Tests.{eq-eqb, ne-eqb, lt-ltb, le-ltb}
-use Rattle.parts.proofs.answer_from.Statement.{statement}
-use Rattle.parts.proofs.answer_from.Tie as tie
+use Rattle.monitor.proofs.decide.answer_from.Statement.{statement}
+use Rattle.monitor.proofs.decide.answer_from.Tie as tie
 
 returns : tie.Need-returns
 returns c = rw (eq-eqb (c .before .args .byte) 0 (c .if1 .taken))

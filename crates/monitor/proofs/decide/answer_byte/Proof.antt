@@ -3,8 +3,8 @@
 use native.Mathlib.Omega.{arith}
 use borrow.Author.Needs.{needs}
 use Rattle.machine.specs.Calls.{answerNumber}
-use Rattle.parts.proofs.answer_byte.Statement.{statement}
-use Rattle.parts.proofs.answer_byte.Tie as tie
+use Rattle.monitor.proofs.decide.answer_byte.Statement.{statement}
+use Rattle.monitor.proofs.decide.answer_byte.Tie as tie
 
 enum-told : tie.Need-enum-told
 enum-told c = search needs

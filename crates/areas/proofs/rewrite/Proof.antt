@@ -15,8 +15,8 @@ use Rattle.machine.specs.Areas.{Monitor}
 use Rattle.machine.specs.Lent.{monitorIn}
 use Rattle.machine.proofs.RightSides.{is-put, is-close, put-few, put-within, put-here}
 use Rattle.machine.proofs.Stepping.{Held, held, passed-valid, first-place, matched-rule, left-some, left-fits, put-step, full-step, close-step}
-use Rattle.parts.proofs.rewrite.Statement.{statement}
-use Rattle.parts.proofs.rewrite.Tie as tie
+use Rattle.areas.proofs.rewrite.Statement.{statement}
+use Rattle.areas.proofs.rewrite.Tie as tie
 
 -- a slice's length fits a usize
 long : (c : tie.After-slice-known2) → length (c .before .before .before .before .before .args .bytes .now) < 18446744073709551616
@@ -94,14 +94,14 @@ returns c =
 take-off-requires : tie.Need-take-off-requires
 take-off-requires c κs = (omega (arith, facts (c .before .before .before .before .before .before .before .before .before .before .before .before .before), one-waits (c .before .before .before .before .before .before .before .before .before .before .before .before .before)), (omega (arith, some-symbol (c .before .before .before .before .before .before .before .before .before .before .before .before .before), c .before .before .before .before .before .before .before .left-length .ensures), (omega (arith, facts (c .before .before .before .before .before .before .before .before .before .before .before .before .before)), omega (arith, facts (c .before .before .before .before .before .before .before .before .before .before .before .before .before)))))
 
-mul-wide : tie.Need-mul-wide
-mul-wide c = omega (arith, c .before .before .before .before .before .before .before .before .before .before .before .before .before .before .before .before .before .before .pre .1 .0 (c .before .before .before .before .before .before .before .before .before .before .before .before .before .before .before .before .before .before .args .i) (is-rule (c .before .before .before .before .before .before .before .before .before .before .before .before .before .before .before .before .before .before)) .0)
+mul-word : tie.Need-mul-word
+mul-word c = omega (arith, c .before .before .before .before .before .before .before .before .before .before .before .before .before .before .before .before .before .before .pre .1 .0 (c .before .before .before .before .before .before .before .before .before .before .before .before .before .before .before .before .before .before .args .i) (is-rule (c .before .before .before .before .before .before .before .before .before .before .before .before .before .before .before .before .before .before)) .0)
 
-shared-slice-read-wide : tie.Need-shared-slice-read-wide
-shared-slice-read-wide c = c .before .before .before .before .before .before .before .before .before .before .before .before .before .before .before .before .before .before .before .pre .1 .0 (c .before .before .before .before .before .before .before .before .before .before .before .before .before .before .before .before .before .before .before .args .i) (is-rule (c .before .before .before .before .before .before .before .before .before .before .before .before .before .before .before .before .before .before .before)) .0
+shared-slice-read-word : tie.Need-shared-slice-read-word
+shared-slice-read-word c = c .before .before .before .before .before .before .before .before .before .before .before .before .before .before .before .before .before .before .before .pre .1 .0 (c .before .before .before .before .before .before .before .before .before .before .before .before .before .before .before .before .before .before .before .args .i) (is-rule (c .before .before .before .before .before .before .before .before .before .before .before .before .before .before .before .before .before .before .before)) .0
 
-wide-requires : tie.Need-wide-requires
-wide-requires c κs = search needs
+word-requires : tie.Need-word-requires
+word-requires c κs = search needs
 
 sub-put-back : tie.Need-sub-put-back
 sub-put-back c = search needs
@@ -109,7 +109,7 @@ sub-put-back c = search needs
 put-back-requires : tie.Need-put-back-requires
 put-back-requires c κs =
     let bound = within (c .before .before .before .before .before .before .before .before .before .before .before .before .before .before .before .before .before .before .before .before .before) _ (sym (c .before .before .before .before .before .before .before .before .before .before .before .before .before .before .right-side .ensures) ∙ c .before .before .before .before .before .before .before .before .before .before .before .before .n .given .1) in
-    (rw (c .before .wide .ensures) bound, omega (arith, facts (c .before .before .before .before .before .before .before .before .before .before .before .before .before .before .before .before .before .before .before .before .before), one-waits (c .before .before .before .before .before .before .before .before .before .before .before .before .before .before .before .before .before .before .before .before .before), c .before .before .before .before .before .before .before .before .before .before .if1 .left, c .before .before .before .before .before .before .before .take-off .kept .0))
+    (rw (c .before .word .ensures) bound, omega (arith, facts (c .before .before .before .before .before .before .before .before .before .before .before .before .before .before .before .before .before .before .before .before .before), one-waits (c .before .before .before .before .before .before .before .before .before .before .before .before .before .before .before .before .before .before .before .before .before), c .before .before .before .before .before .before .before .before .before .before .if1 .left, c .before .before .before .before .before .before .before .take-off .kept .0))
 
 sub-t20 : tie.Need-sub-t20
 sub-t20 c = one-waits (c .before .before .before .before .before .before .before .before .before .before .before .before .before .before .before .before .before .before .before .before .before .before .before .before)
@@ -140,7 +140,7 @@ returns-2 c =
     (put-step (read (c .before .before .before .before .before .before .before .before .before .before .before .before .before .before .before .before .before .before .before .before .before .before .before .before .args .image .now)) (length (c .before .before .before .before .before .before .before .before .before .before .before .before .before .before .before .before .before .before .before .before .before .before .before .before .args .bytes .now)) (given (c .before .before .before .before .before .before .before .before .before .before .before .before .before .before .before .before .before .before .before .before .before .before .before .before)) (facts (c .before .before .before .before .before .before .before .before .before .before .before .before .before .before .before .before .before .before .before .before .before .before .before .before)) (c .before .before .before .before .before .before .before .before .before .before .before .before .before .before .before .before .before .before .before .before .before .before .before .before .args .i) (c .before .before .before .before .before .before .before .before .before .before .before .before .before .before .before .before .before .before .before .before .before .before .before .before .pre .1 .1)
     (record { first-is = refl; kept-is = (ap (λ (x : ℕ). c .before .before .before .before .before .before .before .before .before .before .before .before .before .before .before .before .before .before .before .before .before .before .before .before .args .settled + 1 - x) (c .before .before .before .before .before .before .before .before .before .before .before .before .before .before .before .before .before .before .left-length .ensures)); bytes-is = c .before .before .before .before .before .before .before .before .before .before .take-off .ensures .0; words-is = c .before .before .before .before .before .before .before .before .before .before .take-off .ensures .1 })
     (r .0) _ _ (r .1) (r .2)
-    (rw (c .before .before .before .before .wide .ensures, start) (put-here (c .before .before .before .before .before .before .before .before .before .before .before .before .before .before .before .before .before .before .before .before .before .before .before .before .args .image .now) (good (c .before .before .before .before .before .before .before .before .before .before .before .before .before .before .before .before .before .before .before .before .before .before .before .before)) (c .before .before .before .before .before .before .before .before .before .before .before .before .before .before .before .before .before .before .before .before .before .before .before .before .args .i) (is-rule (c .before .before .before .before .before .before .before .before .before .before .before .before .before .before .before .before .before .before .before .before .before .before .before .before)) (r .0) (r .1) _ (r .2)))
+    (rw (c .before .before .before .before .word .ensures, start) (put-here (c .before .before .before .before .before .before .before .before .before .before .before .before .before .before .before .before .before .before .before .before .before .before .before .before .args .image .now) (good (c .before .before .before .before .before .before .before .before .before .before .before .before .before .before .before .before .before .before .before .before .before .before .before .before)) (c .before .before .before .before .before .before .before .before .before .before .before .before .before .before .before .before .before .before .before .before .before .before .before .before .args .i) (is-rule (c .before .before .before .before .before .before .before .before .before .before .before .before .before .before .before .before .before .before .before .before .before .before .before .before)) (r .0) (r .1) _ (r .2)))
     (c .before .before .before .before .before .before .before .before .before .before .before .before .before .if1 .left))
 
 same-length-3 : tie.Need-same-length-3
@@ -169,9 +169,9 @@ rewrite-spec =
     add-if1
     returns
     take-off-requires
-    mul-wide
-    shared-slice-read-wide
-    wide-requires
+    mul-word
+    shared-slice-read-word
+    word-requires
     sub-put-back
     put-back-requires
     sub-t20

@@ -1,5 +1,5 @@
-// The check behind refusal 11: whether head and areas are as document 01 describes them.
-// The module is private: what its functions ask, the checks before it have shown.
+// The check behind refusal 11: whether head and areas are as document 01 describes them. What it asks, the checks of 7, 9 and 10 have
+// shown.
 ghost use Prim.Native.Nat.{_<_};
 ghost use mathlib.Core.Path.{_≡_};
 ghost use mathlib.Core.Bool.{true};
@@ -11,6 +11,7 @@ ghost use Rattle.layout.specs.Table.{tableOf};
 ghost use Rattle.machine.specs.Areas.{standsBy, described};
 ghost use Rattle.machine.specs.Lent.{monitorIn, Settled};
 use crate::held;
+use image::wide;
 use layout::RightSide;
 use machine::Standing;
 
@@ -56,13 +57,6 @@ fn stands_by(image: &[u8], verdict: Standing, rule: usize) -> bool
     }
 }
 
-// A symbol as a number.
-fn number(x: u8) -> usize
-    ensures { λ r. ⌜ r ≡ x ⌝ }
-{
-    x as usize
-}
-
 // Whether these are settled symbols and their words: each symbol below S, each word the state after its symbol, and none
 // of the states has a match. Each word is tested against the one lent before it, so that no turn waits for the one before.
 fn settled_right(image: &[u8], table: &[u16], symbols: &[u8], words: &[u16]) -> bool
@@ -73,13 +67,13 @@ fn settled_right(image: &[u8], table: &[u16], symbols: &[u8], words: &[u16]) -> 
 {
     let s = image::symbols(image);
     for i in 0..symbols.len() {
-        let a = number(symbols[i]);
+        let a = wide::byte(symbols[i]);
         if s <= a {
             return false;
         }
         let q = held::word_before(words, i);
         let next = held::next_state(table, q, a);
-        if held::wide(words[i]) != next {
+        if wide::word(words[i]) != next {
             return false;
         }
         if held::match_word(table, next) != 0 {

@@ -2,7 +2,7 @@
 use Prim.Native.Nat.{ℕ}
 use mathlib.Core.List.{List}
 use Rattle.machine.specs.Lent.{monitorIn, Tried}
-use Rattle.parts.specs.declared.Rewritten.{Rewritten}
+use Rattle.areas.specs.declared.Rewritten.{Rewritten}
 
 abbrev pub rewrittenFrom : Rewritten → List ℕ → List ℕ → Tried
 rewrittenFrom r bytes words =

@@ -17,8 +17,8 @@ use Rattle.machine.proofs.SettledTurns.{
   settled-more,
   settled-all,
 }
-use Rattle.areas.proofs.check.settled_right.Statement.{statement}
-use Rattle.areas.proofs.check.settled_right.Tie as tie
+use Rattle.areas.proofs.described.settled_right.Statement.{statement}
+use Rattle.areas.proofs.described.settled_right.Tie as tie
 
 abbrev Inv-loop : tie.InvT-loop
 Inv-loop image table symbols words s i₀ i-end i = Settled (read image) (take i symbols) (take i words)
@@ -32,18 +32,18 @@ symbols-requires c κs = search needs
 loop-holds : tie.Need-loop-holds Inv-loop μ-loop
 loop-holds c = settled-none (read (c .before .before .before .before .before .args .image .now))
 
-shared-slice-read-number : tie.Need-shared-slice-read-number Inv-loop μ-loop
-shared-slice-read-number c = search needs
+shared-slice-read-byte : tie.Need-shared-slice-read-byte Inv-loop μ-loop
+shared-slice-read-byte c = search needs
 
-number-requires : tie.Need-number-requires Inv-loop μ-loop
-number-requires c κs = search needs
+byte-requires : tie.Need-byte-requires Inv-loop μ-loop
+byte-requires c κs = search needs
 
 returns : tie.Need-returns Inv-loop μ-loop
 returns c =
     let turn = c .before .before .before .before in
     let start = turn .before .before .before .before .before .before in
     big-symbol (read (start .args .image .now)) (start .args .symbols .now) (start .args .words .now) (turn .loop .i)
-    (c .before .before .before .loop-test .taken) (omega (arith, c .if1 .taken, turn .before .symbols .ensures, c .before .number .ensures))
+    (c .before .before .before .loop-test .taken) (omega (arith, c .if1 .taken, turn .before .symbols .ensures, c .before .byte .ensures))
 
 word-before-requires : tie.Need-word-before-requires Inv-loop μ-loop
 word-before-requires c κs =
@@ -58,19 +58,19 @@ next-state-requires c κs =
     let start = turn .before .before .before .before .before .before in
     next-asks (read (start .args .image .now)) (start .args .table .now) (start .args .symbols .now) (start .args .words .now)
     (start .pre .1 .0) (turn .loop .i) (low .before .before .before .loop-test .taken) (turn .loop .inv) (c .word-before .ensures)
-    (low .before .number .ensures) (omega (arith, low .if1 .left, turn .before .symbols .ensures))
+    (low .before .byte .ensures) (omega (arith, low .if1 .left, turn .before .symbols .ensures))
 
-mul-wide : tie.Need-mul-wide Inv-loop μ-loop
-mul-wide c = search needs
+mul-word : tie.Need-mul-word Inv-loop μ-loop
+mul-word c = search needs
 
-shared-slice-read-wide : tie.Need-shared-slice-read-wide Inv-loop μ-loop
-shared-slice-read-wide c =
+shared-slice-read-word : tie.Need-shared-slice-read-word Inv-loop μ-loop
+shared-slice-read-word c =
     let turn = c .before .before .before .before .before .before in
     let start = turn .before .before .before .before .before .before .before in
     omega (arith, turn .loop-test .taken, start .pre .1 .1)
 
-wide-requires : tie.Need-wide-requires Inv-loop μ-loop
-wide-requires c κs = search needs
+word-requires : tie.Need-word-requires Inv-loop μ-loop
+word-requires c κs = search needs
 
 returns-2 : tie.Need-returns-2 Inv-loop μ-loop
 returns-2 c =
@@ -80,8 +80,8 @@ returns-2 c =
     let start = turn .before .before .before .before .before .before in
     other-word (read (start .args .image .now)) (start .args .table .now) (start .args .symbols .now) (start .args .words .now)
     (start .pre .1 .0) (turn .loop .i) (low .before .before .before .loop-test .taken) (turn .loop .inv) (next .before .word-before .ensures)
-    (low .before .number .ensures) (omega (arith, low .if1 .left, turn .before .symbols .ensures)) (next .next-state .ensures)
-    (λ e. c .if2 .taken (c .before .wide .ensures ∙ e))
+    (low .before .byte .ensures) (omega (arith, low .if1 .left, turn .before .symbols .ensures)) (next .next-state .ensures)
+    (λ e. c .if2 .taken (c .before .word .ensures ∙ e))
 
 match-word-requires : tie.Need-match-word-requires Inv-loop μ-loop
 match-word-requires c κs =
@@ -91,7 +91,7 @@ match-word-requires c κs =
     let start = turn .before .before .before .before .before .before in
     match-asks (read (start .args .image .now)) (start .args .table .now) (start .args .symbols .now) (start .args .words .now)
     (start .pre .1 .0) (turn .loop .i) (low .before .before .before .loop-test .taken) (turn .loop .inv) (next .before .word-before .ensures)
-    (low .before .number .ensures) (omega (arith, low .if1 .left, turn .before .symbols .ensures)) (next .next-state .ensures)
+    (low .before .byte .ensures) (omega (arith, low .if1 .left, turn .before .symbols .ensures)) (next .next-state .ensures)
 
 returns-3 : tie.Need-returns-3 Inv-loop μ-loop
 returns-3 c =
@@ -101,7 +101,7 @@ returns-3 c =
     let start = turn .before .before .before .before .before .before in
     some-match (read (start .args .image .now)) (start .args .table .now) (start .args .symbols .now) (start .args .words .now)
     (start .pre .1 .0) (turn .loop .i) (low .before .before .before .loop-test .taken) (turn .loop .inv) (next .before .word-before .ensures)
-    (low .before .number .ensures) (omega (arith, low .if1 .left, turn .before .symbols .ensures)) (next .next-state .ensures)
+    (low .before .byte .ensures) (omega (arith, low .if1 .left, turn .before .symbols .ensures)) (next .next-state .ensures)
     (c .before .match-word .ensures) (c .if3 .taken)
 
 add-i : tie.Need-add-i Inv-loop μ-loop
@@ -118,9 +118,9 @@ loop-again c =
     let start = turn .before .before .before .before .before .before in
     settled-more (read (start .args .image .now)) (start .args .table .now) (start .args .symbols .now) (start .args .words .now)
     (start .pre .1 .0) (turn .loop .i) (low .before .before .before .loop-test .taken) (turn .loop .inv) (next .before .word-before .ensures)
-    (low .before .number .ensures) (omega (arith, low .if1 .left, turn .before .symbols .ensures)) (next .next-state .ensures)
+    (low .before .byte .ensures) (omega (arith, low .if1 .left, turn .before .symbols .ensures)) (next .next-state .ensures)
     (c .before .match-word .ensures) (omega (arith, low .before .before .before .loop-test .taken, start .pre .1 .1))
-    (sym (c .before .before .before .wide .ensures) ∙ c .before .before .if2 .left) (c .if3 .left)
+    (sym (c .before .before .before .word .ensures) ∙ c .before .before .if2 .left) (c .if3 .left)
 
 returns-4 : tie.Need-returns-4 Inv-loop μ-loop
 returns-4 c =
@@ -136,14 +136,14 @@ settled-right-spec =
     μ-loop
     symbols-requires
     loop-holds
-    shared-slice-read-number
-    number-requires
+    shared-slice-read-byte
+    byte-requires
     returns
     word-before-requires
     next-state-requires
-    mul-wide
-    shared-slice-read-wide
-    wide-requires
+    mul-word
+    shared-slice-read-word
+    word-requires
     returns-2
     match-word-requires
     returns-3

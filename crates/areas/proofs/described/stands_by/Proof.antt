@@ -4,8 +4,8 @@ use native.Mathlib.Omega.{arith}
 use borrow.Author.Needs.{needs}
 use Rattle.layout.specs.Image.{read}
 use Rattle.machine.proofs.VerdictRule.{stands-none, stands-no-rule, stands-put, stands-close}
-use Rattle.areas.proofs.check.stands_by.Statement.{statement}
-use Rattle.areas.proofs.check.stands_by.Tie as tie
+use Rattle.areas.proofs.described.stands_by.Statement.{statement}
+use Rattle.areas.proofs.described.stands_by.Tie as tie
 
 enum-told : tie.Need-enum-told
 enum-told c = search needs

@@ -11,8 +11,8 @@ use Rattle.layout.specs.Image.{read}
 use Rattle.layout.proofs.ImageCheck.{decided, denied, valid-header, valid-room}
 use Rattle.machine.specs.Areas.{Head}
 use Rattle.machine.proofs.AreaTests.{not-described, rest-decides, is-not, is-so}
-use Rattle.areas.proofs.check.as_described.Statement.{statement}
-use Rattle.areas.proofs.check.as_described.Tie as tie
+use Rattle.areas.proofs.described.as_described.Statement.{statement}
+use Rattle.areas.proofs.described.as_described.Tie as tie
 
 -- the head that is given by its fields
 abbrev given : tie.Start → Head

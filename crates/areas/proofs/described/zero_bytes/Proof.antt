@@ -3,8 +3,8 @@
 use Prim.Native.Nat.{_-_}
 use native.Mathlib.Omega.{arith}
 use Rattle.machine.proofs.Zeros.{Tells, tells-none, tells-more, tells-all}
-use Rattle.areas.proofs.check.zero_bytes.Statement.{statement}
-use Rattle.areas.proofs.check.zero_bytes.Tie as tie
+use Rattle.areas.proofs.described.zero_bytes.Statement.{statement}
+use Rattle.areas.proofs.described.zero_bytes.Tie as tie
 
 abbrev Inv-loop : tie.InvT-loop
 Inv-loop bytes all₀ i₀ i-end all i = Tells bytes all i

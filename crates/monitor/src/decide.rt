@@ -1,24 +1,81 @@
-// Offer, go on and the offers of a batch, where what is lent has been checked: what is left of their refusals, and the run.
-// The module is private: what its functions ask, the check of what is lent has shown.
+// Offer, go on and the offers of a batch, where what is lent has been checked: what is left of their refusals, and the run. The
+// module is private: what its functions ask, the check of what is lent has shown.
 ghost use Prim.Native.Nat.{_+_, _-_, _≤_, _<_};
 ghost use mathlib.Core.Path.{_≡_};
-ghost use mathlib.Core.Bool.{true, cond};
+ghost use mathlib.Core.Bool.{true, not, cond, _||_};
 ghost use mathlib.Core.Option.{none};
+ghost use lib.Dec.{eqb, ltb};
 ghost use lib.ListN.{length};
-ghost use Rattle.layout.specs.Image.{read};
+ghost use Rattle.layout.specs.Image.{read, valid};
 ghost use Rattle.monitor.specs.declared.Refusal.{Refusal};
-ghost use Rattle.machine.specs.Calls.{callChecks, callOf, decided};
+ghost use Rattle.machine.specs.Calls.{callChecks, callOf, decided, answerNumber};
 ghost use Rattle.machine.specs.Batch.{inTurn, batched};
-ghost use Rattle.machine.specs.Lent.{Passed, Starts, rowsIn, widthIn, appended, oneMore, callWith, callsWith};
+ghost use Rattle.machine.specs.Lent.{Passed, Starts, rowsIn, widthIn, appended, oneMore, callWith, callsWith, answerFrom};
 ghost use Rattle.monitor.specs.Lent.{headIn, lent, outcomeFrom, batchFrom};
 use crate::BatchCalled;
 use crate::Called;
 use crate::Head;
 use crate::Refusal;
 use areas::held;
+use image::wide;
 use machine::Answer;
 use machine::Counts;
 use machine::Standing;
+
+// An answer as a byte.
+fn answer_byte(answer: Answer) -> u8
+    requires { ⌜ answerNumber answer < 256 ⌝ }
+    ensures { λ r. ⌜ r ≡ answerNumber answer ⌝ }
+{
+    match answer {
+        Answer::Quiet => 0,
+        Answer::Spent => 1,
+        Answer::Full => 2,
+        Answer::Verdict(v) => (16 + v) as u8,
+        Answer::Refused(_) => 0,
+    }
+}
+
+// An answer from its byte. No call has a byte from 3 to 15, and Quiet stands for these.
+fn answer_from(byte: u8) -> Answer
+    ensures { λ r. ⌜ r ≡ answerFrom byte ⌝ }
+{
+    if byte == 0 {
+        return Answer::Quiet;
+    }
+    if byte == 1 {
+        return Answer::Spent;
+    }
+    if byte == 2 {
+        return Answer::Full;
+    }
+    if byte < 16 {
+        return Answer::Quiet;
+    }
+    Answer::Verdict((byte - 16) as u64)
+}
+
+// Whether refusal 12 is not called for: the event of an offer is one.
+fn allowed(image: &[u8], offering: bool, event: u8) -> bool
+    requires { ⌜ valid (now image) ≡ true ⌝ }
+    ensures { λ r. ⌜ r ≡ (not offering || ltb event (read (now (image .entry)) .events)) ⌝ }
+{
+    if offering {
+        return (event as usize) < image::events(image);
+    }
+    true
+}
+
+// Whether refusal 15 is not called for: there is room for the event of an offer.
+fn has_room(offering: bool, settled: usize, waiting: usize, capacity: usize) -> bool
+    requires { ⌜ settled + waiting ≤ capacity ⌝ }
+    ensures { λ r. ⌜ r ≡ (not offering || not (eqb (settled + waiting) capacity)) ⌝ }
+{
+    if offering {
+        return settled + waiting != capacity;
+    }
+    true
+}
 
 impl Head {
     // The same head, put together anew. The loop over calls keeps a head in registers where it is put together from its
@@ -86,7 +143,7 @@ impl Head {
             ≡ decided (read (now (image .entry))) (length (now (bytes .entry))) (lent self (now (bytes .entry)) (now (words .entry)))
             (callChecks (read (now (image .entry))) (length (now (bytes .entry))) (headIn self) (callWith offering event fuel)) (callWith offering event fuel) ⌝ }
     {
-        if !parts::allowed(image, offering, event) {
+        if !allowed(image, offering, event) {
             return self.refused(12);
         }
         if 65535 < fuel {
@@ -96,7 +153,7 @@ impl Head {
         match verdict {
             Standing::Verdict(_) => self.refused(14),
             Standing::None => {
-                if !parts::has_room(offering, self.settled, self.waiting, bytes.len()) {
+                if !has_room(offering, self.settled, self.waiting, bytes.len()) {
                     return self.refused(15);
                 }
                 let head = self.taking(bytes, offering, event);
@@ -144,8 +201,8 @@ impl Head {
             ≡ batched none (lent self (now (bytes .entry)) (now (words .entry))) (now (answers .entry))
             (inTurn (length (now (bytes .entry))) (now (image .entry)) (now (table .entry)) (lent self (now (bytes .entry)) (now (words .entry))) (callsWith offering (now (events .entry)) fuel)) ⌝ }
     {
-        let rows = 2 + held::wide(table[0]);
-        let width = held::wide(table[1]);
+        let rows = 2 + wide::word(table[0]);
+        let width = wide::word(table[1]);
         let mut head = self.anew();
         let mut steps: u64 = 0;
         let mut rewrites: u64 = 0;
@@ -170,7 +227,7 @@ impl Head {
                 }
                 _ => {}
             }
-            answers[k] = parts::answer_byte(answer);
+            answers[k] = answer_byte(answer);
             let after = called.head;
             head = after.anew();
             steps += called.counts.steps;
@@ -217,7 +274,7 @@ impl Head {
         let counts = r.counts;
         Called {
             head: head,
-            answer: parts::answer_from(answers[0]),
+            answer: answer_from(answers[0]),
             counts: counts,
         }
     }

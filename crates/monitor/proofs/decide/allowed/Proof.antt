@@ -1,8 +1,8 @@
 -- `parts::allowed` meets its contract.
 -- Assumes nothing.
 use borrow.Author.Needs.{needs}
-use Rattle.parts.proofs.allowed.Statement.{statement}
-use Rattle.parts.proofs.allowed.Tie as tie
+use Rattle.monitor.proofs.decide.allowed.Statement.{statement}
+use Rattle.monitor.proofs.decide.allowed.Tie as tie
 
 events-requires : tie.Need-events-requires
 events-requires c κs = search needs

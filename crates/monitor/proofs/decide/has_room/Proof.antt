@@ -1,8 +1,8 @@
 -- `parts::has_room` meets its contract.
 -- Assumes nothing.
 use borrow.Author.Needs.{needs}
-use Rattle.parts.proofs.has_room.Statement.{statement}
-use Rattle.parts.proofs.has_room.Tie as tie
+use Rattle.monitor.proofs.decide.has_room.Statement.{statement}
+use Rattle.monitor.proofs.decide.has_room.Tie as tie
 
 add-result : tie.Need-add-result
 add-result c = search needs
