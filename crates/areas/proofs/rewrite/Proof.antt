@@ -24,7 +24,9 @@ long c = omega arith
 
 -- what is lent
 abbrev given : tie.Start → Monitor
-given s = monitorIn (record { settled = s .args .settled; waiting = s .args .waiting; verdict = s .args .verdict; rule = s .args .rule }) (s .args .bytes .now) (s .args .words .now)
+given s =
+    monitorIn (record { settled = s .args .settled; waiting = s .args .waiting; verdict = s .args .verdict; rule = s .args .rule }) (s .args .bytes .now)
+    (s .args .words .now)
 
 facts : (s : tie.Start) → Held (read (s .args .image .now)) (length (s .args .bytes .now)) (given s)
 facts s = held (length (s .args .bytes .now)) (s .args .image .now) (s .args .table .now) (given s) (s .pre .0)
@@ -63,42 +65,69 @@ within s n e =
     omega (arith, r .2, put-within (s .args .image .now) (good s) (s .args .i) (is-rule s) (r .0) (r .1), s .pre .1 .0 (s .args .i) (is-rule s) .1)
 
 sub-first : tie.Need-sub-first
-sub-first c = omega (arith, facts (c .before .before .before .before .before))
+sub-first c =
+    let place = c .before .before .before .before .before in
+    omega (arith, facts place)
 
 add-kept : tie.Need-add-kept
-add-kept c = omega (arith, facts (c .before .before .before .before .before))
+add-kept c =
+    let place = c .before .before .before .before .before in
+    omega (arith, facts place)
 
 left-length-requires : tie.Need-left-length-requires
-left-length-requires c κs = (good (c .before .before .before .before .before), is-rule (c .before .before .before .before .before))
+left-length-requires c κs =
+    let place = c .before .before .before .before .before in
+    (good place, is-rule place)
 
 sub-kept : tie.Need-sub-kept
-sub-kept c = omega (arith, left-side (c .before .before .before .before .before .before), c .left-length .ensures)
+sub-kept c =
+    let place = c .before .before .before .before .before .before in
+    omega (arith, left-side place, c .left-length .ensures)
 
 add-behind : tie.Need-add-behind
 add-behind c = search needs
 
 right-side-requires : tie.Need-right-side-requires
-right-side-requires c κs = (good (c .before .before .before .before .before .before), is-rule (c .before .before .before .before .before .before))
+right-side-requires c κs =
+    let place = c .before .before .before .before .before .before in
+    (good place, is-rule place)
 
 enum-known-n : tie.Need-enum-known-n
 enum-known-n c = search needs
 
 add-if1 : tie.Need-add-if1
-add-if1 c = omega (arith, facts (c .before .before .before .before .before .before .before .before .before .before), few (c .before .before .before .before .before .before .before .before .before .before) _ (sym (c .before .before .before .right-side .ensures) ∙ c .before .n .given .1))
+add-if1 c =
+    let place = c .before .before .before .before .before .before .before .before .before .before in
+    omega (arith, facts place, few place _ (sym (c .before .before .before .right-side .ensures) ∙ c .before .n .given .1))
 
 returns : tie.Need-returns
 returns c =
-    let r = string (c .before .before .before .before .before .before .before .before .before .before .before) _ (sym (c .before .before .before .before .right-side .ensures) ∙ c .before .before .n .given .1) in
-    full-step (read (c .before .before .before .before .before .before .before .before .before .before .before .args .image .now)) (length (c .before .before .before .before .before .before .before .before .before .before .before .args .bytes .now)) (given (c .before .before .before .before .before .before .before .before .before .before .before)) (facts (c .before .before .before .before .before .before .before .before .before .before .before)) (c .before .before .before .before .before .before .before .before .before .before .before .args .i) (c .before .before .before .before .before .before .before .before .before .before .before .pre .1 .1) _ _ (r .0) _ refl (ap (λ (x : ℕ). c .before .before .before .before .before .before .before .before .before .before .before .args .settled + 1 - x) (c .before .before .before .before .before .left-length .ensures)) (r .1) (r .2) (c .if1 .taken)
+    let right-side = c .before .before .before .before in
+    let left-length = right-side .before in
+    let start = left-length .before .before .before .before .before .before in
+    let r = string start _ (sym (right-side .right-side .ensures) ∙ c .before .before .n .given .1) in
+    full-step (read (start .args .image .now)) (length (start .args .bytes .now)) (given start) (facts start) (start .args .i) (start .pre .1 .1) _ _ (r .0) _
+    refl (ap (λ (x : ℕ). start .args .settled + 1 - x) (left-length .left-length .ensures)) (r .1) (r .2) (c .if1 .taken)
 
 take-off-requires : tie.Need-take-off-requires
-take-off-requires c κs = (omega (arith, facts (c .before .before .before .before .before .before .before .before .before .before .before .before .before), one-waits (c .before .before .before .before .before .before .before .before .before .before .before .before .before)), (omega (arith, some-symbol (c .before .before .before .before .before .before .before .before .before .before .before .before .before), c .before .before .before .before .before .before .before .left-length .ensures), (omega (arith, facts (c .before .before .before .before .before .before .before .before .before .before .before .before .before)), omega (arith, facts (c .before .before .before .before .before .before .before .before .before .before .before .before .before)))))
+take-off-requires c κs =
+    let left-length = c .before .before .before .before .before .before .before in
+    let place = left-length .before .before .before .before .before .before in (
+      omega (arith, facts place, one-waits place),
+      (omega (arith, some-symbol place, left-length .left-length .ensures), (omega (arith, facts place), omega (arith, facts place))),
+    )
 
 mul-word : tie.Need-mul-word
-mul-word c = omega (arith, c .before .before .before .before .before .before .before .before .before .before .before .before .before .before .before .before .before .before .pre .1 .0 (c .before .before .before .before .before .before .before .before .before .before .before .before .before .before .before .before .before .before .args .i) (is-rule (c .before .before .before .before .before .before .before .before .before .before .before .before .before .before .before .before .before .before)) .0)
+mul-word c =
+    let start = c .before .before .before .before .before .before .before .before .before .before .before .before .before .before .before .before .before
+    .before in
+    omega (arith, start .pre .1 .0 (start .args .i) (is-rule start) .0)
 
 shared-slice-read-word : tie.Need-shared-slice-read-word
-shared-slice-read-word c = c .before .before .before .before .before .before .before .before .before .before .before .before .before .before .before .before .before .before .before .pre .1 .0 (c .before .before .before .before .before .before .before .before .before .before .before .before .before .before .before .before .before .before .before .args .i) (is-rule (c .before .before .before .before .before .before .before .before .before .before .before .before .before .before .before .before .before .before .before)) .0
+shared-slice-read-word c =
+    let start = c .before .before .before .before .before .before .before .before .before .before .before .before .before .before .before .before .before
+    .before .before in
+    start .pre .1 .0 (start .args .i) (is-rule start) .0
 
 word-requires : tie.Need-word-requires
 word-requires c κs = search needs
@@ -108,23 +137,44 @@ sub-put-back c = search needs
 
 put-back-requires : tie.Need-put-back-requires
 put-back-requires c κs =
-    let bound = within (c .before .before .before .before .before .before .before .before .before .before .before .before .before .before .before .before .before .before .before .before .before) _ (sym (c .before .before .before .before .before .before .before .before .before .before .before .before .before .before .right-side .ensures) ∙ c .before .before .before .before .before .before .before .before .before .before .before .before .n .given .1) in
-    (rw (c .before .word .ensures) bound, omega (arith, facts (c .before .before .before .before .before .before .before .before .before .before .before .before .before .before .before .before .before .before .before .before .before), one-waits (c .before .before .before .before .before .before .before .before .before .before .before .before .before .before .before .before .before .before .before .before .before), c .before .before .before .before .before .before .before .before .before .before .if1 .left, c .before .before .before .before .before .before .before .take-off .kept .0))
+    let take-off = c .before .before .before .before .before .before .before in
+    let if1 = take-off .before .before .before in
+    let n = if1 .before .before in
+    let right-side = n .before .before in
+    let place = right-side .before .before .before .before .before .before .before in
+    let bound = within place _ (sym (right-side .right-side .ensures) ∙ n .n .given .1) in
+    (rw (c .before .word .ensures) bound, omega (arith, facts place, one-waits place, if1 .if1 .left, take-off .take-off .kept .0))
 
 sub-t20 : tie.Need-sub-t20
-sub-t20 c = one-waits (c .before .before .before .before .before .before .before .before .before .before .before .before .before .before .before .before .before .before .before .before .before .before .before .before)
+sub-t20 c =
+    let place = c .before .before .before .before .before .before .before .before .before .before .before .before .before .before .before .before .before
+    .before .before .before .before .before .before .before in
+    one-waits place
 
 add-t32 : tie.Need-add-t32
-add-t32 c = omega (arith, facts (c .before .before .before .before .before .before .before .before .before .before .before .before .before .before .before .before .before .before .before .before .before .before .before .before), long (c .before .before .before .before .before .before .before .before .before .before .before .before .before .before .before .before .before .before .before), c .before .before .before .before .before .before .before .before .before .before .before .before .before .if1 .left, few (c .before .before .before .before .before .before .before .before .before .before .before .before .before .before .before .before .before .before .before .before .before .before .before .before) _ (sym (c .before .before .before .before .before .before .before .before .before .before .before .before .before .before .before .before .before .right-side .ensures) ∙ c .before .before .before .before .before .before .before .before .before .before .before .before .before .before .before .n .given .1))
+add-t32 c =
+    let if1 = c .before .before .before .before .before .before .before .before .before .before .before .before .before in
+    let n = if1 .before .before in
+    let right-side = n .before .before in
+    let place = right-side .before .before in
+    let place2 = place .before .before .before .before .before in
+    omega (arith, facts place2, long place, if1 .if1 .left, few place2 _ (sym (right-side .right-side .ensures) ∙ n .n .given .1))
 
 enum-known-v : tie.Need-enum-known-v
 enum-known-v c = search needs
 
 take-off-requires-2 : tie.Need-take-off-requires-2
-take-off-requires-2 c κs = (omega (arith, facts (c .before .before .before .before .before .before .before .before .before .before .before .before), one-waits (c .before .before .before .before .before .before .before .before .before .before .before .before)), (omega (arith, some-symbol (c .before .before .before .before .before .before .before .before .before .before .before .before), c .before .before .before .before .before .before .left-length .ensures), (omega (arith, facts (c .before .before .before .before .before .before .before .before .before .before .before .before)), omega (arith, facts (c .before .before .before .before .before .before .before .before .before .before .before .before)))))
+take-off-requires-2 c κs =
+    let left-length = c .before .before .before .before .before .before in
+    let place = left-length .before .before .before .before .before .before in (
+      omega (arith, facts place, one-waits place),
+      (omega (arith, some-symbol place, left-length .left-length .ensures), (omega (arith, facts place), omega (arith, facts place))),
+    )
 
 sub-t40 : tie.Need-sub-t40
-sub-t40 c = one-waits (c .before .before .before .before .before .before .before .before .before .before .before .before .before .before .before .before .before)
+sub-t40 c =
+    let place = c .before .before .before .before .before .before .before .before .before .before .before .before .before .before .before .before .before in
+    one-waits place
 
 same-length : tie.Need-same-length
 same-length c = search needs
@@ -134,14 +184,25 @@ same-length-2 c = search needs
 
 returns-2 : tie.Need-returns-2
 returns-2 c =
-    let r = string (c .before .before .before .before .before .before .before .before .before .before .before .before .before .before .before .before .before .before .before .before .before .before .before .before) _ (sym (c .before .before .before .before .before .before .before .before .before .before .before .before .before .before .before .before .before .right-side .ensures) ∙ c .before .before .before .before .before .before .before .before .before .before .before .before .before .before .before .n .given .1) in
-    let start = c .before .before .before .before .before .before .before .before .before .before .before .before .before .before .before .before .before .before .before .before .before .before .before .before .pre .1 .0 (c .before .before .before .before .before .before .before .before .before .before .before .before .before .before .before .before .before .before .before .before .before .before .before .before .args .i) (is-rule (c .before .before .before .before .before .before .before .before .before .before .before .before .before .before .before .before .before .before .before .before .before .before .before .before)) .1 in
+    let word = c .before .before .before .before in
+    let take-off = word .before .before .before .before .before .before in
+    let if1 = take-off .before .before .before in
+    let n = if1 .before .before in
+    let right-side = n .before .before in
+    let left-length = right-side .before in
+    let s = left-length .before .before .before .before .before .before in
+    let i = s .args .i in
+    let r = string s _ (sym (right-side .right-side .ensures) ∙ n .n .given .1) in
+    let start = s .pre .1 .0 i (is-rule s) .1 in
     rw (c .before .before .put-back .ensures)
-    (put-step (read (c .before .before .before .before .before .before .before .before .before .before .before .before .before .before .before .before .before .before .before .before .before .before .before .before .args .image .now)) (length (c .before .before .before .before .before .before .before .before .before .before .before .before .before .before .before .before .before .before .before .before .before .before .before .before .args .bytes .now)) (given (c .before .before .before .before .before .before .before .before .before .before .before .before .before .before .before .before .before .before .before .before .before .before .before .before)) (facts (c .before .before .before .before .before .before .before .before .before .before .before .before .before .before .before .before .before .before .before .before .before .before .before .before)) (c .before .before .before .before .before .before .before .before .before .before .before .before .before .before .before .before .before .before .before .before .before .before .before .before .args .i) (c .before .before .before .before .before .before .before .before .before .before .before .before .before .before .before .before .before .before .before .before .before .before .before .before .pre .1 .1)
-    (record { first-is = refl; kept-is = (ap (λ (x : ℕ). c .before .before .before .before .before .before .before .before .before .before .before .before .before .before .before .before .before .before .before .before .before .before .before .before .args .settled + 1 - x) (c .before .before .before .before .before .before .before .before .before .before .before .before .before .before .before .before .before .before .left-length .ensures)); bytes-is = c .before .before .before .before .before .before .before .before .before .before .take-off .ensures .0; words-is = c .before .before .before .before .before .before .before .before .before .before .take-off .ensures .1 })
-    (r .0) _ _ (r .1) (r .2)
-    (rw (c .before .before .before .before .word .ensures, start) (put-here (c .before .before .before .before .before .before .before .before .before .before .before .before .before .before .before .before .before .before .before .before .before .before .before .before .args .image .now) (good (c .before .before .before .before .before .before .before .before .before .before .before .before .before .before .before .before .before .before .before .before .before .before .before .before)) (c .before .before .before .before .before .before .before .before .before .before .before .before .before .before .before .before .before .before .before .before .before .before .before .before .args .i) (is-rule (c .before .before .before .before .before .before .before .before .before .before .before .before .before .before .before .before .before .before .before .before .before .before .before .before)) (r .0) (r .1) _ (r .2)))
-    (c .before .before .before .before .before .before .before .before .before .before .before .before .before .if1 .left))
+    (put-step (read (s .args .image .now)) (length (s .args .bytes .now)) (given s) (facts s) i (s .pre .1 .1)
+    (record {
+      first-is = refl;
+      kept-is = (ap (λ (x : ℕ). s .args .settled + 1 - x) (left-length .left-length .ensures));
+      bytes-is = take-off .take-off .ensures .0;
+      words-is = take-off .take-off .ensures .1;
+    }) (r .0) _ _ (r .1) (r .2) (rw (word .word .ensures, start) (put-here (s .args .image .now) (good s) i (is-rule s) (r .0) (r .1) _ (r .2)))
+    (if1 .if1 .left))
 
 same-length-3 : tie.Need-same-length-3
 same-length-3 c = search needs
@@ -151,9 +212,18 @@ same-length-4 c = search needs
 
 returns-3 : tie.Need-returns-3
 returns-3 c =
-    close-step (read (c .before .before .before .before .before .before .before .before .before .before .before .before .before .before .before .before .before .args .image .now)) (length (c .before .before .before .before .before .before .before .before .before .before .before .before .before .before .before .before .before .args .bytes .now)) (given (c .before .before .before .before .before .before .before .before .before .before .before .before .before .before .before .before .before)) (facts (c .before .before .before .before .before .before .before .before .before .before .before .before .before .before .before .before .before)) (c .before .before .before .before .before .before .before .before .before .before .before .before .before .before .before .before .before .args .i) (c .before .before .before .before .before .before .before .before .before .before .before .before .before .before .before .before .before .pre .1 .1)
-    (record { first-is = refl; kept-is = (ap (λ (x : ℕ). c .before .before .before .before .before .before .before .before .before .before .before .before .before .before .before .before .before .args .settled + 1 - x) (c .before .before .before .before .before .before .before .before .before .before .before .left-length .ensures)); bytes-is = c .before .before .before .before .take-off2 .ensures .0; words-is = c .before .before .before .before .take-off2 .ensures .1 })
-    _ (is-close (rule (read (c .before .before .before .before .before .before .before .before .before .before .before .before .before .before .before .before .before .args .image .now) .rules) (c .before .before .before .before .before .before .before .before .before .before .before .before .before .before .before .before .before .args .i) .right) _ (sym (c .before .before .before .before .before .before .before .before .before .before .right-side .ensures) ∙ c .before .before .before .before .before .before .before .before .v .given .1))
+    let take-off2 = c .before .before .before .before in
+    let v = take-off2 .before .before .before .before in
+    let right-side = v .before .before in
+    let left-length = right-side .before in
+    let start = left-length .before .before .before .before .before .before in
+    close-step (read (start .args .image .now)) (length (start .args .bytes .now)) (given start) (facts start) (start .args .i) (start .pre .1 .1)
+    (record {
+      first-is = refl;
+      kept-is = (ap (λ (x : ℕ). start .args .settled + 1 - x) (left-length .left-length .ensures));
+      bytes-is = take-off2 .take-off2 .ensures .0;
+      words-is = take-off2 .take-off2 .ensures .1;
+    }) _ (is-close (rule (read (start .args .image .now) .rules) (start .args .i) .right) _ (sym (right-side .right-side .ensures) ∙ v .v .given .1))
 
 pub rewrite-spec : {M : Type 1} → statement M
 rewrite-spec =

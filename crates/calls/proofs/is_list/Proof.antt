@@ -28,7 +28,9 @@ sub-if2 c = search needs
 returns-2 : tie.Need-returns-2 Inv-loop μ-loop
 returns-2 c =
     let turn = c .before in
-    sym (encodes-few _ (turn .before .before .if1 .left) ∙ sym (turn .before .loop .inv) ∙ pairs-alone _ _ (turn .loop-test .taken) (omega (arith, c .if2 .taken)))
+    sym
+    (encodes-few _ (c .before .before .before .if1 .left) ∙ sym (c .before .before .loop .inv) ∙ pairs-alone _ _ (turn .loop-test .taken)
+    (omega (arith, c .if2 .taken)))
 
 mul-if3 : tie.Need-mul-if3 Inv-loop μ-loop
 mul-if3 c = search needs
@@ -38,8 +40,12 @@ shared-slice-read-if3 c = search needs
 
 returns-3 : tie.Need-returns-3 Inv-loop μ-loop
 returns-3 c =
-    let turn = c .before .before .before in
-    sym (encodes-few _ (turn .before .before .if1 .left) ∙ sym (turn .before .loop .inv) ∙ pairs-over (turn .before .before .before .args .numbers .now) (turn .before .loop .k) (omega (arith, c .before .before .if2 .left)) (c .if3 .taken))
+    let loop = c .before .before .before .before in
+    let if1 = loop .before in
+    let start = if1 .before in
+    sym
+    (encodes-few _ (if1 .if1 .left) ∙ sym (loop .loop .inv) ∙ pairs-over (start .args .numbers .now) (loop .loop .k)
+    (omega (arith, c .before .before .if2 .left)) (c .if3 .taken))
 
 add-k : tie.Need-add-k Inv-loop μ-loop
 add-k c = search needs
@@ -49,10 +55,11 @@ loop-less c = omega arith
 
 loop-again : tie.Need-loop-again Inv-loop μ-loop
 loop-again c =
-    let turn = c .before .before .before in
-    pairs-on (turn .before .before .before .args .numbers .now) (turn .before .loop .k) (omega (arith, c .before .before .if2 .left))
+    let loop = c .before .before .before .before in
+    let start = loop .before .before in
+    pairs-on (start .args .numbers .now) (loop .loop .k) (omega (arith, c .before .before .if2 .left))
     (c .if3 .left)
-    ∙ turn .before .loop .inv
+    ∙ loop .loop .inv
 
 returns-4 : tie.Need-returns-4 Inv-loop μ-loop
 returns-4 c =

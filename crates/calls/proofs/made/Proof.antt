@@ -32,7 +32,8 @@ returns : tie.Need-returns
 unfolding goOnOf
 returns c =
     let called = c .before .before .before .before in
-    rw (going-on _ _ (called .before .before .before .if1 .taken)) (called .go-on .ensures)
+    let if1 = called .before .before .before in
+    rw (going-on _ _ (if1 .if1 .taken)) (called .go-on .ensures)
 
 sub-offer : tie.Need-sub-offer
 sub-offer c = search needs
@@ -53,7 +54,8 @@ returns-2 : tie.Need-returns-2
 unfolding offerOf
 returns-2 c =
     let called = c .before .before .before .before in
-    rw (offering _ _ (called .before .before .before .if1 .left)) (called .offer .ensures)
+    let if1 = called .before .before .before in
+    rw (offering _ _ (if1 .if1 .left)) (called .offer .ensures)
 
 pub made-spec : {M : Type 1} → statement M
 made-spec =

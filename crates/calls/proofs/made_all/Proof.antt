@@ -25,7 +25,9 @@ abbrev μ-loop : tie.MeasureT-loop
 
 loop-holds : tie.Need-loop-holds Inv-loop μ-loop
 unfolding noCounts
-loop-holds c = (playing-first _ _ _ _ _ (c .before .before .before .before .before .pre), refl, refl)
+loop-holds c =
+    let start = c .before .before .before .before .before in
+    (playing-first _ _ _ _ _ (start .pre), refl, refl)
 
 mul-first : tie.Need-mul-first Inv-loop μ-loop
 mul-first c = search needs
@@ -36,22 +38,26 @@ shared-slice-read-first c = search needs
 add-made : tie.Need-add-made Inv-loop μ-loop
 add-made c =
     let turn = c .before .before .before in
-    omega (arith, playing-call (turn .before .loop .inv .0) (turn .loop-test .taken) .inside, turn .before .loop .inv .0 .short)
+    let loop = turn .before in
+    omega (arith, playing-call (loop .loop .inv .0) (turn .loop-test .taken) .inside, loop .loop .inv .0 .short)
 
 mul-made : tie.Need-mul-made Inv-loop μ-loop
 mul-made c =
     let turn = c .before .before .before in
-    omega (arith, playing-call (turn .before .loop .inv .0) (turn .loop-test .taken) .inside, turn .before .loop .inv .0 .short)
+    let loop = turn .before in
+    omega (arith, playing-call (loop .loop .inv .0) (turn .loop-test .taken) .inside, loop .loop .inv .0 .short)
 
 shared-slice-read-made : tie.Need-shared-slice-read-made Inv-loop μ-loop
 shared-slice-read-made c =
     let turn = c .before .before .before .before in
-    omega (arith, playing-call (turn .before .loop .inv .0) (turn .loop-test .taken) .inside, turn .before .loop .inv .0 .short)
+    let loop = turn .before in
+    omega (arith, playing-call (loop .loop .inv .0) (turn .loop-test .taken) .inside, loop .loop .inv .0 .short)
 
 made-requires : tie.Need-made-requires Inv-loop μ-loop
 made-requires c κs =
     let turn = c .before .before .before .before in
-    playing-call (turn .before .loop .inv .0) (turn .loop-test .taken) .first
+    let loop = turn .before in
+    playing-call (loop .loop .inv .0) (turn .loop-test .taken) .first
 
 events-of-requires : tie.Need-events-of-requires Inv-loop μ-loop
 events-of-requires c κs = search needs
@@ -60,30 +66,35 @@ add-accepted : tie.Need-add-accepted Inv-loop μ-loop
 add-accepted c =
     let called = c .before .before .before .before .before .before in
     let turn = called .before .before .before .before .before in
-    omega (arith, playing-sums (turn .before .loop .inv .0) (turn .loop-test .taken) (called .made .ensures) .accepted)
+    let loop = turn .before in
+    omega (arith, playing-sums (loop .loop .inv .0) (turn .loop-test .taken) (called .made .ensures) .accepted)
 
 add-steps : tie.Need-add-steps Inv-loop μ-loop
 add-steps c =
     let called = c .before .before .before .before .before .before .before in
     let turn = called .before .before .before .before .before in
-    omega (arith, playing-sums (turn .before .loop .inv .0) (turn .loop-test .taken) (called .made .ensures) .steps)
+    let loop = turn .before in
+    omega (arith, playing-sums (loop .loop .inv .0) (turn .loop-test .taken) (called .made .ensures) .steps)
 
 add-rewrites : tie.Need-add-rewrites Inv-loop μ-loop
 add-rewrites c =
     let called = c .before .before .before .before .before .before .before .before in
     let turn = called .before .before .before .before .before in
-    omega (arith, playing-sums (turn .before .loop .inv .0) (turn .loop-test .taken) (called .made .ensures) .rewrites)
+    let loop = turn .before in
+    omega (arith, playing-sums (loop .loop .inv .0) (turn .loop-test .taken) (called .made .ensures) .rewrites)
 
 add-put : tie.Need-add-put Inv-loop μ-loop
 add-put c =
     let called = c .before .before .before .before .before .before .before .before .before in
     let turn = called .before .before .before .before .before in
-    omega (arith, playing-sums (turn .before .loop .inv .0) (turn .loop-test .taken) (called .made .ensures) .put)
+    let loop = turn .before in
+    omega (arith, playing-sums (loop .loop .inv .0) (turn .loop-test .taken) (called .made .ensures) .put)
 
 add-k : tie.Need-add-k Inv-loop μ-loop
 add-k c =
     let turn = c .before .before .before .before .before .before .before .before .before .before .before .before .before .before in
-    omega (arith, playing-call (turn .before .loop .inv .0) (turn .loop-test .taken) .inside, turn .before .loop .inv .0 .short)
+    let loop = turn .before in
+    omega (arith, playing-call (loop .loop .inv .0) (turn .loop-test .taken) .inside, loop .loop .inv .0 .short)
 
 loop-less : tie.Need-loop-less Inv-loop μ-loop
 loop-less c =
@@ -95,10 +106,11 @@ unfolding plus
 loop-again c =
     let called = c .before .before .before .before .before .before .before .before .before in
     let turn = called .before .before .before .before .before in
+    let loop = turn .before in
     rw (c .before .before .before .events-of .ensures) (
-      playing-next (turn .before .loop .inv .0) (turn .loop-test .taken) (called .made .ensures),
-      called .made .kept .1 .1 .1 .0 ∙ turn .before .loop .inv .1,
-      called .made .kept .1 .1 .1 .1 .0 ∙ turn .before .loop .inv .2,
+      playing-next (loop .loop .inv .0) (turn .loop-test .taken) (called .made .ensures),
+      called .made .kept .1 .1 .1 .0 ∙ loop .loop .inv .1,
+      called .made .kept .1 .1 .1 .1 .0 ∙ loop .loop .inv .2,
     )
 
 same-length : tie.Need-same-length Inv-loop μ-loop

@@ -42,7 +42,8 @@ enum-told c = search needs
 made-all-requires : tie.Need-made-all-requires
 made-all-requires c κs =
     let checked = c .before .before .before .before .before .before .before .before .before .before .before in
-    sym (checked .before .is-list .ensures) ∙ not-false _ (checked .if1 .left)
+    let is-list = checked .before in
+    sym (is-list .is-list .ensures) ∙ not-false _ (checked .if1 .left)
 
 same-length : tie.Need-same-length
 same-length c = search needs
@@ -55,7 +56,8 @@ unfolding refusedAs
 returns-2 c =
     let begun = c .before .before .before .before .before .before .before .before in
     let checked = begun .before .before .before in
-    let list = sym (checked .before .is-list .ensures) ∙ not-false _ (checked .if1 .left) in (
+    let is-list = checked .before in
+    let list = sym (is-list .is-list .ensures) ∙ not-false _ (checked .if1 .left) in (
       rw (c .refused2 .ensures)
           (not-fresh _ _ _ _ _ _ list _ (begun .fresh .ensures) _ (ap refusedAs (c .before .before .refusal .given .1))),
       λ p. absurd (refused-is (rw (c .refused2 .ensures) at p)),
@@ -71,10 +73,12 @@ returns-3 : tie.Need-returns-3
 unfolding refusedAs
 returns-3 c =
     let made = c .before .before .before .before in
-    let begun = made .before .before .before .before .before .before .before .before .before in
+    let enum-told = made .before .before .before in
+    let begun = enum-told .before .before .before .before .before .before in
     let checked = begun .before .before .before in
-    let list = sym (checked .before .is-list .ensures) ∙ not-false _ (checked .if1 .left) in
-    let taken = ap refusedAs (made .before .before .before .enum-told .given .1) in (
+    let is-list = checked .before in
+    let list = sym (is-list .is-list .ensures) ∙ not-false _ (checked .if1 .left) in
+    let taken = ap refusedAs (enum-told .enum-told .given .1) in (
       made .made-all .ensures ∙ is-played _ _ _ _ _ _ list _ (begun .fresh .ensures) taken,
       λ _. demand _ _ _ _ _ _ _ _ _ _ (begun .fresh .ensures) taken (made .made-all .ensures),
     )

@@ -34,7 +34,8 @@ sub-t18 c = search needs
 returns-2 : tie.Need-returns-2
 unfolding headFrom
 returns-2 c =
-    let w = c .before .before .before .before .before .before .args .words .now in
+    let start = c .before .before .before .before .before .before in
+    let w = start .args .words .now in
     λ i. record { settled = getD w 0 0; waiting = getD w 1 0; verdict = standing-verdict (getD w 2 0) (c .before .if1 .left) i; rule = getD w 3 0 }
 
 pub head-from-spec : {M : Type 1} → statement M

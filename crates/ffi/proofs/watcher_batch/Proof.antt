@@ -43,7 +43,8 @@ returns : tie.Need-returns
 unfolding refusalNumber refusedAs headAfter
 returns c =
     let called = c .before .before .before .before .before .before .before .before .before .before .before in
-    let given = called .before .before .before .before .head-from .ensures in
+    let head-from = called .before .before .before .before in
+    let given = head-from .head-from .ensures in
     let refused = c .before .refusal .given .1 in
     batch-made _ (rw given at (called .batch .ensures)) _ _ (rw refused) (rw refused)
 
@@ -60,7 +61,8 @@ returns-2 : tie.Need-returns-2
 unfolding refusalNumber refusedAs headAfter
 returns-2 c =
     let called = c .before .before .before .before .before .before .before .before .before .before .before .before in
-    let given = called .before .before .before .before .head-from .ensures in
+    let head-from = called .before .before .before .before in
+    let given = head-from .head-from .ensures in
     let taken = c .before .before .enum-told .given .1 in
     batch-made _ (rw given at (called .batch .ensures)) _ _ (rw taken) (rw taken (c .set-head .ensures))
 

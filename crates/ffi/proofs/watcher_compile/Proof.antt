@@ -23,7 +23,8 @@ same-length c = search needs
 returns : tie.Need-returns
 unfolding compiledNumber refusalNumber refusedBy wordCount
 returns c =
-    let called = c .before .before .before .before .before .before .compile in
+    let compile = c .before .before .before .before .before .before in
+    let called = compile .compile in
     let answer = sym (called .ensures .0) ∙ c .before .before .n .given .1 in
     (rw answer, (called .ensures .1, rw answer))
 
@@ -33,7 +34,8 @@ same-length-2 c = search needs
 returns-2 : tie.Need-returns-2
 unfolding compiledNumber refusalNumber refusedBy wordCount
 returns-2 c =
-    let called = c .before .before .before .before .before .before .compile in
+    let compile = c .before .before .before .before .before .before in
+    let called = compile .compile in
     let answer = sym (called .ensures .0) ∙ c .before .before .n2 .given .1 in
     (rw answer, (called .ensures .1, rw answer))
 

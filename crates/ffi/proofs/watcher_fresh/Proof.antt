@@ -11,7 +11,9 @@ fresh-requires : tie.Need-fresh-requires
 fresh-requires c κs = search needs
 
 set-head-requires : tie.Need-set-head-requires
-set-head-requires c κs = fresh-word _ _ _ _ (c .before .before .before .before .before .fresh .ensures)
+set-head-requires c κs =
+    let fresh = c .before .before .before .before .before in
+    fresh-word _ _ _ _ (fresh .fresh .ensures)
 
 enum-told : tie.Need-enum-told
 enum-told c = search needs

@@ -14,7 +14,9 @@ go-on-requires c κs = search needs
 
 told-requires : tie.Need-told-requires
 unfolding goOnOf
-told-requires c κs = call-words _ _ _ _ _ _ (c .before .before .before .before .before .before .go-on .ensures)
+told-requires c κs =
+    let go-on = c .before .before .before .before .before .before in
+    call-words _ _ _ _ _ _ (go-on .go-on .ensures)
 
 same-length : tie.Need-same-length
 same-length c = search needs
@@ -25,7 +27,8 @@ same-length-2 c = search needs
 returns : tie.Need-returns
 returns c =
     let called = c .before .before .before .before .before .before .before in
-    let given = called .before .before .before .head-from .ensures in
+    let head-from = called .before .before .before in
+    let given = head-from .head-from .ensures in
     call-made _ (rw given at (called .go-on .ensures)) _ _ _ (c .told .ensures .0) (c .told .ensures .1 .0) (c .told .ensures .1 .1)
 
 pub watcher-go-on-spec : {M : Type 1} → statement M

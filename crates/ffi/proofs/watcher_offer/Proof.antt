@@ -14,7 +14,9 @@ offer-requires c κs = search needs
 
 told-requires : tie.Need-told-requires
 unfolding offerOf
-told-requires c κs = call-words _ _ _ _ _ _ (c .before .before .before .before .before .before .offer .ensures)
+told-requires c κs =
+    let offer = c .before .before .before .before .before .before in
+    call-words _ _ _ _ _ _ (offer .offer .ensures)
 
 same-length : tie.Need-same-length
 same-length c = search needs
@@ -25,7 +27,8 @@ same-length-2 c = search needs
 returns : tie.Need-returns
 returns c =
     let called = c .before .before .before .before .before .before .before in
-    let given = called .before .before .before .head-from .ensures in
+    let head-from = called .before .before .before in
+    let given = head-from .head-from .ensures in
     call-made _ (rw given at (called .offer .ensures)) _ _ _ (c .told .ensures .0) (c .told .ensures .1 .0) (c .told .ensures .1 .1)
 
 pub watcher-offer-spec : {M : Type 1} → statement M

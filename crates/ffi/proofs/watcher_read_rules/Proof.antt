@@ -26,7 +26,8 @@ same-length-2 c = search needs
 returns : tie.Need-returns
 unfolding readNumber readWords refusalNumber refusedBy imageLength refusalPlace
 returns c =
-    let called = c .before .before .before .before .before .before .before .before .read-rules in
+    let read-rules = c .before .before .before .before .before .before .before .before in
+    let called = read-rules .read-rules in
     let answer = sym (called .ensures .0) ∙ c .before .before .n .given .1 in
     (rw answer, (called .ensures .1 .0, (called .ensures .1 .1, rw answer)))
 
@@ -39,7 +40,8 @@ same-length-4 c = search needs
 returns-2 : tie.Need-returns-2
 unfolding readNumber readWords refusalNumber refusedBy imageLength refusalPlace
 returns-2 c =
-    let called = c .before .before .before .before .before .before .before .before .read-rules in
+    let read-rules = c .before .before .before .before .before .before .before .before in
+    let called = read-rules .read-rules in
     let answer = sym (called .ensures .0) ∙ c .before .before .n2 .given .1 in
     (rw answer, (called .ensures .1 .0, (called .ensures .1 .1, rw answer)))
 

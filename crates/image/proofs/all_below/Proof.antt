@@ -33,7 +33,8 @@ loop-less c = omega arith
 
 loop-again : tie.Need-loop-again Inv-loop μ-loop
 loop-again c =
-    let a = c .before .before .before .before .args in
+    let start = c .before .before .before .before in
+    let a = start .args in
     let l = c .before .before .before .loop in
     let n : l .i < length (a .symbols .now) = omega arith in
     ⊎-elim

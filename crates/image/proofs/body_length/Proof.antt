@@ -22,7 +22,9 @@ enum-known-n c = search needs
 
 -- the rule
 rule-of : (c : tie.After-right-side) → Rule
-rule-of c = rule (read (c .before .before .before .args .image .now) .rules) (c .before .before .before .args .i)
+rule-of c =
+    let start = c .before .before .before in
+    rule (read (start .args .image .now) .rules) (start .args .i)
 
 -- the left symbols and the right symbols are the body
 whole :
@@ -31,10 +33,11 @@ whole :
     ≡ length (body (rule-of (c .before .before .before)))
 unfolding rule-of
 whole c =
+    let right-side = c .before .before .before in
     let n = c .before .n .given in
-    let r : Rule = rule-of (c .before .before .before) in
+    let r : Rule = rule-of right-side in
     let right : length (symbolsOf (r .right)) ≡ n .0 .0 =
-    put-length (r .right) (n .0 .0) (sym (c .before .before .before .right-side .ensures) ∙ n .1)
+    put-length (r .right) (n .0 .0) (sym (right-side .right-side .ensures) ∙ n .1)
     in
     omega (arith, body-left r)
 
@@ -54,10 +57,11 @@ returns c = whole c
 returns-2 : tie.Need-returns-2
 unfolding rule-of
 returns-2 c =
+    let right-side = c .before .before in
     let n = c .enum-told .given in
-    let r : Rule = rule-of (c .before .before) in
+    let r : Rule = rule-of right-side in
     let right : length (symbolsOf (r .right)) ≡ 0 =
-    close-length (r .right) (n .0 .0) (sym (c .before .before .right-side .ensures) ∙ n .1)
+    close-length (r .right) (n .0 .0) (sym (right-side .right-side .ensures) ∙ n .1)
     in
     omega (arith, body-left r)
 

@@ -45,7 +45,8 @@ size-at-requires c κs = omega arith
 
 returns : tie.Need-returns Inv-loop μ-loop
 returns c =
-    let a = c .before .before .before .before .before .before .args in
+    let start = c .before .before .before .before .before .before in
+    let a = start .args in
     let l = c .before .before .before .loop in
     sym
     (turn-out (getD (a .image .now) 2 0) (a .rules) (a .image .now) (l .left) (l .i) (omega arith) (omega arith))
@@ -53,8 +54,10 @@ returns c =
 
 returns-2 : tie.Need-returns-2 Inv-loop μ-loop
 returns-2 c =
-    let a = c .before .before .before .before .before .before .before .args in
-    let l = c .before .before .before .before .loop in
+    let loop = c .before .before .before .before in
+    let start = loop .before .before .before in
+    let a = start .args in
+    let l = loop .loop in
     sym
     (turn-more (getD (a .image .now) 2 0) (a .rules) (a .image .now) (l .left) (l .i) (omega arith) (omega arith))
     ∙ l .inv .1
@@ -67,8 +70,10 @@ loop-less c = omega arith
 
 loop-again : tie.Need-loop-again Inv-loop μ-loop
 loop-again c =
-    let a = c .before .before .before .before .before .before .before .args in
-    let l = c .before .before .before .before .loop in (
+    let loop = c .before .before .before .before in
+    let start = loop .before .before .before in
+    let a = start .args in
+    let l = loop .loop in (
       omega arith,
       rw (c .before .before .size-at .ensures)
           (turn-on (getD (a .image .now) 2 0) (a .rules) (a .image .now) (l .left) (l .i) (omega arith) (omega arith)
@@ -78,7 +83,8 @@ loop-again c =
 
 returns-3 : tie.Need-returns-3 Inv-loop μ-loop
 returns-3 c =
-    let a = c .before .before .before .before .args in
+    let start = c .before .before .before .before in
+    let a = start .args in
     let l = c .before .loop in
     let over : a .rules - l .i ≡ 0 = omega arith in
     sym (rw over (announces-end (getD (a .image .now) 2 0) (drop (4 + 4 * l .i) (a .image .now)) (l .left))) ∙ l .inv .1

@@ -8,7 +8,8 @@ use Rattle.image.proofs.events.Tie as tie
 
 shared-slice-read-byte : tie.Need-shared-slice-read-byte
 shared-slice-read-byte c =
-    omega (arith, contents-within (c .before .before .args .image .now) (c .before .before .pre))
+    let start = c .before .before in
+    omega (arith, contents-within (start .args .image .now) (start .pre))
 
 byte-requires : tie.Need-byte-requires
 byte-requires c κs = search needs

@@ -63,7 +63,8 @@ add-bodies c = omega (arith, header c)
 
 returns-2 : tie.Need-returns-2
 returns-2 c =
-    let b = c .before .before .before .before .before .before .before .before .before .before .before .args .image .now in
+    let start = c .before .before .before .before .before .before .before .before .before .before .before in
+    let b = start .args .image .now in
     refused b (λ e. omega (arith, valid-room b e))
 
 contents-in-range-requires : tie.Need-contents-in-range-requires
@@ -82,14 +83,18 @@ shared-slice-read-all-below : tie.Need-shared-slice-read-all-below
 shared-slice-read-all-below c = search needs
 
 all-below-requires : tie.Need-all-below-requires
-all-below-requires c κs = omega (arith, header (c .before .before .before .before .before))
+all-below-requires c κs =
+    let place = c .before .before .before .before .before in
+    omega (arith, header place)
 
 returns-3 : tie.Need-returns-3
 returns-3 c =
-    let w = c .before .before .before .before .before .before in
-    let b = w .before .before .before .before .before .before .before .before .before .before .args .image .now in
+    let contents-in-range = c .before .before .before .before in
+    let w = contents-in-range .before .before in
+    let start = w .before .before .before .before .before .before .before .before .before .before in
+    let b = start .args .image .now in
     let n = w .byte .result in
-    let told = sym (c .before .before .before .before .contents-in-range .ensures) ∙ c .before .before .before .if4 .taken in
+    let told = sym (contents-in-range .contents-in-range .ensures) ∙ c .before .before .before .if4 .taken in
     c .all-below .ensures
     ∙ ap (below (getD b 0 0)) (all-behind (4 + 4 * n) b)
     ∙ checked b n (w .byte .ensures) (header w) (omega arith) told
@@ -97,13 +102,15 @@ returns-3 c =
 returns-4 : tie.Need-returns-4
 returns-4 c =
     let w = c .before .before .before in
-    let b = w .before .before .before .before .before .before .before .before .before .before .args .image .now in
+    let start = w .before .before .before .before .before .before .before .before .before .before in
+    let b = start .args .image .now in
     unannounced b (w .byte .result) (w .byte .ensures) (sym (c .before .contents-in-range .ensures) ∙ c .if4 .left)
 
 returns-5 : tie.Need-returns-5
 returns-5 c =
+    let start = c .before .before .before .before .before .before .before .before in
     let h = c .before .header-in-range in
-    let b = c .before .before .before .before .before .before .before .before .args .image .now in
+    let b = start .args .image .now in
     refused b (λ e. denied (h .result) (c .if2 .left) (h .ensures) (valid-header b e))
 
 pub is-valid-spec : {M : Type 1} → statement M

@@ -8,11 +8,13 @@ use Rattle.image.proofs.left_length.Tie as tie
 
 mul-byte : tie.Need-mul-byte
 mul-byte c =
-    omega (arith, contents-inside (c .before .args .image .now) (c .before .pre .0) (c .before .args .i) (c .before .pre .1))
+    let start = c .before in
+    omega (arith, contents-inside (start .args .image .now) (start .pre .0) (start .args .i) (start .pre .1))
 
 add-byte : tie.Need-add-byte
 add-byte c =
-    omega (arith, contents-inside (c .before .args .image .now) (c .before .pre .0) (c .before .args .i) (c .before .pre .1))
+    let start = c .before in
+    omega (arith, contents-inside (start .args .image .now) (start .pre .0) (start .args .i) (start .pre .1))
 
 shared-slice-read-byte : tie.Need-shared-slice-read-byte
 shared-slice-read-byte c =

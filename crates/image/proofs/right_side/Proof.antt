@@ -42,7 +42,9 @@ shared-slice-read-if1 c =
     omega (arith, contents-inside (s .args .image .now) (s .pre .0) (s .args .i) (s .pre .1))
 
 cast-t11 : tie.Need-cast-t11
-cast-t11 c = omega (arith, c .before .before .shared-slice-known2 .given (6 + 4 * c .before .before .before .before .args .i))
+cast-t11 c =
+    let start = c .before .before .before .before in
+    omega (arith, c .before .before .shared-slice-known2 .given (6 + 4 * start .args .i))
 
 byte-requires : tie.Need-byte-requires
 byte-requires c κs = search needs

@@ -8,13 +8,16 @@ use Rattle.image.proofs.rules.Tie as tie
 
 shared-slice-read-byte : tie.Need-shared-slice-read-byte
 shared-slice-read-byte c =
-    omega (arith, contents-within (c .before .before .args .image .now) (c .before .before .pre))
+    let start = c .before .before in
+    omega (arith, contents-within (start .args .image .now) (start .pre))
 
 byte-requires : tie.Need-byte-requires
 byte-requires c κs = search needs
 
 returns : tie.Need-returns
-returns c = omega (arith, header-rules (c .before .before .before .args .image .now) (c .before .before .before .pre))
+returns c =
+    let start = c .before .before .before in
+    omega (arith, header-rules (start .args .image .now) (start .pre))
 
 pub rules-spec : {M : Type 1} → statement M
 rules-spec = tie.close (tie.spec shared-slice-read-byte byte-requires returns)

@@ -73,7 +73,8 @@ put-decimal-returns : (t : ℕ) → put-decimal-lts.Need-returns (
 ) (put-decimal-at t) put-decimal.Post
 put-decimal-returns t c =
     let called = c .before .before in
-    writes-as (sym (decimal-one _ (called .before .before .if1 .taken))) (called .put-byte .ensures)
+    let if1 = called .before .before in
+    writes-as (sym (decimal-one _ (if1 .if1 .taken))) (called .put-byte .ensures)
 
 put-decimal-put-decimal-requires : (t : ℕ) → put-decimal-lts.Need-put-decimal-requires (
   put-byte-reads.Asked,
@@ -110,8 +111,9 @@ put-decimal-put-byte-requires-2 : (t : ℕ) → put-decimal-lts.Need-put-byte-re
 ) (put-decimal-at t) put-decimal.Post
 put-decimal-put-byte-requires-2 t c κs =
     let called = c .before .before .before in
-    let start = called .before .before .before .before in
-    let large = called .before .before .if1 .left in
+    let if1 = called .before .before in
+    let start = if1 .before .before in
+    let large = if1 .if1 .left in
     omega (arith, before-last _ large, start .pre .1, writes-end (called .put-decimal .ensures) (omega (arith, start .pre .1)), called .put-decimal .kept .0)
 
 put-decimal-same-length-2 : (t : ℕ) → put-decimal-lts.Need-same-length-2 (
@@ -120,7 +122,9 @@ put-decimal-same-length-2 : (t : ℕ) → put-decimal-lts.Need-same-length-2 (
   put-decimal-below t,
   put-decimal.Post,
 ) (put-decimal-at t) put-decimal.Post
-put-decimal-same-length-2 t c = c .before .before .put-byte2 .kept .0 ∙ c .before .before .before .before .before .before .put-decimal .kept .0
+put-decimal-same-length-2 t c =
+    let put-decimal = c .before .before .before .before .before .before in
+    c .before .before .put-byte2 .kept .0 ∙ put-decimal .put-decimal .kept .0
 
 put-decimal-returns-2 : (t : ℕ) → put-decimal-lts.Need-returns-2 (
   put-byte-reads.Asked,
@@ -130,7 +134,8 @@ put-decimal-returns-2 : (t : ℕ) → put-decimal-lts.Need-returns-2 (
 ) (put-decimal-at t) put-decimal.Post
 put-decimal-returns-2 t c =
     let called = c .before .before .before .before .before .before in
-    writes-as (sym (decimal-more _ (called .before .before .if1 .left)))
+    let if1 = called .before .before in
+    writes-as (sym (decimal-more _ (if1 .if1 .left)))
     (writes-then (called .put-decimal .ensures) (c .before .before .put-byte2 .ensures))
 
 pub +put-decimal-spec : {M : Type 1} → statement M

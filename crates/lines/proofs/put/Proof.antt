@@ -27,7 +27,9 @@ add-line : tie.Need-add-line Inv-loop μ-loop
 add-line c = search needs
 
 slice-write-line : tie.Need-slice-write-line Inv-loop μ-loop
-slice-write-line c = omega (arith, c .before .before .loop .inv .room, copying-length (c .before .before .loop .inv), c .before .loop-test .taken)
+slice-write-line c =
+    let loop = c .before .before in
+    omega (arith, loop .loop .inv .room, copying-length (loop .loop .inv), c .before .loop-test .taken)
 
 add-i : tie.Need-add-i Inv-loop μ-loop
 add-i c = search needs

@@ -12,24 +12,27 @@ put-answer-requires c κs = search needs
 
 put-byte-requires : tie.Need-put-byte-requires
 put-byte-requires c κs =
-    let start = c .before .before .before .before .before .before .before .before in
+    let put-answer = c .before .before .before in
+    let start = put-answer .before .before .before .before .before in
     let few = answer-length (start .args .names .now) (start .args .called .answer) in
-    let answer = reaches 25 (c .before .before .before .put-answer .ensures) (c .before .before .before .put-answer .kept .0) (omega (arith, start .pre .1 .1 .1 .1 .0, start .pre .1 .1 .1 .1 .1)) few in
+    let answer = reaches 25 (put-answer .put-answer .ensures) (put-answer .put-answer .kept .0)
+    (omega (arith, start .pre .1 .1 .1 .1 .0, start .pre .1 .1 .1 .1 .1)) few in
     omega (arith, start .pre .1 .1 .1 .1 .0, start .pre .1 .1 .1 .1 .1, answer .end, answer .size)
 
 put-counted-requires : tie.Need-put-counted-requires
 put-counted-requires c κs =
-    let start = c .before .before .before .before .before .before .before .before .before .before .before .before in
+    let put-byte = c .before .before .before in
+    let put-answer = put-byte .before .before .before .before in
+    let start = put-answer .before .before .before .before .before in
     let few = answer-length (start .args .names .now) (start .args .called .answer) in
-    let answer = reaches 25 (c .before .before .before .before .before .before .before .put-answer .ensures) (c .before .before .before .before .before .before .before .put-answer .kept .0) (omega (arith, start .pre .1 .1 .1 .1 .0, start .pre .1 .1 .1 .1 .1)) few in
-    let byte = reaches 1 (c .before .before .before .put-byte .ensures) (c .before .before .before .put-byte .kept .0) (omega (arith, start .pre .1 .1 .1 .1 .0, start .pre .1 .1 .1 .1 .1, answer .end, answer .size)) (omega arith) in (
+    let answer = reaches 25 (put-answer .put-answer .ensures) (put-answer .put-answer .kept .0)
+    (omega (arith, start .pre .1 .1 .1 .1 .0, start .pre .1 .1 .1 .1 .1)) few in
+    let byte = reaches 1 (put-byte .put-byte .ensures) (put-byte .put-byte .kept .0)
+    (omega (arith, start .pre .1 .1 .1 .1 .0, start .pre .1 .1 .1 .1 .1, answer .end, answer .size)) (omega arith) in (
       start .pre .1 .0,
       (
         start .pre .1 .1 .0,
-        (
-          start .pre .1 .1 .1 .0,
-          omega (arith, start .pre .1 .1 .1 .1 .0, start .pre .1 .1 .1 .1 .1, answer .end, answer .size, byte .end, byte .size),
-        ),
+        (start .pre .1 .1 .1 .0, omega (arith, start .pre .1 .1 .1 .1 .0, start .pre .1 .1 .1 .1 .1, answer .end, answer .size, byte .end, byte .size)),
       ),
     )
 
@@ -37,7 +40,10 @@ same-length : tie.Need-same-length
 same-length c = search needs
 
 returns : tie.Need-returns
-returns c = writes-then (c .before .before .before .before .before .before .before .before .before .before .put-answer .ensures) (writes-then (c .before .before .before .before .before .before .put-byte .ensures) (c .before .before .put-counted .ensures))
+returns c =
+    let put-byte = c .before .before .before .before .before .before in
+    let put-answer = put-byte .before .before .before .before in
+    writes-then (put-answer .put-answer .ensures) (writes-then (put-byte .put-byte .ensures) (c .before .before .put-counted .ensures))
 
 pub put-accepted-spec : {M : Type 1} → statement M
 put-accepted-spec =

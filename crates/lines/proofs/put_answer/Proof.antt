@@ -42,16 +42,22 @@ put-byte-requires : tie.Need-put-byte-requires
 put-byte-requires c κs = search needs
 
 add-put-name : tie.Need-add-put-name
-add-put-name c = let verdict = rw (c .before .before .before .before .before .before .answer .given .1) at (c .before .before .before .before .before .before .before .before .before .before .pre .0) in omega (arith, verdict)
+add-put-name c =
+    let answer = c .before .before .before .before .before .before in
+    let start = answer .before .before .before .before in
+    let verdict = rw (answer .answer .given .1) at (start .pre .0) in
+    omega (arith, verdict)
 
 put-name-requires : tie.Need-put-name-requires
 put-name-requires c κs =
-    let start = c .before .before .before .before .before .before .before .before .before .before in
-    let verdict = rw (c .before .before .before .before .before .before .answer .given .1) at (start .pre .0) in (
+    let put-byte = c .before .before .before in
+    let answer = put-byte .before .before .before in
+    let start = answer .before .before .before .before in
+    let verdict = rw (answer .answer .given .1) at (start .pre .0) in (
       omega (arith, verdict),
       (
         start .pre .1 .0,
-        omega (arith, start .pre .1 .1, writes-end (c .before .before .before .put-byte .ensures) (omega (arith, start .pre .1 .1)), c .before .before .before .put-byte .kept .0),
+        omega (arith, start .pre .1 .1, writes-end (put-byte .put-byte .ensures) (omega (arith, start .pre .1 .1)), put-byte .put-byte .kept .0),
       ),
     )
 
@@ -69,35 +75,46 @@ same-length c = search needs
 
 returns : tie.Need-returns
 unfolding answerWord bytes
-returns c = rw (c .before .before .before .before .before .enum-told .given .1) (c .before .before .put .ensures)
+returns c =
+    let enum-told = c .before .before .before .before .before in
+    rw (enum-told .enum-told .given .1) (c .before .before .put .ensures)
 
 same-length-2 : tie.Need-same-length-2
 same-length-2 c = search needs
 
 returns-2 : tie.Need-returns-2
 unfolding answerWord bytes
-returns-2 c = rw (c .before .before .before .before .before .enum-told2 .given .1) (c .before .before .put2 .ensures)
+returns-2 c =
+    let enum-told2 = c .before .before .before .before .before in
+    rw (enum-told2 .enum-told2 .given .1) (c .before .before .put2 .ensures)
 
 same-length-3 : tie.Need-same-length-3
 same-length-3 c = search needs
 
 returns-3 : tie.Need-returns-3
 unfolding answerWord bytes
-returns-3 c = rw (c .before .before .before .before .before .enum-told3 .given .1) (c .before .before .put3 .ensures)
+returns-3 c =
+    let enum-told3 = c .before .before .before .before .before in
+    rw (enum-told3 .enum-told3 .given .1) (c .before .before .put3 .ensures)
 
 same-length-4 : tie.Need-same-length-4
 same-length-4 c = search needs
 
 returns-4 : tie.Need-returns-4
 unfolding answerWord bytes
-returns-4 c = rw (c .before .before .before .before .before .before .before .before .before .answer .given .1) (writes-then (c .before .before .before .before .before .before .put-byte .ensures) (c .before .before .put-name .ensures))
+returns-4 c =
+    let put-byte = c .before .before .before .before .before .before in
+    let answer = put-byte .before .before .before in
+    rw (answer .answer .given .1) (writes-then (put-byte .put-byte .ensures) (c .before .before .put-name .ensures))
 
 same-length-5 : tie.Need-same-length-5
 same-length-5 c = search needs
 
 returns-5 : tie.Need-returns-5
 unfolding answerWord bytes
-returns-5 c = rw (c .before .before .before .before .before .enum-told4 .given .1) (c .before .before .put4 .ensures)
+returns-5 c =
+    let enum-told4 = c .before .before .before .before .before in
+    rw (enum-told4 .enum-told4 .given .1) (c .before .before .put4 .ensures)
 
 pub put-answer-spec : {M : Type 1} → statement M
 put-answer-spec =

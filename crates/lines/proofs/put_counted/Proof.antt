@@ -62,7 +62,9 @@ sub-waiting : tie.Need-sub-waiting
 sub-waiting c = let start = c .before .before .before .before .before .before .before .before in omega (arith, start .pre .0 .string)
 
 slice-aggregate-put-string : tie.Need-slice-aggregate-put-string
-slice-aggregate-put-string c = let start = c .before .before .before .before .before .before .before .before .before .before in sym (length-take-le _ _ (omega (arith, start .pre .0 .string, start .pre .1 .1 .0)))
+slice-aggregate-put-string c =
+    let start = c .before .before .before .before .before .before .before .before .before .before in
+    sym (length-take-le _ _ (omega (arith, start .pre .0 .string, start .pre .1 .1 .0)))
 
 sub-put-string : tie.Need-sub-put-string
 sub-put-string c = let start = c .before .before .before .before .before .before .before .before .before .before in omega (arith, start .pre .1 .1 .0)
@@ -76,11 +78,13 @@ part-put-string-end c = search needs
 put-string-requires : tie.Need-put-string-requires
 unfolding stringOf stateOf
 put-string-requires c κs =
-    let start = c .before .before .before .before .before .before .before .before .before .before .before in
+    let put-counts = c .before .before .before .before .before .before in
+    let start = put-counts .before .before .before .before .before in
     let bytes = start .args .bytes .now in
     let a = start .args .called .head .settled in
     let w = start .args .called .head .waiting in
-    let counts = reaches 9 (c .before .before .before .before .before .before .put-counts .ensures) (c .before .before .before .before .before .before .put-counts .kept .0) (omega (arith, start .pre .1 .1 .1)) (counts-length _ _ (start .pre .0 .steps) (start .pre .0 .rewrites)) in (
+    let counts = reaches 9 (put-counts .put-counts .ensures) (put-counts .put-counts .kept .0) (omega (arith, start .pre .1 .1 .1))
+    (counts-length _ _ (start .pre .0 .steps) (start .pre .0 .rewrites)) in (
       rw (string-in a w bytes (start .pre .1 .1 .0)) (start .pre .0 .slots),
       (
         start .pre .1 .0,
@@ -103,13 +107,15 @@ put-string-requires c κs =
 
 put-byte-requires : tie.Need-put-byte-requires
 put-byte-requires c κs =
-    let start = c .before .before .before .before .before .before .before .before .before .before .before .before .before .before .before in
+    let put-string = c .before .before .before in
+    let put-counts = put-string .before .before .before .before .before .before .before in
+    let start = put-counts .before .before .before .before .before in
     let bytes = start .args .bytes .now in
     let a = start .args .called .head .settled in
     let w = start .args .called .head .waiting in
-    let counts = reaches 9 (c .before .before .before .before .before .before .before .before .before .before .put-counts .ensures) (c .before .before .before .before .before .before .before .before .before .before .put-counts .kept .0) (omega (arith, start .pre .1 .1 .1)) (counts-length _ _ (start .pre .0 .steps) (start .pre .0 .rewrites)) in
-    let few =
-    joined-length (start .args .names .now) (take a bytes ++ take (length bytes - (2048 - w)) (drop (2048 - w) bytes)) 2048
+    let counts = reaches 9 (put-counts .put-counts .ensures) (put-counts .put-counts .kept .0) (omega (arith, start .pre .1 .1 .1))
+    (counts-length _ _ (start .pre .0 .steps) (start .pre .0 .rewrites)) in
+    let few = joined-length (start .args .names .now) (take a bytes ++ take (length bytes - (2048 - w)) (drop (2048 - w) bytes)) 2048
     (omega (
       arith,
       start .pre .1 .1 .0,
@@ -118,10 +124,9 @@ put-byte-requires c κs =
       length-take a bytes,
       length-take (length bytes - (2048 - w)) (drop (2048 - w) bytes),
       length-drop (2048 - w) bytes,
-    ))
-    (omega arith)
-    in
-    let string = reaches (25 * 2048) (c .before .before .before .put-string .ensures) (c .before .before .before .put-string .kept .0) (omega (arith, start .pre .1 .1 .1, counts .end, counts .size)) few in
+    )) (omega arith) in
+    let string = reaches (25 * 2048) (put-string .put-string .ensures) (put-string .put-string .kept .0)
+    (omega (arith, start .pre .1 .1 .1, counts .end, counts .size)) few in
     omega (arith, start .pre .1 .1 .1, counts .end, counts .size, string .end, string .size)
 
 same-length : tie.Need-same-length
@@ -129,9 +134,11 @@ same-length c = search needs
 
 returns : tie.Need-returns
 returns c =
-    let start = c .before .before .before .before .before .before .before .before .before .before .before .before .before .before .before .before .before .before in
+    let put-string = c .before .before .before .before .before .before in
+    let put-counts = put-string .before .before .before .before .before .before .before in
+    let start = put-counts .before .before .before .before .before in
     writes-as (all-parts (start .args .called) (start .args .names .now) (start .args .bytes .now) (start .pre .1 .1 .0))
-    (writes-then (c .before .before .before .before .before .before .before .before .before .before .before .before .before .put-counts .ensures) (writes-then (c .before .before .before .before .before .before .put-string .ensures) (c .before .before .put-byte .ensures)))
+    (writes-then (put-counts .put-counts .ensures) (writes-then (put-string .put-string .ensures) (c .before .before .put-byte .ensures)))
 
 pub put-counted-spec : {M : Type 1} → statement M
 put-counted-spec =

@@ -14,32 +14,30 @@ put-decimal-requires c κs =
 
 put-byte-requires : tie.Need-put-byte-requires
 put-byte-requires c κs =
-    let start = c .before .before .before .before .before .before in
+    let put-decimal = c .before .before .before in
+    let start = put-decimal .before .before .before in
     let few = decimal-length 3 (start .args .steps) (omega (arith, start .pre .0 .0)) in
-    let steps = reaches 4 (c .before .before .before .put-decimal .ensures) (c .before .before .before .put-decimal .kept .0) (omega (arith, start .pre .1)) few in
+    let steps = reaches 4 (put-decimal .put-decimal .ensures) (put-decimal .put-decimal .kept .0) (omega (arith, start .pre .1)) few in
     omega (arith, start .pre .1, steps .end, steps .size)
 
 put-decimal-requires-2 : tie.Need-put-decimal-requires-2
 put-decimal-requires-2 c κs =
-    let start = c .before .before .before .before .before .before .before .before .before .before in
+    let put-byte = c .before .before .before in
+    let put-decimal = put-byte .before .before .before .before in
+    let start = put-decimal .before .before .before in
     let few = decimal-length 3 (start .args .steps) (omega (arith, start .pre .0 .0)) in
-    let steps = reaches 4 (c .before .before .before .before .before .before .before .put-decimal .ensures) (c .before .before .before .before .before .before .before .put-decimal .kept .0) (omega (arith, start .pre .1)) few in
-    let byte = reaches 1 (c .before .before .before .put-byte .ensures) (c .before .before .before .put-byte .kept .0) (omega (arith, start .pre .1, steps .end, steps .size)) (omega arith) in
-    omega (
-      arith,
-      start .pre .1,
-      steps .end,
-      steps .size,
-      byte .end,
-      byte .size,
-      decimal-length 3 (start .args .rewrites) (omega (arith, start .pre .0 .1)),
-    )
+    let steps = reaches 4 (put-decimal .put-decimal .ensures) (put-decimal .put-decimal .kept .0) (omega (arith, start .pre .1)) few in
+    let byte = reaches 1 (put-byte .put-byte .ensures) (put-byte .put-byte .kept .0) (omega (arith, start .pre .1, steps .end, steps .size)) (omega arith) in
+    omega (arith, start .pre .1, steps .end, steps .size, byte .end, byte .size, decimal-length 3 (start .args .rewrites) (omega (arith, start .pre .0 .1)))
 
 same-length : tie.Need-same-length
 same-length c = search needs
 
 returns : tie.Need-returns
-returns c = writes-then (c .before .before .before .before .before .before .before .before .before .before .put-decimal .ensures) (writes-then (c .before .before .before .before .before .before .put-byte .ensures) (c .before .before .put-decimal2 .ensures))
+returns c =
+    let put-byte = c .before .before .before .before .before .before in
+    let put-decimal = put-byte .before .before .before .before in
+    writes-then (put-decimal .put-decimal .ensures) (writes-then (put-byte .put-byte .ensures) (c .before .before .put-decimal2 .ensures))
 
 pub put-counts-spec : {M : Type 1} → statement M
 put-counts-spec =

@@ -37,7 +37,9 @@ same-length : tie.Need-same-length
 same-length c = search needs
 
 returns : tie.Need-returns
-returns c = writes-as (name-long _ _ (c .before .before .before .before .before .if1 .taken)) (c .before .before .put .ensures)
+returns c =
+    let if1 = c .before .before .before .before .before in
+    writes-as (name-long _ _ (if1 .if1 .taken)) (c .before .before .put .ensures)
 
 cast-put : tie.Need-cast-put
 cast-put c = search needs
@@ -61,7 +63,9 @@ same-length-2 : tie.Need-same-length-2
 same-length-2 c = search needs
 
 returns-2 : tie.Need-returns-2
-returns-2 c = writes-as (name-whole _ _ (c .before .before .before .before .before .if1 .left)) (c .before .before .put2 .ensures)
+returns-2 c =
+    let if1 = c .before .before .before .before .before in
+    writes-as (name-whole _ _ (if1 .if1 .left)) (c .before .before .put2 .ensures)
 
 pub put-name-spec : {M : Type 1} → statement M
 put-name-spec =

@@ -20,11 +20,12 @@ put-symbols-requires c κs =
 
 put-symbols-requires-2 : tie.Need-put-symbols-requires-2
 put-symbols-requires-2 c κs =
-    let start = c .before .before .before .before .before .before .before .before .before in
-    let end = writes-end (c .before .before .before .put-symbols .ensures) (omega (arith, start .pre .1 .1 .1)) in
+    let put-symbols = c .before .before .before in
+    let start = put-symbols .before .before .before .before .before .before in
+    let end = writes-end (put-symbols .put-symbols .ensures) (omega (arith, start .pre .1 .1 .1)) in
     let few = commas-length (start .args .names .now) (start .args .settled .now) in (
       all-right (λ x. ltb x 48) (start .args .settled .now) (start .args .waiting .now) (start .pre .0),
-      (start .pre .1 .0, omega (arith, start .pre .1 .1 .1, end, few, c .before .before .before .put-symbols .kept .0)),
+      (start .pre .1 .0, omega (arith, start .pre .1 .1 .1, end, few, put-symbols .put-symbols .kept .0)),
     )
 
 slice-aggregate-put : tie.Need-slice-aggregate-put
@@ -38,19 +39,29 @@ same-length c = search needs
 
 returns : tie.Need-returns
 returns c =
-    let start = c .before .before .before .before .before .before .before .before .before .before .before .before .before .before .before .before .before .before in
-    joins-none _ _ (commas-both _ _ _ (c .before .before .before .before .before .before .before .before .before .before .before .before .put-symbols .ensures) (c .before .before .before .before .before .before .before .before .put-symbols2 .ensures)) (omega (arith, start .pre .1 .1 .1)) (c .before .before .before .before .before .if1 .taken) (c .before .before .put .ensures)
+    let if1 = c .before .before .before .before .before in
+    let put-symbols2 = if1 .before .before .before in
+    let put-symbols = put-symbols2 .before .before .before .before in
+    let start = put-symbols .before .before .before .before .before .before in
+    joins-none _ _ (commas-both _ _ _ (put-symbols .put-symbols .ensures) (put-symbols2 .put-symbols2 .ensures)) (omega (arith, start .pre .1 .1 .1))
+    (if1 .if1 .taken) (c .before .before .put .ensures)
 
 slice-write-line : tie.Need-slice-write-line
 slice-write-line c = search needs
 
 same-length-2 : tie.Need-same-length-2
 same-length-2 c =
-    length-set (c .before .before .before .put-symbols2 .last .0) (c .before .before .before .before .before .before .before .before .before .before .before .before .before .args .at) 32 ∙ c .before .before .before .put-symbols2 .kept .0 ∙ c .before .before .before .before .before .before .before .put-symbols .kept .0
+    let put-symbols2 = c .before .before .before in
+    let put-symbols = put-symbols2 .before .before .before .before in
+    let start = put-symbols .before .before .before .before .before .before in
+    length-set (put-symbols2 .put-symbols2 .last .0) (start .args .at) 32 ∙ put-symbols2 .put-symbols2 .kept .0 ∙ put-symbols .put-symbols .kept .0
 
 returns-2 : tie.Need-returns-2
 returns-2 c =
-    joins _ _ (commas-both _ _ _ (c .before .before .before .before .before .before .before .put-symbols .ensures) (c .before .before .before .put-symbols2 .ensures)) (omega (arith, c .before .before .before .before .before .before .before .before .before .before .before .before .before .pre .1 .1 .1)) (c .if1 .left)
+    let put-symbols = c .before .before .before .before .before .before .before in
+    let start = put-symbols .before .before .before .before .before .before in
+    joins _ _ (commas-both _ _ _ (put-symbols .put-symbols .ensures) (c .before .before .before .put-symbols2 .ensures)) (omega (arith, start .pre .1 .1 .1))
+    (c .if1 .left)
 
 pub put-string-spec : {M : Type 1} → statement M
 put-string-spec =

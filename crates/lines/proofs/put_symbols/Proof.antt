@@ -31,20 +31,27 @@ loop-holds c = naming-first _ _ _ _
 
 put-byte-requires : tie.Need-put-byte-requires Inv-loop μ-loop
 put-byte-requires c κs =
+    let start = c .before .before .before .before .before .before in
     let n = c .before .before .loop .inv in
-    omega (arith, naming-end n (omega (arith, c .before .before .before .before .before .before .pre .1 .1)), c .before .loop-test .taken, c .before .before .before .before .before .before .pre .1 .1, n .size)
+    omega (arith, naming-end n (omega (arith, start .pre .1 .1)), c .before .loop-test .taken, start .pre .1 .1, n .size)
 
 shared-slice-read-put-name : tie.Need-shared-slice-read-put-name Inv-loop μ-loop
 shared-slice-read-put-name c = search needs
 
 cast-put-name : tie.Need-cast-put-name Inv-loop μ-loop
-cast-put-name c = omega (arith, has-slot (c .before .before .before .before .before .before .before .before .before .before .before .args .symbols .now) _ (c .before .before .before .before .before .before .before .before .before .before .before .pre .0) (c .before .before .before .before .before .before .loop-test .taken))
+cast-put-name c =
+    let loop-test = c .before .before .before .before .before .before in
+    let start = loop-test .before .before .before .before .before in
+    omega (arith, has-slot (start .args .symbols .now) _ (start .pre .0) (loop-test .loop-test .taken))
 
 put-name-requires : tie.Need-put-name-requires Inv-loop μ-loop
 put-name-requires c κs =
-    let start = c .before .before .before .before .before .before .before .before .before .before .before in
-    let n = c .before .before .before .before .before .before .before .loop .inv in
-    let more = c .before .before .before .before .before .before .loop-test .taken in
+    let put-byte = c .before .before .before .before in
+    let loop-test = put-byte .before .before in
+    let loop = loop-test .before in
+    let start = loop .before .before .before .before in
+    let n = loop .loop .inv in
+    let more = loop-test .loop-test .taken in
     let before = naming-end n (omega (arith, start .pre .1 .1)) in (
       has-slot (start .args .symbols .now) _ (start .pre .0) more,
       (
@@ -55,8 +62,8 @@ put-name-requires c κs =
           more,
           start .pre .1 .1,
           n .size,
-          writes-end (c .before .before .before .before .put-byte .ensures) (omega (arith, before, more, start .pre .1 .1, n .size)),
-          c .before .before .before .before .put-byte .kept .0,
+          writes-end (put-byte .put-byte .ensures) (omega (arith, before, more, start .pre .1 .1, n .size)),
+          put-byte .put-byte .kept .0,
         ),
       ),
     )
@@ -69,8 +76,13 @@ loop-less c = search needs
 
 loop-again : tie.Need-loop-again Inv-loop μ-loop
 loop-again c =
+    let put-name = c .before .before in
+    let put-byte = put-name .before .before .before .before .before in
+    let loop-test = put-byte .before .before in
+    let loop = loop-test .before in
     rw add-one
-    (naming-next (c .before .before .before .before .before .before .before .before .before .before .loop .inv) (c .before .before .before .before .before .before .before .before .before .loop-test .taken) (c .before .before .before .before .before .before .before .put-byte .ensures) (c .before .before .before .before .before .before .before .put-byte .kept .0) (c .before .before .put-name .ensures) (c .before .before .put-name .kept .0))
+    (naming-next (loop .loop .inv) (loop-test .loop-test .taken) (put-byte .put-byte .ensures) (put-byte .put-byte .kept .0) (put-name .put-name .ensures)
+    (put-name .put-name .kept .0))
 
 same-length : tie.Need-same-length Inv-loop μ-loop
 same-length c = c .before .loop .inv .size

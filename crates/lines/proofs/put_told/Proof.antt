@@ -39,13 +39,17 @@ same-length c = search needs
 
 returns : tie.Need-returns
 unfolding answerWord told
-returns c = rw (c .before .before .before .before .before .answer .given .1) (c .before .before .put-refused .ensures)
+returns c =
+    let answer = c .before .before .before .before .before in
+    rw (answer .answer .given .1) (c .before .before .put-refused .ensures)
 
 same-length-2 : tie.Need-same-length-2
 same-length-2 c = search needs
 
 returns-2 : tie.Need-returns-2
-returns-2 c = rw (counts-told _ _ _ (accepted _ (c .before .before .before .before .match .keys2))) (c .before .before .put-accepted .ensures)
+returns-2 c =
+    let match = c .before .before .before .before in
+    rw (counts-told _ _ _ (accepted _ (match .match .keys2))) (c .before .before .put-accepted .ensures)
 
 pub put-told-spec : {M : Type 1} → statement M
 put-told-spec =

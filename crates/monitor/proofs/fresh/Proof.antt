@@ -12,14 +12,21 @@ empty-requires c κs = search needs
 
 returns : tie.Need-returns
 unfolding refusedAs
-returns c = rw (c .empty .ensures) (other-length documentCapacity _ _ (other-bytes documentCapacity (c .before .before .before .before .args .bytes .now) (c .before .before .before .before .args .words .now) (c .before .if1 .taken)))
+returns c =
+    let start = c .before .before .before .before in
+    rw (c .empty .ensures)
+    (other-length documentCapacity _ _ (other-bytes documentCapacity (start .args .bytes .now) (start .args .words .now) (c .before .if1 .taken)))
 
 empty-requires-2 : tie.Need-empty-requires-2
 empty-requires-2 c κs = search needs
 
 returns-2 : tie.Need-returns-2
 unfolding refusedAs
-returns-2 c = rw (c .empty2 .ensures) (other-length documentCapacity _ _ (other-words documentCapacity (c .before .before .before .before .before .args .bytes .now) (c .before .before .before .before .before .args .words .now) (c .before .before .if1 .left) (c .before .if2 .taken)))
+returns-2 c =
+    let start = c .before .before .before .before .before in
+    rw (c .empty2 .ensures)
+    (other-length documentCapacity _ _
+    (other-words documentCapacity (start .args .bytes .now) (start .args .words .now) (c .before .before .if1 .left) (c .before .if2 .taken)))
 
 clear-requires : tie.Need-clear-requires
 clear-requires c κs = search needs
@@ -35,7 +42,14 @@ same-length-2 c = search needs
 
 returns-3 : tie.Need-returns-3
 unfolding refusedAs
-returns-3 c = rw (c .empty3 .ensures) (cleared documentCapacity (c .before .before .before .before .before .before .before .before .before .before .before .before .args .bytes .now) (c .before .before .before .before .before .before .before .before .before .before .before .before .args .words .now) _ _ (c .before .before .before .before .before .before .before .before .before .if1 .left) (c .before .before .before .before .before .before .before .before .if2 .left) (c .before .before .before .before .before .clear .ensures .0) (c .before .before .before .before .before .clear .ensures .1))
+returns-3 c =
+    let clear = c .before .before .before .before .before in
+    let if2 = clear .before .before .before in
+    let if1 = if2 .before in
+    let start = if1 .before .before .before in
+    rw (c .empty3 .ensures)
+    (cleared documentCapacity (start .args .bytes .now) (start .args .words .now) _ _ (if1 .if1 .left) (if2 .if2 .left) (clear .clear .ensures .0)
+    (clear .clear .ensures .1))
 
 pub fresh-spec : {M : Type 1} → statement M
 fresh-spec =

@@ -28,22 +28,25 @@ fresh-requires c κs = search needs
 returns : tie.Need-returns
 returns c =
     let start = c .before .before .before .before .before in
-    absurd (compile-takes _ _ (start .pre) (c .before .before .before .compile-arg .given .0 .1) _ _ (c .before .before .compile .ensures .0) (c .enum-told .given .1))
+    absurd
+    (compile-takes _ _ (start .pre) (c .before .before .before .compile-arg .given .0 .1) _ _ (c .before .before .compile .ensures .0) (c .enum-told .given .1))
 
 returns-2 : tie.Need-returns-2
 returns-2 c =
-    let start = c .before .before .before .before .before .before .before .before .before .before in
+    let at-size = c .before .before .before .before .before in
+    let compile = at-size .before .before in
+    let compile-arg = compile .before in
+    let start = compile-arg .before .before in
     let image = start .args .image .now in
     let table = start .args .table .now in
-    let size = c .before .before .before .before .before .before .before .before .compile-arg .given .0 .1 in
-    let told = sym (c .before .before .before .before .before .size .given .1) ∙ c .before .before .before .before .before .before .before .compile .ensures .0 ∙ compile-answers image table (start .pre) size in
+    let size = compile-arg .compile-arg .given .0 .1 in
+    let told = sym (at-size .size .given .1) ∙ compile .compile .ensures .0 ∙ compile-answers image table (start .pre) size in
     let written = words-of _ _ told in
-    let made =
-    ap (λ (f : Fresh). f .monitor) (c .before .fresh .ensures) ∙ is-fresh _ _ (c .before .before .before .fresh-arg .given .0 .1) (c .before .before .fresh-arg2 .given .0 .1)
-    in (
+    let made = ap (λ (f : Fresh). f .monitor) (c .before .fresh .ensures) ∙ is-fresh _ _ (c .before .before .before .fresh-arg .given .0 .1)
+    (c .before .before .fresh-arg2 .given .0 .1) in (
       rw (written, ap (λ (m : Monitor). m .head) made),
       (
-        c .before .before .before .before .before .before .before .compile .ensures .1 ∙ compile-writes image table (start .pre) size,
+        compile .compile .ensures .1 ∙ compile-writes image table (start .pre) size,
         (ap (λ (m : Monitor). m .bytes) made, ap (λ (m : Monitor). m .words) made),
       ),
     )

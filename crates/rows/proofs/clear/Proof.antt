@@ -46,9 +46,10 @@ same-length c = c .before .loop .inv .2
 
 returns : tie.Need-returns Inv-loop μ-loop
 returns c =
+    let loop = c .before in
     let rows = c .before .before .args .rows .now in
-    let all : c .before .loop .k ≡ length rows = omega arith in
-    rw (all, drop-length, append-nil) at (c .before .loop .inv .3)
+    let all : loop .loop .k ≡ length rows = omega arith in
+    rw (all, drop-length, append-nil) at (loop .loop .inv .3)
 
 pub clear-spec : {M : Type 1} → statement M
 clear-spec =

@@ -24,14 +24,15 @@ clear-requires c κs = search needs
 
 lay-children-requires : tie.Need-lay-children-requires Inv-loop μ-loop
 lay-children-requires c κs =
-    let start = c .before .before .before .before .before .before .before .before .before in
+    let clear = c .before .before .before .before in
+    let start = clear .before .before .before .before .before in
     let symbols = read (start .args .image .now) .symbols in (
       start .pre .0,
       (
         start .pre .1 .0 .trie,
         (
           start .pre .1 .0 .nodes,
-          c .before .before .before .before .clear .ensures
+          clear .clear .ensures
               ∙ ap (λ (k : ℕ). replicate k 0) (start .pre .1 .1 ∙ ap (λ (k : ℕ). k * symbols) (sym (start .pre .1 .0 .nodes))),
         ),
       ),
@@ -39,12 +40,13 @@ lay-children-requires c κs =
 
 loop-holds : tie.Need-loop-holds Inv-loop μ-loop
 loop-holds c =
-    let start = c .before .before .before .before .before .before .before .before .before .before .before .before in (
+    let lay-children = c .before .before in
+    let start = lay-children .before .before .before .before .before .before .before .before .before .before in (
       omega arith,
       refl,
-      filling-start (read (start .args .image .now)) (start .args .trie .now) (c .before .before .lay-children .last .1 .1 .1 .0)
+      filling-start (read (start .args .image .now)) (start .args .trie .now) (lay-children .lay-children .last .1 .1 .1 .0)
           (valid-in-range (start .args .image .now) (start .pre .0)) (start .pre .1 .0 .trie) (start .pre .1 .0 .owned)
-          (c .before .before .lay-children .ensures),
+          (lay-children .lay-children .ensures),
     )
 
 fill-depth-requires : tie.Need-fill-depth-requires Inv-loop μ-loop
@@ -60,15 +62,19 @@ loop-less c = omega arith
 
 loop-again : tie.Need-loop-again Inv-loop μ-loop
 loop-again c =
-    let turn = c .before .before .before .before .before .before .before .before .loop in
-    let call = c .before .before .before .before .fill-depth in
+    let fill-depth = c .before .before .before .before in
+    let loop = fill-depth .before .before .before .before in
+    let turn = loop .loop in
+    let call = fill-depth .fill-depth in
     (omega arith, call .kept .1 .0 ∙ turn .inv .1, call .ensures)
 
 same-length : tie.Need-same-length Inv-loop μ-loop
 same-length c = c .before .loop .inv .1
 
 same-length-2 : tie.Need-same-length-2 Inv-loop μ-loop
-same-length-2 c = c .before .loop .inv .2 .size ∙ sym (c .before .before .before .before .before .before .before .before .before .before .before .before .before .before .pre .1 .1)
+same-length-2 c =
+    let start = c .before .before .before .before .before .before .before .before .before .before .before .before .before .before in
+    c .before .loop .inv .2 .size ∙ sym (start .pre .1 .1)
 
 returns : tie.Need-returns Inv-loop μ-loop
 returns c =

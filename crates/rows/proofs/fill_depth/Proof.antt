@@ -39,8 +39,9 @@ slice-read-if1 c = omega (arith, c .before .before .loop .inv .4 .trie .linked .
 
 fill-state-requires : tie.Need-fill-state-requires Inv-loop μ-loop
 fill-state-requires c κs =
-    let start = c .before .before .before .before .before .before .before .before .before in
-    let turn = c .before .before .before .before .before .loop in
+    let loop = c .before .before .before .before .before in
+    let start = loop .before .before .before .before in
+    let turn = loop .loop in
     (start .pre .0, ((turn .inv .0, omega arith), rw (c .before .before .if1 .taken) (turn .inv .4)))
 
 add-q : tie.Need-add-q Inv-loop μ-loop

@@ -21,8 +21,10 @@ bounds c =
 -- the failure state, with the number of symbols that was read
 found : (c : tie.After-failure-of)
     → c .failure-of .result
-    ≡ failureBy (c .before .before .before .before .before .before .before .args .trie .now) (c .before .before .before .before .before .before .before .args .rows .now)
-    (read (c .before .before .before .before .before .before .before .args .image .now) .symbols) (c .before .before .before .before .before .before .before .args .q)
+    ≡ failureBy (c .before .before .before .before .before .before .before .args .trie .now)
+    (c .before .before .before .before .before .before .before .args .rows .now)
+    (read (c .before .before .before .before .before .before .before .args .image .now) .symbols)
+    (c .before .before .before .before .before .before .before .args .q)
 found c =
     let start = c .before .before .before .before .before .before .before in
     c .failure-of .ensures
@@ -46,23 +48,22 @@ failure-of-requires c κs =
 
 note-requires : tie.Need-note-requires
 note-requires c κs =
-    let start = c .before .before .before .before .before .before .before .before in
-    let room =
-    failure-within (read (start .args .image .now)) (start .args .q) (start .args .trie .now) (start .args .rows .now) (start .pre .1 .1)
-    (start .pre .1 .0 .0) (start .pre .1 .0 .1) (valid-in-range (start .args .image .now) (start .pre .0)) (c .before .failure-of .result)
-    (found (c .before))
-    in
+    let failure-of = c .before in
+    let start = failure-of .before .before .before .before .before .before .before in
+    let room = failure-within (read (start .args .image .now)) (start .args .q) (start .args .trie .now) (start .args .rows .now) (start .pre .1 .1)
+    (start .pre .1 .0 .0) (start .pre .1 .0 .1) (valid-in-range (start .args .image .now) (start .pre .0)) (failure-of .failure-of .result)
+    (found failure-of) in
     (omega (arith, bounds start), (room .0, room .1))
 
 merge-requires : tie.Need-merge-requires
 merge-requires c κs =
-    let start = c .before .before .before .before .before .before .before .before .before .before .before .before in
-    let room =
-    failure-within (read (start .args .image .now)) (start .args .q) (start .args .trie .now) (start .args .rows .now) (start .pre .1 .1)
-    (start .pre .1 .0 .0) (start .pre .1 .0 .1) (valid-in-range (start .args .image .now) (start .pre .0)) (c .before .before .before .before .before .failure-of .result)
-    (found (c .before .before .before .before .before))
-    in
-    rw (c .before .before .before .before .before .before .before .before .symbols .ensures) (room .2, room .3)
+    let failure-of = c .before .before .before .before .before in
+    let symbols = failure-of .before .before .before in
+    let start = symbols .before .before .before .before in
+    let room = failure-within (read (start .args .image .now)) (start .args .q) (start .args .trie .now) (start .args .rows .now) (start .pre .1 .1)
+    (start .pre .1 .0 .0) (start .pre .1 .0 .1) (valid-in-range (start .args .image .now) (start .pre .0)) (failure-of .failure-of .result)
+    (found failure-of) in
+    rw (symbols .symbols .ensures) (room .2, room .3)
 
 same-length : tie.Need-same-length
 same-length c = search needs
@@ -72,10 +73,14 @@ same-length-2 c = search needs
 
 returns : tie.Need-returns
 returns c =
-    let start = c .before .before .before .before .before .before .before .before .before .before .before .before .before .before .before in
+    let merge = c .before .before in
+    let note = merge .before .before .before .before in
+    let failure-of = note .before .before in
+    let symbols = failure-of .before .before .before in
+    let start = symbols .before .before .before .before in
     filling-more (read (start .args .image .now)) (start .args .q) (start .args .trie .now) (start .args .rows .now) (start .pre .1 .1)
-    (start .pre .1 .0 .0) (start .pre .1 .0 .1) (c .before .before .before .before .before .before .note .last .0) (c .before .before .merge .last .0) (c .before .before .before .before .before .before .before .before .failure-of .result)
-    (found (c .before .before .before .before .before .before .before .before)) (c .before .before .before .before .before .before .note .ensures) (rw (c .before .before .before .before .before .before .before .before .before .before .before .symbols .ensures) at (c .before .before .merge .ensures))
+    (start .pre .1 .0 .0) (start .pre .1 .0 .1) (note .note .last .0) (merge .merge .last .0) (failure-of .failure-of .result)
+    (found failure-of) (note .note .ensures) (rw (symbols .symbols .ensures) at (merge .merge .ensures))
 
 pub fill-state-spec : {M : Type 1} → statement M
 fill-state-spec =

@@ -35,10 +35,11 @@ bounds : (c : tie.In-loop Inv-loop μ-loop)
     → Within (c .before .before .before .before .before .before .args .trie .now) (c .before .loop .rows)
     (read (c .before .before .before .before .before .before .args .image .now) .symbols) (c .before .loop .c)
 bounds c =
-    let start = c .before .before .before .before .before .before in
-    within (read (start .args .image .now)) (start .args .trie .now) (c .before .loop .rows)
-    (valid-in-range (start .args .image .now) (start .pre .0)) (start .pre .1 .0) (sized (c .before)) (c .before .loop .c)
-    (c .before .loop .inv .0) (omega arith)
+    let loop = c .before in
+    let start = loop .before .before .before .before .before in
+    within (read (start .args .image .now)) (start .args .trie .now) (loop .loop .rows)
+    (valid-in-range (start .args .image .now) (start .pre .0)) (start .pre .1 .0) (sized loop) (loop .loop .c)
+    (loop .loop .inv .0) (omega arith)
 
 -- the word that is stored is the one of the node in its parent's row
 place : (c : tie.After-word2 Inv-loop μ-loop)
@@ -48,20 +49,23 @@ place : (c : tie.After-word2 Inv-loop μ-loop)
     * read (c .before .before .before .before .before .before .before .before .before .before .args .image .now) .symbols
     + symbol (c .before .before .before .before .before .before .before .before .before .before .args .trie .now)
     (c .before .before .before .before .before .loop .c)
-place c = rw (c .before .before .word .ensures, c .before .before .before .before .before .before .symbols .ensures, c .word2 .ensures)
+place c =
+    let symbols = c .before .before .before .before .before .before in
+    rw (c .before .before .word .ensures, symbols .symbols .ensures, c .word2 .ensures)
 
 symbols-requires : tie.Need-symbols-requires Inv-loop μ-loop
 symbols-requires c κs = search needs
 
 loop-holds : tie.Need-loop-holds Inv-loop μ-loop
 loop-holds c =
-    let start = c .before .before .before .before in (
+    let start = c .before .before .before .before in
+    let image = start .args .image .now in (
       omega arith,
-      omega (arith, some-state (read (start .args .image .now) .rules)),
+      omega (arith, some-state (read image .rules)),
       refl,
-      laid-none (read (start .args .image .now)) (start .args .rows .now)
+      laid-none (read image) (start .args .rows .now)
           (start .pre .1 .1 .1
-          ∙ ap (λ (n : ℕ). replicate (n * read (start .args .image .now) .symbols) 0) (start .pre .1 .1 .0)),
+          ∙ ap (λ (n : ℕ). replicate (n * read image .symbols) 0) (start .pre .1 .1 .0)),
     )
 
 mul-word : tie.Need-mul-word Inv-loop μ-loop
@@ -92,19 +96,29 @@ word-requires-2 : tie.Need-word-requires-2 Inv-loop μ-loop
 word-requires-2 c κs = search needs
 
 cast-rows : tie.Need-cast-rows Inv-loop μ-loop
-cast-rows c = omega (arith, bounds (c .before .before .before .before))
+cast-rows c =
+    let place = c .before .before .before .before in
+    omega (arith, bounds place)
 
 mul-rows : tie.Need-mul-rows Inv-loop μ-loop
-mul-rows c = omega (arith, place c, bounds (c .before .before .before .before))
+mul-rows c =
+    let place2 = c .before .before .before .before in
+    omega (arith, place c, bounds place2)
 
 add-rows : tie.Need-add-rows Inv-loop μ-loop
-add-rows c = omega (arith, place c, bounds (c .before .before .before .before))
+add-rows c =
+    let place2 = c .before .before .before .before in
+    omega (arith, place c, bounds place2)
 
 mul-rows-2 : tie.Need-mul-rows-2 Inv-loop μ-loop
-mul-rows-2 c = omega (arith, place c, bounds (c .before .before .before .before))
+mul-rows-2 c =
+    let place2 = c .before .before .before .before in
+    omega (arith, place c, bounds place2)
 
 slice-write-rows : tie.Need-slice-write-rows Inv-loop μ-loop
-slice-write-rows c = omega (arith, place c, bounds (c .before .before .before .before))
+slice-write-rows c =
+    let place2 = c .before .before .before .before in
+    omega (arith, place c, bounds place2)
 
 add-c : tie.Need-add-c Inv-loop μ-loop
 add-c c = omega arith
@@ -114,14 +128,15 @@ loop-less c = omega arith
 
 loop-again : tie.Need-loop-again Inv-loop μ-loop
 loop-again c =
-    let start = c .before .before .before .before .before .before .before .before .before .before in
-    let turn = c .before .before .before .before .before .loop in (
+    let loop = c .before .before .before .before .before in
+    let start = loop .before .before .before .before .before in
+    let turn = loop .loop in (
       omega arith,
       omega arith,
       simp length-set (turn .inv .2),
       rw (place c)
           (laid-more (read (start .args .image .now)) (start .args .trie .now) (turn .rows) (turn .c) (start .pre .1 .0)
-          (sized (c .before .before .before .before .before)) (turn .inv .0) (omega arith) (turn .inv .3)),
+          (sized loop) (turn .inv .0) (omega arith) (turn .inv .3)),
     )
 
 same-length : tie.Need-same-length Inv-loop μ-loop
@@ -129,10 +144,11 @@ same-length c = c .before .loop .inv .2
 
 returns : tie.Need-returns Inv-loop μ-loop
 returns c =
-    let start = c .before .before .before .before .before .before in
-    let turn = c .before .loop in
+    let loop = c .before in
+    let start = loop .before .before .before .before .before in
+    let turn = loop .loop in
     let all : turn .c ≡ length (states (read (start .args .image .now) .rules)) = omega arith in
-    laid-all (read (start .args .image .now)) (turn .rows) (sized (c .before)) (rw all at (turn .inv .3))
+    laid-all (read (start .args .image .now)) (turn .rows) (sized loop) (rw all at (turn .inv .3))
 
 pub lay-children-spec : {M : Type 1} → statement M
 lay-children-spec =

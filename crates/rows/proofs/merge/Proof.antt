@@ -63,8 +63,9 @@ loop-less c = omega arith
 
 loop-again : tie.Need-loop-again Inv-loop μ-loop
 loop-again c =
-    let turn = c .before .before .before .before .loop in
-    let start = c .before .before .before .before .before .before in (
+    let loop = c .before .before .before .before in
+    let start = loop .before .before in
+    let turn = loop .loop in (
       omega arith,
       simp length-set (turn .inv .1),
       merged-more _ _ _ _ _ _ (start .pre .0) (c .before .before .before .loop-test .taken) (turn .inv .2) _ (c .chosen .ensures),
@@ -75,8 +76,9 @@ same-length c = c .before .loop .inv .1
 
 returns : tie.Need-returns Inv-loop μ-loop
 returns c =
-    let all : c .before .loop .a ≡ c .before .before .before .args .s = omega arith in
-    rw all at (c .before .loop .inv .2)
+    let loop = c .before in
+    let all : loop .loop .a ≡ c .before .before .before .args .s = omega arith in
+    rw all at (loop .loop .inv .2)
 
 pub merge-spec : {M : Type 1} → statement M
 merge-spec =

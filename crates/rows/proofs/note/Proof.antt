@@ -65,7 +65,9 @@ same-length : tie.Need-same-length
 same-length c = search needs
 
 returns : tie.Need-returns
-returns c = noted _ _ _ _ (c .before .before .before .before .pre .0) (c .chosen .ensures)
+returns c =
+    let start = c .before .before .before .before in
+    noted _ _ _ _ (start .pre .0) (c .chosen .ensures)
 
 pub note-spec : {M : Type 1} → statement M
 note-spec =

@@ -13,7 +13,9 @@ slice-aggregate-begins-by : tie.Need-slice-aggregate-begins-by
 slice-aggregate-begins-by c = search needs
 
 begins-by-requires : tie.Need-begins-by-requires
-begins-by-requires c κs = (c .before .before .before .before .before .pre, (refl, roomy-small _ (rw (c .before .before .bodies-length .ensures) at (c .before .if1 .taken))))
+begins-by-requires c κs =
+    let start = c .before .before .before .before .before in
+    (start .pre, (refl, roomy-small _ (rw (c .before .before .bodies-length .ensures) at (c .before .if1 .taken))))
 
 returns : tie.Need-returns
 returns c = search needs
@@ -22,7 +24,9 @@ slice-aggregate-begins-by-2 : tie.Need-slice-aggregate-begins-by-2
 slice-aggregate-begins-by-2 c = search needs
 
 begins-by-requires-2 : tie.Need-begins-by-requires-2
-begins-by-requires-2 c κs = (c .before .before .before .before .before .pre, (refl, roomy-large _ (c .before .before .before .before .before .pre)))
+begins-by-requires-2 c κs =
+    let start = c .before .before .before .before .before in
+    (start .pre, (refl, roomy-large _ (start .pre)))
 
 returns-2 : tie.Need-returns-2
 returns-2 c = search needs

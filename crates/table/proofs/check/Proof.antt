@@ -13,10 +13,14 @@ begins-with-table-requires : tie.Need-begins-with-table-requires
 begins-with-table-requires c κs = sym (c .before .is-valid .ensures) ∙ c .if1 .taken
 
 returns : tie.Need-returns
-returns c = check-passed _ _ (sym (c .before .before .before .is-valid .ensures) ∙ c .before .before .if1 .taken) (sym (c .before .begins-with-table .ensures) ∙ c .if2 .taken)
+returns c =
+    check-passed _ _ (sym (c .before .before .before .is-valid .ensures) ∙ c .before .before .if1 .taken)
+    (sym (c .before .begins-with-table .ensures) ∙ c .if2 .taken)
 
 returns-2 : tie.Need-returns-2
-returns-2 c = check-nine _ _ (sym (c .before .before .before .is-valid .ensures) ∙ c .before .before .if1 .taken) (sym (c .before .begins-with-table .ensures) ∙ c .if2 .left)
+returns-2 c =
+    check-nine _ _ (sym (c .before .before .before .is-valid .ensures) ∙ c .before .before .if1 .taken)
+    (sym (c .before .begins-with-table .ensures) ∙ c .if2 .left)
 
 returns-3 : tie.Need-returns-3
 returns-3 c = check-seven _ _ (sym (c .before .is-valid .ensures) ∙ c .if1 .left)

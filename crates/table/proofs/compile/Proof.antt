@@ -17,7 +17,12 @@ slice-aggregate-compile-with : tie.Need-slice-aggregate-compile-with
 slice-aggregate-compile-with c = search needs
 
 compile-with-requires : tie.Need-compile-with-requires
-compile-with-requires c κs = (sym (c .before .before .before .before .before .is-valid .ensures) ∙ c .before .before .before .before .if1 .taken, (refl, roomy-small _ (rw (c .before .before .before .bodies-length .ensures) at (c .before .before .if2 .taken))))
+compile-with-requires c κs =
+    let if1 = c .before .before .before .before in
+    let is-valid = if1 .before in (
+      sym (is-valid .is-valid .ensures) ∙ if1 .if1 .taken,
+      (refl, roomy-small _ (rw (c .before .before .before .bodies-length .ensures) at (c .before .before .if2 .taken))),
+    )
 
 same-length : tie.Need-same-length
 same-length c = search needs
@@ -29,7 +34,10 @@ slice-aggregate-compile-with-2 : tie.Need-slice-aggregate-compile-with-2
 slice-aggregate-compile-with-2 c = search needs
 
 compile-with-requires-2 : tie.Need-compile-with-requires-2
-compile-with-requires-2 c κs = (let good = sym (c .before .before .before .before .before .is-valid .ensures) ∙ c .before .before .before .before .if1 .taken in (good, (refl, roomy-large _ good)))
+compile-with-requires-2 c κs =
+    let if1 = c .before .before .before .before in
+    let is-valid = if1 .before in
+    (let good = sym (is-valid .is-valid .ensures) ∙ if1 .if1 .taken in (good, (refl, roomy-large _ good)))
 
 same-length-2 : tie.Need-same-length-2
 same-length-2 c = search needs

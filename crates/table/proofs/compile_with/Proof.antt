@@ -20,13 +20,15 @@ symbols-requires c κs = search needs
 
 mul-words : tie.Need-mul-words
 mul-words c =
-    let good = c .before .before .before .before .before .before .before .before .pre .0 in
+    let start = c .before .before .before .before .before .before .before .before in
+    let good = start .pre .0 in
     let words = words-built _ good _ _ (c .before .before .before .build .ensures) _ (c .symbols .ensures) in
     omega (arith, words)
 
 add-words-2 : tie.Need-add-words-2
 add-words-2 c =
-    let good = c .before .before .before .before .before .before .before .before .pre .0 in
+    let start = c .before .before .before .before .before .before .before .before in
+    let good = start .pre .0 in
     let words = words-built _ good _ _ (c .before .before .before .build .ensures) _ (c .symbols .ensures) in
     omega (arith, words)
 
@@ -35,8 +37,10 @@ same-length c = search needs
 
 returns : tie.Need-returns
 returns c =
-    let good = c .before .before .before .before .before .before .before .before .before .pre .0 in
-    let words = words-built _ good _ _ (c .before .before .before .before .build .ensures) _ (c .before .symbols .ensures) in
+    let build = c .before .before .before .before in
+    let start = build .before .before .before .before .before in
+    let good = start .pre .0 in
+    let words = words-built _ good _ _ (build .build .ensures) _ (c .before .symbols .ensures) in
     compile-eight _ _ good (rw (← words .0) (c .if1 .taken))
 
 slice-relend-prefix-write : tie.Need-slice-relend-prefix-write
@@ -47,9 +51,11 @@ slice-aggregate-write c = sym (length-take-le _ _ (c .before .before .if1 .left)
 
 write-requires : tie.Need-write-requires
 write-requires c κs =
-    let good = c .before .before .before .before .before .before .before .before .before .before .before .pre .0 in
-    let words = words-built _ good _ _ (c .before .before .before .before .before .before .build .ensures) _ (c .before .before .before .symbols .ensures) in
-    (good, (c .before .before .before .before .before .before .build .ensures, length-take-le _ _ (c .before .before .if1 .left) ∙ words .0))
+    let build = c .before .before .before .before .before .before in
+    let start = build .before .before .before .before .before in
+    let good = start .pre .0 in
+    let words = words-built _ good _ _ (build .build .ensures) _ (c .before .before .before .symbols .ensures) in
+    (good, (build .build .ensures, length-take-le _ _ (c .before .before .if1 .left) ∙ words .0))
 
 same-length-2 : tie.Need-same-length-2
 same-length-2 c = search needs
@@ -59,9 +65,14 @@ same-length-3 c = search needs
 
 returns-2 : tie.Need-returns-2
 returns-2 c =
-    let good = c .before .before .before .before .before .before .before .before .before .before .before .before .before .before .before .before .pre .0 in
-    let words = words-built _ good _ _ (c .before .before .before .before .before .before .before .before .before .before .before .build .ensures) _ (c .before .before .before .before .before .before .before .before .symbols .ensures) in
-    compile-words _ _ good (rw (← words .0) (c .before .before .before .before .before .before .before .if1 .left)) _ (words .0) _ (c .before .before .before .before .write .ensures)
+    let write = c .before .before .before .before in
+    let if1 = write .before .before .before in
+    let symbols = if1 .before in
+    let build = symbols .before .before .before in
+    let start = build .before .before .before .before .before in
+    let good = start .pre .0 in
+    let words = words-built _ good _ _ (build .build .ensures) _ (symbols .symbols .ensures) in
+    compile-words _ _ good (rw (← words .0) (if1 .if1 .left)) _ (words .0) _ (write .write .ensures)
 
 pub compile-with-spec : {M : Type 1} → statement M
 compile-with-spec =

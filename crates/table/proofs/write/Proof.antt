@@ -26,13 +26,19 @@ cast-table c =
     omega (arith, start .pre .1 .0 .nodes, few-states _ (valid-in-range _ (start .pre .0)))
 
 slice-write-table : tie.Need-slice-write-table
-slice-write-table c = omega (arith, some (c .before .before .before .before))
+slice-write-table c =
+    let place = c .before .before .before .before in
+    omega (arith, some place)
 
 cast-table-2 : tie.Need-cast-table-2
-cast-table-2 c = omega (arith, c .symbols .ensures, ranges _ (valid-in-range _ (c .before .before .before .before .pre .0)))
+cast-table-2 c =
+    let start = c .before .before .before .before in
+    omega (arith, c .symbols .ensures, ranges _ (valid-in-range _ (start .pre .0)))
 
 slice-write-table-2 : tie.Need-slice-write-table-2
-slice-write-table-2 c = simp length-set (omega (arith, some (c .before .before .before .before)))
+slice-write-table-2 c =
+    let place = c .before .before .before .before in
+    simp length-set (omega (arith, some place))
 
 add-rows : tie.Need-add-rows
 add-rows c = search needs
@@ -41,10 +47,14 @@ mul-fill : tie.Need-mul-fill
 mul-fill c = search needs
 
 sub-fill : tie.Need-sub-fill
-sub-fill c = simp length-set (omega (arith, some (c .before .before .before .before .before)))
+sub-fill c =
+    let place = c .before .before .before .before .before in
+    simp length-set (omega (arith, some place))
 
 part-fill-start : tie.Need-part-fill-start
-part-fill-start c = simp length-set (omega (arith, some (c .before .before .before .before .before)))
+part-fill-start c =
+    let place = c .before .before .before .before .before in
+    simp length-set (omega (arith, some place))
 
 part-fill-end : tie.Need-part-fill-end
 part-fill-end c = search needs
@@ -52,7 +62,8 @@ part-fill-end c = search needs
 fill-requires : tie.Need-fill-requires
 fill-requires c κs =
     let start = c .before .before .before .before .before .before in
-    let size = rows-room (read (start .args .image .now)) (start .args .table .now) (start .pre .1 .0 .nodes) (c .before .before .symbols .ensures) (start .pre .1 .1) in
+    let size = rows-room (read (start .args .image .now)) (start .args .table .now) (start .pre .1 .0 .nodes) (c .before .before .symbols .ensures)
+    (start .pre .1 .1) in
     (start .pre .0, (start .pre .1 .0, size))
 
 sub-write-matches : tie.Need-sub-write-matches

@@ -24,7 +24,9 @@ slice-aggregate-keep : tie.Need-slice-aggregate-keep
 slice-aggregate-keep c = sym (ap length (c .before .before .make-slot .ensures) ∙ length-slot _ (omega arith))
 
 keep-requires : tie.Need-keep-requires
-keep-requires c κs = (ap length (c .before .before .make-slot .ensures) ∙ length-slot _ (omega arith), omega (arith, ap length (c .before .before .before .before .before .before .pre)))
+keep-requires c κs =
+    let start = c .before .before .before .before .before .before in
+    (ap length (c .before .before .make-slot .ensures) ∙ length-slot _ (omega arith), omega (arith, ap length (start .pre)))
 
 slice-aggregate-make-slot-2 : tie.Need-slice-aggregate-make-slot-2
 slice-aggregate-make-slot-2 c = search needs
@@ -36,14 +38,22 @@ slice-aggregate-keep-2 : tie.Need-slice-aggregate-keep-2
 slice-aggregate-keep-2 c = sym (ap length (c .before .before .make-slot2 .ensures) ∙ length-slot _ (omega arith))
 
 keep-requires-2 : tie.Need-keep-requires-2
-keep-requires-2 c κs = (ap length (c .before .before .make-slot2 .ensures) ∙ length-slot _ (omega arith), omega (arith, ap length (c .before .before .before .before .before .before .before .before .before .before .before .before .before .before .pre), c .before .before .before .before .before .before .before .keep .kept .0))
+keep-requires-2 c κs =
+    let keep = c .before .before .before .before .before .before .before in
+    let start = keep .before .before .before .before .before .before .before in
+    (ap length (c .before .before .make-slot2 .ensures) ∙ length-slot _ (omega arith), omega (arith, ap length (start .pre), keep .keep .kept .0))
 
 same-length : tie.Need-same-length
 same-length c = search needs
 
 returns : tie.Need-returns
 unfolding begun readerOf placeOf ruleAt leftOf sideOf body kind symbolsOf flatMap slot slots
-returns c = (refl, rw (c .before .before .keep2 .ensures, c .before .before .before .before .before .before .before .before .before .before .keep .ensures, c .before .before .before .before .before .before .before .before .before .before .before .before .before .make-slot .ensures, c .before .before .before .before .before .make-slot2 .ensures, c .before .before .before .before .before .before .before .before .before .before .before .before .before .before .before .before .before .pre) refl)
+returns c =
+    let make-slot2 = c .before .before .before .before .before in
+    let keep = make-slot2 .before .before .before .before .before in
+    let make-slot = keep .before .before .before in
+    let start = make-slot .before .before .before .before in
+    (refl, rw (c .before .before .keep2 .ensures, keep .keep .ensures, make-slot .make-slot .ensures, make-slot2 .make-slot2 .ensures, start .pre) refl)
 
 pub begin-spec : {M : Type 1} → statement M
 begin-spec =

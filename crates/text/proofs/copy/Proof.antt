@@ -25,7 +25,9 @@ add-to : tie.Need-add-to Inv-loop μ-loop
 add-to c = search needs
 
 slice-write-to : tie.Need-slice-write-to Inv-loop μ-loop
-slice-write-to c = omega (arith, c .before .before .loop .inv .room, copying-length (c .before .before .loop .inv), c .before .loop-test .taken)
+slice-write-to c =
+    let loop = c .before .before in
+    omega (arith, loop .loop .inv .room, copying-length (loop .loop .inv), c .before .loop-test .taken)
 
 add-i : tie.Need-add-i Inv-loop μ-loop
 add-i c = search needs

@@ -12,7 +12,8 @@ enum-told : tie.Need-enum-told
 enum-told c = search needs
 
 returns : tie.Need-returns
-returns c = λ a b z d s sound k. ended-good (c .before .before .args .size) sound k (place-at _ (s .place) (sym (place-number s (k .numbers)) ∙ c .enum-told .given .1))
+returns c =
+    λ a b z d s sound k. ended-good (c .before .before .args .size) sound k (place-at _ (s .place) (sym (place-number s (k .numbers)) ∙ c .enum-told .given .1))
 
 returns-2 : tie.Need-returns-2
 returns-2 c = λ a b z d s sound k. ended-early (c .before .args .size) sound k (incomplete (s .place) (rw (place-number s (k .numbers)) at (c .match .keys2)))

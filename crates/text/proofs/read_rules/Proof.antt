@@ -13,12 +13,14 @@ returns c =
 
 returns-2 : tie.Need-returns-2
 returns-2 c =
-    let a = c .before .before .before .before .before .args in
+    let start = c .before .before .before .before .before in
+    let a = start .args in
     parts _ _ _ _ (refused-image (a .text .now) (a .image .now) (a .names .now) (c .before .if1 .left) (c .if2 .taken))
 
 returns-3 : tie.Need-returns-3
 returns-3 c =
-    let a = c .before .before .before .before .before .before .args in
+    let start = c .before .before .before .before .before .before in
+    let a = start .args in
     parts _ _ _ _ (refused-names (a .text .now) (a .image .now) (a .names .now) (c .before .before .if1 .left) (c .before .if2 .left) (c .if3 .taken))
 
 slice-aggregate-read-tokens : tie.Need-slice-aggregate-read-tokens
@@ -50,15 +52,18 @@ slice-aggregate-write-image-2 c = search needs
 
 write-image-requires : tie.Need-write-image-requires
 write-image-requires c κs =
-    let k = c .before .before .before .before .before .before .before .before .before .before .before .before .before .before .before in
-    let a = k .before .before .before .before .before .before .args in
-    let short = k .before .before .if1 .left in
-    let image-room = k .before .if2 .left in
+    let reader = c .before .before .before .before in
+    let read-tokens = reader .before .before .before .before .before .before in
+    let k = read-tokens .before .before .before .before .before in
+    let if2 = k .before in
+    let if1 = if2 .before in
+    let start = if1 .before .before .before .before in
+    let a = start .args in
+    let short = if1 .if1 .left in
+    let image-room = if2 .if2 .left in
     let names-room = k .if3 .left in
-    let g =
-    text-good (a .text .now) (a .image .now) (a .names .now) short image-room names-room _ _ _ _ _ _
-    (c .before .before .before .before .reader .given .1) (c .before .before .before .before .before .before .before .before .before .before .read-tokens .ensures)
-    in
+    let g = text-good (a .text .now) (a .image .now) (a .names .now) short image-room names-room _ _ _ _ _ _
+    (reader .reader .given .1) (read-tokens .read-tokens .ensures) in
     (small (g .sound) (g .complete) (g .keeps) (a .image .now) image-room, (g .keeps .contents-size, (g .keeps .bodies-size, image-room)))
 
 slice-aggregate-write-names : tie.Need-slice-aggregate-write-names
@@ -72,14 +77,18 @@ write-names-requires c κs = search needs
 
 returns-4 : tie.Need-returns-4
 returns-4 c =
-    let k = c .before .before .before .before .before .before .before .before .before .before .before .before in
-    let a = k .before .before .before .before .before .before .args in
-    let short = k .before .before .if1 .left in
-    let image-room = k .before .if2 .left in
+    let read-tokens = c .before .before .before .before .before .before .before in
+    let k = read-tokens .before .before .before .before .before in
+    let if2 = k .before in
+    let if1 = if2 .before in
+    let start = if1 .before .before .before .before in
+    let a = start .args in
+    let short = if1 .if1 .left in
+    let image-room = if2 .if2 .left in
     let names-room = k .if3 .left in
     parts _ _ _ _
     (text-bad (a .text .now) (a .image .now) (a .names .now) short image-room names-room _ _ _ _ _ _ _ (c .before .n .given .1)
-    (c .before .before .before .before .before .before .before .read-tokens .ensures))
+    (read-tokens .read-tokens .ensures))
 
 same-length : tie.Need-same-length
 same-length c = search needs
@@ -89,16 +98,20 @@ same-length-2 c = search needs
 
 returns-5 : tie.Need-returns-5
 returns-5 c =
-    let k = c .before .before .before .before .before .before .before .before .before .before .before .before .before .before .before .before .before .before .before .before .before .before .before .before in
-    let a = k .before .before .before .before .before .before .args in
-    let short = k .before .before .if1 .left in
-    let image-room = k .before .if2 .left in
+    let write-image = c .before .before .before .before .before .before .before .before in
+    let reader = write-image .before .before .before .before .before in
+    let read-tokens = reader .before .before .before .before .before .before in
+    let k = read-tokens .before .before .before .before .before in
+    let if2 = k .before in
+    let if1 = if2 .before in
+    let start = if1 .before .before .before .before in
+    let a = start .args in
+    let short = if1 .if1 .left in
+    let image-room = if2 .if2 .left in
     let names-room = k .if3 .left in
-    let g =
-    text-good (a .text .now) (a .image .now) (a .names .now) short image-room names-room _ _ _ _ _ _
-    (c .before .before .before .before .before .before .before .before .before .before .before .before .before .reader .given .1) (c .before .before .before .before .before .before .before .before .before .before .before .before .before .before .before .before .before .before .before .read-tokens .ensures)
-    in
-    let w = c .before .before .before .before .before .before .before .before .write-image .ensures _ _ (g .reading) (g .sound) (g .complete) (g .keeps) in
+    let g = text-good (a .text .now) (a .image .now) (a .names .now) short image-room names-room _ _ _ _ _ _
+    (reader .reader .given .1) (read-tokens .read-tokens .ensures) in
+    let w = write-image .write-image .ensures _ _ (g .reading) (g .sound) (g .complete) (g .keeps) in
     rw (
       w .0,
       w .1,

@@ -16,9 +16,11 @@ same-length c = search needs
 
 returns : tie.Need-returns
 returns c =
-    let a = c .before .before .before .before .before .before .before .before .before .before .before .args in
-    let q = c .before .before .before .before .before .before .before .before .before .before .before .pre in
-    rw (c .before .before .copy2 .ensures, c .before .before .before .before .before .before .copy .ensures) (names-written (a .symbols .now) (a .words .now) (a .names .now) (q .0) (q .1 .0))
+    let copy = c .before .before .before .before .before .before in
+    let start = copy .before .before .before .before .before in
+    let a = start .args in
+    let q = start .pre in
+    rw (c .before .before .copy2 .ensures, copy .copy .ensures) (names-written (a .symbols .now) (a .words .now) (a .names .now) (q .0) (q .1 .0))
 
 pub write-names-spec : {M : Type 1} → statement M
 write-names-spec = tie.close (tie.spec copy-requires copy-requires-2 same-length returns)

@@ -25,18 +25,32 @@ make-slot-requires : tie.Need-make-slot-requires
 make-slot-requires c κs = search needs
 
 slice-aggregate-find : tie.Need-slice-aggregate-find
-slice-aggregate-find c = sym (ap length (c .before .make-slot .ensures) ∙ length-slot _ (c .before .before .before .before .if2 .left))
+slice-aggregate-find c =
+    let if2 = c .before .before .before .before in
+    sym (ap length (c .before .make-slot .ensures) ∙ length-slot _ (if2 .if2 .left))
 
 find-requires : tie.Need-find-requires
-find-requires c κs = (ap length (c .before .make-slot .ensures) ∙ length-slot _ (c .before .before .before .before .if2 .left), (search needs, search needs))
+find-requires c κs =
+    let if2 = c .before .before .before .before in
+    (ap length (c .before .make-slot .ensures) ∙ length-slot _ (if2 .if2 .left), (search needs, search needs))
 
 returns-4 : tie.Need-returns-4
 unfolding foundAs
-returns-4 c = name-there _ _ _ _ (c .before .before .before .before .before .before .before .if1 .left) (c .before .before .before .before .before .before .if2 .left) (c .before .before .before .before .before .if3 .left) (c .before .before .before .make-slot .ensures) (c .before .find .ensures) (c .if4 .taken)
+returns-4 c =
+    let if3 = c .before .before .before .before .before in
+    let if2 = if3 .before in
+    let if1 = if2 .before in
+    name-there _ _ _ _ (if1 .if1 .left) (if2 .if2 .left) (if3 .if3 .left) (c .before .before .before .make-slot .ensures) (c .before .find .ensures)
+    (c .if4 .taken)
 
 returns-5 : tie.Need-returns-5
 unfolding foundAs
-returns-5 c = name-nowhere _ _ _ _ (c .before .before .before .before .before .before .before .if1 .left) (c .before .before .before .before .before .before .if2 .left) (c .before .before .before .before .before .if3 .left) (c .before .before .before .make-slot .ensures) (c .before .find .ensures) (c .if4 .left)
+returns-5 c =
+    let if3 = c .before .before .before .before .before in
+    let if2 = if3 .before in
+    let if1 = if2 .before in
+    name-nowhere _ _ _ _ (if1 .if1 .left) (if2 .if2 .left) (if3 .if3 .left) (c .before .before .before .make-slot .ensures) (c .before .find .ensures)
+    (c .if4 .left)
 
 pub symbol-spec : {M : Type 1} → statement M
 symbol-spec =

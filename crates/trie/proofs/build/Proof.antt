@@ -29,7 +29,9 @@ add-at : tie.Need-add-at Inv-loop μ-loop
 add-at c = omega (arith, c .rules .ensures, ranges _ (valid-in-range _ (c .before .before .before .pre .0)))
 
 loop-holds : tie.Need-loop-holds Inv-loop μ-loop
-loop-holds c = build-first _ _ (c .before .before .before .pre .1 .0) (c .before .before .before .pre .1 .1) _ (rw (c .rules .ensures) refl)
+loop-holds c =
+    let start = c .before .before .before in
+    build-first _ _ (start .pre .1 .0) (start .pre .1 .1) _ (rw (c .rules .ensures) refl)
 
 walk-requires : tie.Need-walk-requires Inv-loop μ-loop
 walk-requires c κs =
@@ -40,25 +42,34 @@ walk-requires c κs =
 
 mark-requires : tie.Need-mark-requires Inv-loop μ-loop
 mark-requires c κs =
-    let start = c .before .before .before .before .before .before .before .before .before .before in
-    let turn = c .before .before .before .before .before .before .loop .inv in
-    let more = rw (c .before .before .before .before .before .before .before .rules .ensures) at (c .before .before .before .before .before .loop-test .taken) in
+    let loop-test = c .before .before .before .before .before in
+    let loop = loop-test .before in
+    let rules = loop .before in
+    let start = rules .before .before .before in
+    let turn = loop .loop .inv in
+    let more = rw (rules .rules .ensures) at (loop-test .loop-test .taken) in
     let walked = c .before .before .before .walk .ensures in
     let room = followed-room _ (valid-in-range _ (start .pre .0)) _ (start .pre .1 .1) _ more _ _ (walked .0) in
     (rw (walked .1 ∙ turn .size) (room .2), room .1)
 
 body-length-requires : tie.Need-body-length-requires Inv-loop μ-loop
 body-length-requires c κs =
-    let start = c .before .before .before .before .before .before .before .before .before .before .before .before .before in
-    let turn = c .before .before .before .before .before .before .before .before .before .loop .inv in
-    let more = rw (c .before .before .before .before .before .before .before .before .before .before .rules .ensures) at (c .before .before .before .before .before .before .before .before .loop-test .taken) in
+    let loop-test = c .before .before .before .before .before .before .before .before in
+    let loop = loop-test .before in
+    let rules = loop .before in
+    let start = rules .before .before .before in
+    let turn = loop .loop .inv in
+    let more = rw (rules .rules .ensures) at (loop-test .loop-test .taken) in
     (start .pre .0, more)
 
 add-at-2 : tie.Need-add-at-2 Inv-loop μ-loop
 add-at-2 c =
-    let start = c .before .before .before .before .before .before .before .before .before .before .before .before .before .before in
-    let turn = c .before .before .before .before .before .before .before .before .before .before .loop .inv in
-    let more = rw (c .before .before .before .before .before .before .before .before .before .before .before .rules .ensures) at (c .before .before .before .before .before .before .before .before .before .loop-test .taken) in
+    let loop-test = c .before .before .before .before .before .before .before .before .before in
+    let loop = loop-test .before in
+    let rules = loop .before in
+    let start = rules .before .before .before in
+    let turn = loop .loop .inv in
+    let more = rw (rules .rules .ensures) at (loop-test .loop-test .taken) in
     omega (arith, c .body-length .ensures, turn .place, left-within _ (start .pre .0) _ more)
 
 add-i : tie.Need-add-i Inv-loop μ-loop
@@ -69,14 +80,19 @@ loop-less c = omega arith
 
 loop-again : tie.Need-loop-again Inv-loop μ-loop
 loop-again c =
-    let start = c .before .before .before .before .before .before .before .before .before .before .before .before .before .before in
-    let turn = c .before .before .before .before .before .before .before .before .before .before .loop .inv in
-    let more = rw (c .before .before .before .before .before .before .before .before .before .before .before .rules .ensures) at (c .before .before .before .before .before .before .before .before .before .loop-test .taken) in
-    let walked = c .before .before .before .before .before .before .before .walk .ensures in
+    let mark = c .before .before .before in
+    let walk = mark .before .before .before .before in
+    let loop-test = walk .before .before in
+    let loop = loop-test .before in
+    let rules = loop .before in
+    let start = rules .before .before .before in
+    let turn = loop .loop .inv in
+    let more = rw (rules .rules .ensures) at (loop-test .loop-test .taken) in
+    let walked = walk .walk .ensures in
     let room = followed-room _ (valid-in-range _ (start .pre .0)) _ (start .pre .1 .1) _ more _ _ (walked .0) in
     rw add-one
-    (build-next _ _ _ _ _ _ turn more _ _ (walked .0) (rw (walked .1 ∙ turn .size) (room .0)) _ (c .before .before .before .mark .ensures)
-    (c .before .before .before .mark .kept .0 ∙ walked .1 ∙ turn .size) _ (c .body-length .ensures))
+    (build-next _ _ _ _ _ _ turn more _ _ (walked .0) (rw (walked .1 ∙ turn .size) (room .0)) _ (mark .mark .ensures)
+    (mark .mark .kept .0 ∙ walked .1 ∙ turn .size) _ (c .body-length .ensures))
 
 same-length : tie.Need-same-length Inv-loop μ-loop
 same-length c = c .before .loop .inv .size

@@ -61,11 +61,18 @@ word-requires-2 : tie.Need-word-requires-2 Inv-loop μ-loop
 word-requires-2 c κs = search needs
 
 loop-less : tie.Need-loop-less Inv-loop μ-loop
-loop-less c = (let turn = c .before .before .before .before .before in omega (arith, c .word2 .ensures, c .before .before .before .before .before .before .before .before .before .pre .0 .old (turn .loop .c) (c .before .before .before .before .loop-test .taken) (turn .loop .inv .0)))
+loop-less c =
+    let loop-test = c .before .before .before .before in
+    let place = loop-test .before in
+    let start = place .before .before .before .before in
+    (let turn = place in omega (arith, c .word2 .ensures, start .pre .0 .old (turn .loop .c) (loop-test .loop-test .taken) (turn .loop .inv .0)))
 
 loop-again : tie.Need-loop-again Inv-loop μ-loop
 loop-again c =
-    search-next _ _ _ _ (c .before .before .before .before .before .before .before .before .before .pre .0) _ (c .before .before .before .before .before .loop .inv) (c .before .before .before .before .loop-test .taken) (c .before .before .if1 .left) _
+    let loop-test = c .before .before .before .before in
+    let loop = loop-test .before in
+    let start = loop .before .before .before .before in
+    search-next _ _ _ _ (start .pre .0) _ (loop .loop .inv) (loop-test .loop-test .taken) (c .before .before .if1 .left) _
     (c .word2 .ensures)
 
 returns-2 : tie.Need-returns-2 Inv-loop μ-loop

@@ -17,8 +17,9 @@ inside : (c : tie.After-word3)
     < length (c .before .before .before .before .before .before .before .before .before .args .rows .now)
 inside c =
     let turn = c .before .before .before .before in
-    let start = turn .before .before .before .before .before in
-    word-inside (start .args .trie .now) (start .args .rows .now) (start .args .s) (start .args .q) (turn .before .word .ensures)
+    let word = turn .before in
+    let start = word .before .before .before .before in
+    word-inside (start .args .trie .now) (start .args .rows .now) (start .args .s) (start .args .q) (word .word .ensures)
     (c .before .before .word2 .ensures) (c .word3 .ensures) (turn .if1 .left) (start .pre .1 .1)
 
 mul-word : tie.Need-mul-word
@@ -84,11 +85,13 @@ word-requires-4 c κs = search needs
 
 returns-2 : tie.Need-returns-2
 returns-2 c =
-    let turn = c .before .before .before .before .before .before in
-    let start = turn .before .before .before .before .before in
+    let word2 = c .before .before .before .before in
+    let turn = word2 .before .before in
+    let word = turn .before in
+    let start = word .before .before .before .before in
     c .word4 .ensures
-    ∙ word-read (start .args .trie .now) (start .args .rows .now) (start .args .s) (start .args .q) (turn .before .word .ensures)
-    (c .before .before .before .before .word2 .ensures) (c .before .before .word3 .ensures) (turn .if1 .left)
+    ∙ word-read (start .args .trie .now) (start .args .rows .now) (start .args .s) (start .args .q) (word .word .ensures)
+    (word2 .word2 .ensures) (c .before .before .word3 .ensures) (turn .if1 .left)
 
 pub failure-of-spec : {M : Type 1} → statement M
 failure-of-spec =

@@ -33,9 +33,11 @@ same-length-2 c = search needs
 
 returns-2 : tie.Need-returns-2
 returns-2 c =
+    let if1 = c .before .before .before .before in
+    let child = if1 .before in
     inr
     (record {
-      none = child-missing _ _ _ _ _ (c .before .before .before .before .before .child .ensures) (c .before .before .before .before .if1 .left);
+      none = child-missing _ _ _ _ _ (child .child .ensures) (if1 .if1 .left);
       node = refl;
       nodes = refl;
       grown = c .before .before .add .ensures;

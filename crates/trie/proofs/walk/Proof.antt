@@ -19,7 +19,9 @@ abbrev μ-loop : tie.MeasureT-loop
 μ-loop image i at trie₀ n long q₀ nodes₀ j₀ trie q nodes j = long - j
 
 left-length-requires : tie.Need-left-length-requires Inv-loop μ-loop
-left-length-requires c κs = (c .before .before .pre .0, c .before .before .pre .1 .0 .0)
+left-length-requires c κs =
+    let start = c .before .before in
+    (start .pre .0, start .pre .1 .0 .0)
 
 loop-holds : tie.Need-loop-holds Inv-loop μ-loop
 loop-holds c =
@@ -34,8 +36,9 @@ add-word c =
 
 shared-slice-read-word : tie.Need-shared-slice-read-word Inv-loop μ-loop
 shared-slice-read-word c =
-    let start = c .before .before .before .before .before .before .before in
-    let more = rw (c .before .before .before .before .left-length .ensures) at (c .before .before .loop-test .taken) in
+    let left-length = c .before .before .before .before in
+    let start = left-length .before .before .before in
+    let more = rw (left-length .left-length .ensures) at (c .before .before .loop-test .taken) in
     symbol-within _ (start .pre .0) _ _ _ (start .pre .1 .0 .0) (start .pre .1 .0 .1) more
 
 word-requires : tie.Need-word-requires Inv-loop μ-loop
@@ -43,9 +46,11 @@ word-requires c κs = search needs
 
 follow-requires : tie.Need-follow-requires Inv-loop μ-loop
 follow-requires c κs =
-    let start = c .before .before .before .before .before .before .before .before in
-    let more = rw (c .before .before .before .before .before .left-length .ensures) at (c .before .before .before .loop-test .taken) in
-    let room = walk-room _ _ _ (valid-in-range _ (start .pre .0)) (start .pre .1 .1 .0 .1) (start .pre .1 .0 .0) _ _ _ _ (c .before .before .before .before .loop .inv) more in
+    let loop = c .before .before .before .before in
+    let left-length = loop .before in
+    let start = left-length .before .before .before in
+    let more = rw (left-length .left-length .ensures) at (c .before .before .before .loop-test .taken) in
+    let room = walk-room _ _ _ (valid-in-range _ (start .pre .0)) (start .pre .1 .1 .0 .1) (start .pre .1 .0 .0) _ _ _ _ (loop .loop .inv) more in
     (room .linked, ((room .node, room .few), (room .room, (room .shallow, room .narrow))))
 
 add-j : tie.Need-add-j Inv-loop μ-loop
@@ -56,11 +61,14 @@ loop-less c = omega arith
 
 loop-again : tie.Need-loop-again Inv-loop μ-loop
 loop-again c =
-    let start = c .before .before .before .before .before .before .before .before .before .before .before in
-    let more = rw (c .before .before .before .before .before .before .before .before .left-length .ensures) at (c .before .before .before .before .before .before .loop-test .taken) in
+    let loop-test = c .before .before .before .before .before .before in
+    let loop = loop-test .before in
+    let left-length = loop .before in
+    let start = left-length .before .before .before in
+    let more = rw (left-length .left-length .ensures) at (loop-test .loop-test .taken) in
     let at = symbol-at _ (start .pre .0) _ _ _ (start .pre .1 .0 .0) (start .pre .1 .0 .1) more in
     rw add-one
-    (walk-next _ _ _ (valid-in-range _ (start .pre .0)) (start .pre .1 .1 .0 .1) (start .pre .1 .0 .0) _ _ _ _ (c .before .before .before .before .before .before .before .loop .inv) more _
+    (walk-next _ _ _ (valid-in-range _ (start .pre .0)) (start .pre .1 .1 .0 .1) (start .pre .1 .0 .0) _ _ _ _ (loop .loop .inv) more _
     (c .before .before .before .word .ensures ∙ at) _ _ (c .before .before .follow .ensures))
 
 same-length : tie.Need-same-length Inv-loop μ-loop
@@ -68,9 +76,10 @@ same-length c = c .before .loop .inv .size
 
 returns : tie.Need-returns Inv-loop μ-loop
 returns c =
-    let start = c .before .before .before .before .before in
+    let loop = c .before in
+    let start = loop .before .before .before .before in
     let far = rw (c .before .before .left-length .ensures) at (c .loop-test .left) in
-    (walk-last _ _ _ (start .pre .1 .0 .0) _ _ _ _ (c .before .loop .inv) far, c .before .loop .inv .size)
+    (walk-last _ _ _ (start .pre .1 .0 .0) _ _ _ _ (loop .loop .inv) far, loop .loop .inv .size)
 
 pub walk-spec : {M : Type 1} → statement M
 walk-spec =

@@ -23,7 +23,9 @@ enum-known-size : tie.Need-enum-known-size
 enum-known-size c = search needs
 
 write-line-requires : tie.Need-write-line-requires
-write-line-requires c κs = rw (c .before .before .size .given .1) at (c .before .before .before .before .begin .ensures .1)
+write-line-requires c κs =
+    let begin = c .before .before .before .before in
+    rw (c .before .before .size .given .1) at (begin .begin .ensures .1)
 
 enum-known-walk : tie.Need-enum-known-walk
 enum-known-walk c = search needs

@@ -23,7 +23,11 @@ write-line-requires : tie.Need-write-line-requires Inv-loop μ-loop
 write-line-requires c κs = c .before .before .next .ensures .1 .0
 
 loop-less : tie.Need-loop-less Inv-loop μ-loop
-loop-less c = let onward = c .before .before .before .before .before .next .ensures .1 .1 (c .before .before .before .before .if1 .left) in omega (arith, onward .0, onward .1)
+loop-less c =
+    let if1 = c .before .before .before .before in
+    let next = if1 .before in
+    let onward = next .next .ensures .1 .1 (if1 .if1 .left) in
+    omega (arith, onward .0, onward .1)
 
 loop-again : tie.Need-loop-again Inv-loop μ-loop
 loop-again c = tt

@@ -38,9 +38,10 @@ stands-by-requires c κs = search needs
 
 returns-3 : tie.Need-returns-3
 returns-3 c =
-    let start = c .before .before .before .before .before .before .before .before in
+    let stands-by = c .before in
+    let start = stands-by .before .before .before .before .before .before .before in
     not-described (read (start .args .image .now)) (given start) (start .args .bytes .now) (start .args .words .now) (start .pre .1 .1)
-    (λ t. is-not (c .before .stands-by .result) (c .before .stands-by .ensures) (c .if3 .taken) (t .stands))
+    (λ t. is-not (stands-by .stands-by .result) (stands-by .stands-by .ensures) (c .if3 .taken) (t .stands))
 
 -- the settled symbols stand in the bytes
 settled-fits : (c : tie.Else3)
@@ -70,11 +71,12 @@ settled-right-requires c κs =
 
 returns-4 : tie.Need-returns-4
 returns-4 c =
-    let start = c .before .before .before .before .before .before .before .before .before .before .before .before in
+    let settled-right = c .before in
+    let start = settled-right .before .before .before .before .before .before .before .before .before .before .before in
     not-described (read (start .args .image .now)) (given start) (start .args .bytes .now) (start .args .words .now) (start .pre .1 .1)
     (λ t.
-    denied (c .before .settled-right .result) (not-true (c .before .settled-right .result) (c .if4 .taken))
-    (c .before .settled-right .ensures) (t .settled-part))
+    denied (settled-right .settled-right .result) (not-true (settled-right .settled-right .result) (c .if4 .taken))
+    (settled-right .settled-right .ensures) (t .settled-part))
 
 sub-zero-bytes : tie.Need-sub-zero-bytes
 sub-zero-bytes c = search needs
@@ -90,12 +92,12 @@ zero-bytes-requires c κs = search needs
 
 returns-5 : tie.Need-returns-5
 returns-5 c =
-    let e3 = c .before .before .before .before .before .before .before in
-    let start = e3 .before .before .before .before .before .before .before .before in
+    let zero-bytes = c .before in
+    let start = zero-bytes .before .before .before .before .before .before .before .before .before .before .before .before .before .before in
     not-described (read (start .args .image .now)) (given start) (start .args .bytes .now) (start .args .words .now) (start .pre .1 .1)
     (λ t.
-    denied (c .before .zero-bytes .result) (not-true (c .before .zero-bytes .result) (c .if5 .taken))
-    (c .before .zero-bytes .ensures) (t .middle))
+    denied (zero-bytes .zero-bytes .result) (not-true (zero-bytes .zero-bytes .result) (c .if5 .taken))
+    (zero-bytes .zero-bytes .ensures) (t .middle))
 
 sub-all-below : tie.Need-sub-all-below
 sub-all-below c = search needs
@@ -108,23 +110,22 @@ part-all-below-end c = search needs
 
 shared-slice-read-all-below : tie.Need-shared-slice-read-all-below
 shared-slice-read-all-below c =
-    let e3 = c .before .before .before .before .before .before .before .before .before in
-    let start = e3 .before .before .before .before .before .before .before .before in
+    let start = c .before .before .before .before .before .before .before .before .before .before .before .before .before .before .before .before .before in
     omega (arith, valid-room (start .args .image .now) (start .pre .0))
 
 all-below-requires : tie.Need-all-below-requires
 all-below-requires c κs =
-    let e3 = c .before .before .before .before .before .before .before .before .before in
-    let start = e3 .before .before .before .before .before .before .before .before in
+    let start = c .before .before .before .before .before .before .before .before .before .before .before .before .before .before .before .before .before in
     valid-header (start .args .image .now) (start .pre .0) .some-symbol
 
 returns-6 : tie.Need-returns-6
 unfolding read
 returns-6 c =
-    let e3 = c .before .before .before .before .before .before .before .before .before .before .before in
-    let start = e3 .before .before .before .before .before .before .before .before in
+    let all-below = c .before in
+    let start = all-below .before .before .before .before .before .before .before .before .before .before .before .before .before .before .before .before
+    .before .before in
     not-described (read (start .args .image .now)) (given start) (start .args .bytes .now) (start .args .words .now) (start .pre .1 .1)
-    (λ t. is-not (c .before .all-below .result) (c .before .all-below .ensures) (c .if6 .taken) (t .waiting-part))
+    (λ t. is-not (all-below .all-below .result) (all-below .all-below .ensures) (c .if6 .taken) (t .waiting-part))
 
 mul-zero-words : tie.Need-mul-zero-words
 mul-zero-words c = search needs
@@ -145,24 +146,29 @@ returns-7 : tie.Need-returns-7
 unfolding read
 returns-7 c =
     let e6 = c .before .before in
-    let e5 = e6 .before .before .before .before in
-    let e4 = e5 .before .before .before in
-    let e3 = e4 .before .before .before .before in
-    let e2 = e3 .before .before in
-    let start = e2 .before .before .before .before .before .before in
+    let all-below = e6 .before in
+    let e5 = all-below .before .before .before in
+    let zero-bytes = e5 .before in
+    let e4 = zero-bytes .before .before in
+    let settled-right = e4 .before in
+    let e3 = settled-right .before .before .before in
+    let stands-by = e3 .before in
+    let e2 = stands-by .before in
+    let if1 = e2 .before in
+    let start = if1 .before .before .before .before .before in
     rest-decides (read (start .args .image .now)) (given start) (start .args .bytes .now) (start .args .words .now) (start .pre .1 .1)
     (c .zero-words .result) (c .zero-words .ensures)
     (λ r.
     record {
-      room = omega (arith, e2 .before .if1 .left, e2 .if2 .left);
-      stands = is-so (e3 .before .stands-by .result) (e3 .before .stands-by .ensures) (e3 .if3 .left);
+      room = omega (arith, if1 .if1 .left, e2 .if2 .left);
+      stands = is-so (stands-by .stands-by .result) (stands-by .stands-by .ensures) (e3 .if3 .left);
       settled-part =
-          decided (e4 .before .settled-right .result) (not-false (e4 .before .settled-right .result) (e4 .if4 .left))
-          (e4 .before .settled-right .ensures);
+          decided (settled-right .settled-right .result) (not-false (settled-right .settled-right .result) (e4 .if4 .left))
+          (settled-right .settled-right .ensures);
       middle =
-          decided (e5 .before .zero-bytes .result) (not-false (e5 .before .zero-bytes .result) (e5 .if5 .left))
-          (e5 .before .zero-bytes .ensures);
-      waiting-part = is-so (e6 .before .all-below .result) (e6 .before .all-below .ensures) (e6 .if6 .left);
+          decided (zero-bytes .zero-bytes .result) (not-false (zero-bytes .zero-bytes .result) (e5 .if5 .left))
+          (zero-bytes .zero-bytes .ensures);
+      waiting-part = is-so (all-below .all-below .result) (all-below .all-below .ensures) (e6 .if6 .left);
       rest = r;
     })
 

@@ -41,10 +41,12 @@ returns-2 c =
 returns-3 : tie.Need-returns-3
 returns-3 c =
     let called = c .before .before .before in
-    let known = called .before .before .before .before in
+    let if1 = called .before in
+    let rules = if1 .before in
+    let known = rules .before .before in
     let start = known .before .before .before in
     stands-close (read (start .args .image .now) .rules) (start .args .rule) (called .right-side .ensures) _ (known .verdict .given .1)
-    _ (c .before .u .given .1) (omega (arith, called .before .if1 .taken, called .before .before .rules .ensures))
+    _ (c .before .u .given .1) (omega (arith, if1 .if1 .taken, rules .rules .ensures))
 
 returns-4 : tie.Need-returns-4
 returns-4 c =

@@ -15,7 +15,10 @@ abbrev μ-loop : tie.MeasureT-loop
 μ-loop bytes₀ words₀ from to i₀ bytes words i = to - i
 
 loop-holds : tie.Need-loop-holds Inv-loop μ-loop
-loop-holds c = (clearing-first (c .args .bytes .now) (c .args .from) (c .args .to) (c .pre .0) (c .pre .1 .0), clearing-first (c .args .words .now) (c .args .from) (c .args .to) (c .pre .0) (c .pre .1 .1))
+loop-holds c = (
+  clearing-first (c .args .bytes .now) (c .args .from) (c .args .to) (c .pre .0) (c .pre .1 .0),
+  clearing-first (c .args .words .now) (c .args .from) (c .args .to) (c .pre .0) (c .pre .1 .1),
+)
 
 slice-write-bytes : tie.Need-slice-write-bytes Inv-loop μ-loop
 slice-write-bytes c = clearing-inside (c .before .loop .inv .0) (c .loop-test .taken)
@@ -27,13 +30,17 @@ slice-write-words : tie.Need-slice-write-words Inv-loop μ-loop
 slice-write-words c = clearing-inside (c .before .loop .inv .1) (c .loop-test .taken)
 
 add-i : tie.Need-add-i Inv-loop μ-loop
-add-i c = omega (arith, clearing-inside (c .before .loop .inv .0) (c .loop-test .taken), c .before .loop .inv .0 .ended)
+add-i c =
+    let loop = c .before in
+    omega (arith, clearing-inside (loop .loop .inv .0) (c .loop-test .taken), loop .loop .inv .0 .ended)
 
 loop-less : tie.Need-loop-less Inv-loop μ-loop
 loop-less c = search needs
 
 loop-again : tie.Need-loop-again Inv-loop μ-loop
-loop-again c = (clearing-next (c .before .loop .inv .0) (c .loop-test .taken), clearing-next (c .before .loop .inv .1) (c .loop-test .taken))
+loop-again c =
+    let loop = c .before in
+    (clearing-next (loop .loop .inv .0) (c .loop-test .taken), clearing-next (loop .loop .inv .1) (c .loop-test .taken))
 
 same-length : tie.Need-same-length Inv-loop μ-loop
 same-length c = copying-length (c .before .loop .inv .0 .copying)
@@ -42,7 +49,9 @@ same-length-2 : tie.Need-same-length-2 Inv-loop μ-loop
 same-length-2 c = copying-length (c .before .loop .inv .1 .copying)
 
 returns : tie.Need-returns Inv-loop μ-loop
-returns c = (clearing-last (c .before .loop .inv .0) (c .loop-test .left), clearing-last (c .before .loop .inv .1) (c .loop-test .left))
+returns c =
+    let loop = c .before in
+    (clearing-last (loop .loop .inv .0) (c .loop-test .left), clearing-last (loop .loop .inv .1) (c .loop-test .left))
 
 pub clear-spec : {M : Type 1} → statement M
 clear-spec =

@@ -21,10 +21,14 @@ rules-requires : tie.Need-rules-requires Inv-loop μ-loop
 rules-requires c κs = search needs
 
 mul-at : tie.Need-mul-at Inv-loop μ-loop
-mul-at c = omega (arith, contents-within (c .before .before .before .args .image .now) (c .before .before .before .pre .0))
+mul-at c =
+    let start = c .before .before .before in
+    omega (arith, contents-within (start .args .image .now) (start .pre .0))
 
 add-at : tie.Need-add-at Inv-loop μ-loop
-add-at c = omega (arith, contents-within (c .before .before .before .args .image .now) (c .before .before .before .pre .0))
+add-at c =
+    let start = c .before .before .before in
+    omega (arith, contents-within (start .args .image .now) (start .pre .0))
 
 loop-holds : tie.Need-loop-holds Inv-loop μ-loop
 loop-holds c =
@@ -36,15 +40,23 @@ left-length-requires c κs = search needs
 
 add-starts : tie.Need-add-starts Inv-loop μ-loop
 add-starts c =
-    let turn = c .before .before .loop in
     let start = c .before .before .before .before .before .before in
-    omega (arith, left-small (start .args .image .now) (turn .starts) (turn .at) (turn .i) (c .left-length .result) (start .pre .0) (turn .inv .2) (rw (← turn .inv .0) (c .before .loop-test .taken)) (c .left-length .ensures))
+    let turn = c .before .before .loop in
+    omega (
+      arith,
+      left-small (start .args .image .now) (turn .starts) (turn .at) (turn .i) (c .left-length .result) (start .pre .0) (turn .inv .2)
+          (rw (← turn .inv .0) (c .before .loop-test .taken)) (c .left-length .ensures),
+    )
 
 cast-starts : tie.Need-cast-starts Inv-loop μ-loop
 cast-starts c =
-    let turn = c .before .before .loop in
     let start = c .before .before .before .before .before .before in
-    omega (arith, left-small (start .args .image .now) (turn .starts) (turn .at) (turn .i) (c .left-length .result) (start .pre .0) (turn .inv .2) (rw (← turn .inv .0) (c .before .loop-test .taken)) (c .left-length .ensures))
+    let turn = c .before .before .loop in
+    omega (
+      arith,
+      left-small (start .args .image .now) (turn .starts) (turn .at) (turn .i) (c .left-length .result) (start .pre .0) (turn .inv .2)
+          (rw (← turn .inv .0) (c .before .loop-test .taken)) (c .left-length .ensures),
+    )
 
 mul-starts : tie.Need-mul-starts Inv-loop μ-loop
 mul-starts c = search needs
@@ -57,9 +69,14 @@ body-length-requires c κs = search needs
 
 add-at-2 : tie.Need-add-at-2 Inv-loop μ-loop
 add-at-2 c =
-    let turn = c .before .before .before .loop in
     let start = c .before .before .before .before .before .before .before in
-    omega (arith, c .body-length .ensures, start-small (start .args .image .now) (turn .starts) (turn .at) (turn .i) (start .pre .0) (turn .inv .2) (rw (← turn .inv .0) (c .before .before .loop-test .taken)))
+    let turn = c .before .before .before .loop in
+    omega (
+      arith,
+      c .body-length .ensures,
+      start-small (start .args .image .now) (turn .starts) (turn .at) (turn .i) (start .pre .0) (turn .inv .2)
+          (rw (← turn .inv .0) (c .before .before .loop-test .taken)),
+    )
 
 add-i : tie.Need-add-i Inv-loop μ-loop
 add-i c = search needs
@@ -69,17 +86,22 @@ loop-less c = search needs
 
 loop-again : tie.Need-loop-again Inv-loop μ-loop
 loop-again c =
-    let turn = c .before .before .before .loop in
-    let start = c .before .before .before .before .before .before .before in
-    (turn .inv .0, rw length-set (turn .inv .1), indexing-next (start .args .image .now) (turn .starts) (turn .at) (turn .i) (c .before .left-length .result) (c .body-length .result) (turn .inv .2) (rw (← turn .inv .0) (c .before .before .loop-test .taken)) (c .before .left-length .ensures) (c .body-length .ensures))
+    let left-length = c .before in
+    let start = left-length .before .before .before .before .before .before in
+    let turn = c .before .before .before .loop in (
+      turn .inv .0,
+      rw length-set (turn .inv .1),
+      indexing-next (start .args .image .now) (turn .starts) (turn .at) (turn .i) (left-length .left-length .result) (c .body-length .result) (turn .inv .2)
+          (rw (← turn .inv .0) (c .before .before .loop-test .taken)) (left-length .left-length .ensures) (c .body-length .ensures),
+    )
 
 same-length : tie.Need-same-length Inv-loop μ-loop
 same-length c = c .before .loop .inv .1
 
 returns : tie.Need-returns Inv-loop μ-loop
 returns c =
-    let turn = c .before .loop in
     let start = c .before .before .before .before .before in
+    let turn = c .before .loop in
     indexing-last (start .args .image .now) (turn .starts) (turn .at) (turn .i) (turn .inv .2) (rw (← turn .inv .0) (c .loop-test .left))
 
 pub index-spec : {M : Type 1} → statement M

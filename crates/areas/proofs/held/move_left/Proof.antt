@@ -20,28 +20,40 @@ loop-holds : tie.Need-loop-holds Inv-loop μ-loop
 loop-holds c = (refl, moving-first (c .args .bytes .now) (c .args .from) (c .pre .0) (c .pre .1))
 
 slice-read-bytes : tie.Need-slice-read-bytes Inv-loop μ-loop
-slice-read-bytes c = omega (arith, c .before .before .loop .inv .0, copying-length (c .before .before .loop .inv .1 .copying), c .before .loop-test .taken)
+slice-read-bytes c =
+    let loop = c .before .before in
+    omega (arith, loop .loop .inv .0, copying-length (loop .loop .inv .1 .copying), c .before .loop-test .taken)
 
 sub-bytes : tie.Need-sub-bytes Inv-loop μ-loop
-sub-bytes c = omega (arith, c .before .before .loop .inv .1 .some, c .before .before .loop .inv .1 .begun)
+sub-bytes c =
+    let loop = c .before .before in
+    omega (arith, loop .loop .inv .1 .some, loop .loop .inv .1 .begun)
 
 slice-write-bytes : tie.Need-slice-write-bytes Inv-loop μ-loop
-slice-write-bytes c = omega (arith, c .before .before .loop .inv .0, copying-length (c .before .before .loop .inv .1 .copying), c .before .loop-test .taken)
+slice-write-bytes c =
+    let loop = c .before .before in
+    omega (arith, loop .loop .inv .0, copying-length (loop .loop .inv .1 .copying), c .before .loop-test .taken)
 
 add-i : tie.Need-add-i Inv-loop μ-loop
-add-i c = omega (arith, c .before .before .loop .inv .0, copying-length (c .before .before .loop .inv .1 .copying), c .before .loop-test .taken)
+add-i c =
+    let loop = c .before .before in
+    omega (arith, loop .loop .inv .0, copying-length (loop .loop .inv .1 .copying), c .before .loop-test .taken)
 
 loop-less : tie.Need-loop-less Inv-loop μ-loop
 loop-less c = search needs
 
 loop-again : tie.Need-loop-again Inv-loop μ-loop
-loop-again c = (c .before .before .loop .inv .0, moving-next (c .before .before .loop .inv .1) (rw (← c .before .before .loop .inv .0) (c .before .loop-test .taken)))
+loop-again c =
+    let loop = c .before .before in
+    (loop .loop .inv .0, moving-next (loop .loop .inv .1) (rw (← loop .loop .inv .0) (c .before .loop-test .taken)))
 
 same-length : tie.Need-same-length Inv-loop μ-loop
 same-length c = copying-length (c .before .loop .inv .1 .copying)
 
 returns : tie.Need-returns Inv-loop μ-loop
-returns c = moving-last (c .before .loop .inv .1) (rw (← c .before .loop .inv .0) (c .loop-test .left))
+returns c =
+    let loop = c .before in
+    moving-last (loop .loop .inv .1) (rw (← loop .loop .inv .0) (c .loop-test .left))
 
 pub move-left-spec : {M : Type 1} → statement M
 move-left-spec =

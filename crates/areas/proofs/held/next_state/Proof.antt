@@ -12,7 +12,9 @@ inside : (c : tie.After-word2)
     → 2 + c .before .before .word .result + c .before .before .before .before .before .args .q * (c .word2 .result)
     + c .before .before .before .before .before .args .a
     < length (c .before .before .before .before .before .args .table .now)
-inside c = rw (c .word2 .ensures, c .before .before .word .ensures) (c .before .before .before .before .before .pre .1)
+inside c =
+    let start = c .before .before .before .before .before in
+    rw (c .word2 .ensures, c .before .before .word .ensures) (start .pre .1)
 
 shared-slice-read-word : tie.Need-shared-slice-read-word
 shared-slice-read-word c = search needs
@@ -48,7 +50,9 @@ word-requires-3 : tie.Need-word-requires-3
 word-requires-3 c κs = search needs
 
 returns : tie.Need-returns
-returns c = rw (c .word3 .ensures, c .before .before .word2 .ensures, c .before .before .before .before .word .ensures)
+returns c =
+    let word = c .before .before .before .before in
+    rw (c .word3 .ensures, c .before .before .word2 .ensures, word .word .ensures)
 
 pub next-state-spec : {M : Type 1} → statement M
 next-state-spec =

@@ -32,7 +32,9 @@ add-bytes-2 : tie.Need-add-bytes-2 Inv-loop μ-loop
 add-bytes-2 c = search needs
 
 slice-write-bytes : tie.Need-slice-write-bytes Inv-loop μ-loop
-slice-write-bytes c = omega (arith, c .before .before .loop .inv .room, copying-length (c .before .before .loop .inv), c .before .loop-test .taken)
+slice-write-bytes c =
+    let loop = c .before .before in
+    omega (arith, loop .loop .inv .room, copying-length (loop .loop .inv), c .before .loop-test .taken)
 
 add-k : tie.Need-add-k Inv-loop μ-loop
 add-k c = search needs
@@ -42,10 +44,11 @@ loop-less c = search needs
 
 loop-again : tie.Need-loop-again Inv-loop μ-loop
 loop-again c =
-    let start = c .before .before .before in
+    let loop = c .before .before in
+    let start = loop .before in
     rw add-one
-    (copying-next _ _ (c .before .before .loop .inv) (c .before .loop-test .taken) refl
-    (source-at (start .args .image .now) (start .args .start) (c .before .before .loop .k)))
+    (copying-next _ _ (loop .loop .inv) (c .before .loop-test .taken) refl
+    (source-at (start .args .image .now) (start .args .start) (loop .loop .k)))
 
 same-length : tie.Need-same-length Inv-loop μ-loop
 same-length c = copying-length (c .before .loop .inv)

@@ -13,7 +13,10 @@ clear-requires : tie.Need-clear-requires
 clear-requires c κs = search needs
 
 same-length : tie.Need-same-length
-same-length c = c .before .before .before .before .clear .kept .0 ∙ length-set (c .before .before .before .before .before .before .before .before .before .args .bytes .now) (c .before .before .before .before .before .before .before .before .before .args .first) 0
+same-length c =
+    let clear = c .before .before .before .before in
+    let start = clear .before .before .before .before .before in
+    clear .clear .kept .0 ∙ length-set (start .args .bytes .now) (start .args .first) 0
 
 same-length-2 : tie.Need-same-length-2
 same-length-2 c = search needs

@@ -31,7 +31,13 @@ same-length-2 c = search needs
 
 returns : tie.Need-returns
 unfolding refusedAs
-returns c = rw (c .batch-refused .ensures) (batch-lent-refused documentCapacity (c .before .before .before .before .before .before .before .before .before .before .before .args .image .now) (c .before .before .before .before .before .before .before .before .before .before .before .args .table .now) (given (c .before .before .before .before .before .before .before .before .before .before .before)) (c .before .before .before .before .before .before .before .before .before .before .before .args .events .now) (c .before .before .before .before .before .before .before .before .before .before .before .args .fuel) (c .before .before .before .before .before .before .before .before .before .before .before .args .answers .now) _ (lent-some documentCapacity (c .before .before .before .before .before .before .before .before .before .before .before .args .image .now) (c .before .before .before .before .before .before .before .before .before .before .before .args .table .now) (given (c .before .before .before .before .before .before .before .before .before .before .before)) (c .before .before .refusal .ensures) (c .before .if1 .taken)))
+returns c =
+    let start = c .before .before .before .before .before .before .before .before .before .before .before in
+    rw (c .batch-refused .ensures)
+    (batch-lent-refused documentCapacity (start .args .image .now) (start .args .table .now) (given start) (start .args .events .now) (start .args .fuel)
+    (start .args .answers .now) _
+    (lent-some documentCapacity (start .args .image .now) (start .args .table .now) (given start) (c .before .before .refusal .ensures)
+    (c .before .if1 .taken)))
 
 batch-refused-requires-2 : tie.Need-batch-refused-requires-2
 batch-refused-requires-2 c κs = search needs
@@ -44,7 +50,13 @@ same-length-4 c = search needs
 
 returns-2 : tie.Need-returns-2
 unfolding refusedAs
-returns-2 c = rw (c .batch-refused2 .ensures) (batch-fuel-refused documentCapacity (c .before .before .before .before .before .before .before .before .before .before .before .before .args .image .now) (c .before .before .before .before .before .before .before .before .before .before .before .before .args .table .now) (given (c .before .before .before .before .before .before .before .before .before .before .before .before)) (c .before .before .before .before .before .before .before .before .before .before .before .before .args .events .now) (c .before .before .before .before .before .before .before .before .before .before .before .before .args .fuel) (c .before .before .before .before .before .before .before .before .before .before .before .before .args .answers .now) (lent-none documentCapacity (c .before .before .before .before .before .before .before .before .before .before .before .before .args .image .now) (c .before .before .before .before .before .before .before .before .before .before .before .before .args .table .now) (given (c .before .before .before .before .before .before .before .before .before .before .before .before)) (c .before .before .before .refusal .ensures) (c .before .before .if1 .left)) (c .before .if2 .taken))
+returns-2 c =
+    let start = c .before .before .before .before .before .before .before .before .before .before .before .before in
+    rw (c .batch-refused2 .ensures)
+    (batch-fuel-refused documentCapacity (start .args .image .now) (start .args .table .now) (given start) (start .args .events .now) (start .args .fuel)
+    (start .args .answers .now)
+    (lent-none documentCapacity (start .args .image .now) (start .args .table .now) (given start) (c .before .before .before .refusal .ensures)
+    (c .before .before .if1 .left)) (c .before .if2 .taken))
 
 batch-refused-requires-3 : tie.Need-batch-refused-requires-3
 batch-refused-requires-3 c κs = search needs
@@ -57,7 +69,14 @@ same-length-6 c = search needs
 
 returns-3 : tie.Need-returns-3
 unfolding refusedAs
-returns-3 c = rw (c .batch-refused3 .ensures) (batch-many-refused documentCapacity (c .before .before .before .before .before .before .before .before .before .before .before .before .before .args .image .now) (c .before .before .before .before .before .before .before .before .before .before .before .before .before .args .table .now) (given (c .before .before .before .before .before .before .before .before .before .before .before .before .before)) (c .before .before .before .before .before .before .before .before .before .before .before .before .before .args .events .now) (c .before .before .before .before .before .before .before .before .before .before .before .before .before .args .fuel) (c .before .before .before .before .before .before .before .before .before .before .before .before .before .args .answers .now) (lent-none documentCapacity (c .before .before .before .before .before .before .before .before .before .before .before .before .before .args .image .now) (c .before .before .before .before .before .before .before .before .before .before .before .before .before .args .table .now) (given (c .before .before .before .before .before .before .before .before .before .before .before .before .before)) (c .before .before .before .before .refusal .ensures) (c .before .before .before .if1 .left)) (c .before .before .if2 .left) (c .before .if3 .taken))
+returns-3 c =
+    let refusal = c .before .before .before .before in
+    let start = refusal .before .before .before .before .before .before .before .before .before in
+    rw (c .batch-refused3 .ensures)
+    (batch-many-refused documentCapacity (start .args .image .now) (start .args .table .now) (given start) (start .args .events .now) (start .args .fuel)
+    (start .args .answers .now)
+    (lent-none documentCapacity (start .args .image .now) (start .args .table .now) (given start) (refusal .refusal .ensures)
+    (c .before .before .before .if1 .left)) (c .before .before .if2 .left) (c .before .if3 .taken))
 
 batch-refused-requires-4 : tie.Need-batch-refused-requires-4
 batch-refused-requires-4 c κs = search needs
@@ -70,19 +89,46 @@ same-length-8 c = search needs
 
 returns-4 : tie.Need-returns-4
 unfolding refusedAs
-returns-4 c = rw (c .batch-refused4 .ensures) (batch-room-refused documentCapacity (c .before .before .before .before .before .before .before .before .before .before .before .before .before .before .args .image .now) (c .before .before .before .before .before .before .before .before .before .before .before .before .before .before .args .table .now) (given (c .before .before .before .before .before .before .before .before .before .before .before .before .before .before)) (c .before .before .before .before .before .before .before .before .before .before .before .before .before .before .args .events .now) (c .before .before .before .before .before .before .before .before .before .before .before .before .before .before .args .fuel) (c .before .before .before .before .before .before .before .before .before .before .before .before .before .before .args .answers .now) (lent-none documentCapacity (c .before .before .before .before .before .before .before .before .before .before .before .before .before .before .args .image .now) (c .before .before .before .before .before .before .before .before .before .before .before .before .before .before .args .table .now) (given (c .before .before .before .before .before .before .before .before .before .before .before .before .before .before)) (c .before .before .before .before .before .refusal .ensures) (c .before .before .before .before .if1 .left)) (c .before .before .before .if2 .left) (c .before .before .if3 .left) (c .before .if4 .taken))
+returns-4 c =
+    let if1 = c .before .before .before .before in
+    let refusal = if1 .before in
+    let start = refusal .before .before .before .before .before .before .before .before .before in
+    rw (c .batch-refused4 .ensures)
+    (batch-room-refused documentCapacity (start .args .image .now) (start .args .table .now) (given start) (start .args .events .now) (start .args .fuel)
+    (start .args .answers .now)
+    (lent-none documentCapacity (start .args .image .now) (start .args .table .now) (given start) (refusal .refusal .ensures) (if1 .if1 .left))
+    (c .before .before .before .if2 .left) (c .before .before .if3 .left) (c .before .if4 .taken))
 
 slice-aggregate-index : tie.Need-slice-aggregate-index
 slice-aggregate-index c = search needs
 
 index-requires : tie.Need-index-requires
-index-requires c κs = passed-image documentCapacity (c .before .before .before .before .before .before .before .before .before .before .before .before .before .before .args .image .now) (c .before .before .before .before .before .before .before .before .before .before .before .before .before .before .args .table .now) (given (c .before .before .before .before .before .before .before .before .before .before .before .before .before .before)) (lent-none documentCapacity (c .before .before .before .before .before .before .before .before .before .before .before .before .before .before .args .image .now) (c .before .before .before .before .before .before .before .before .before .before .before .before .before .before .args .table .now) (given (c .before .before .before .before .before .before .before .before .before .before .before .before .before .before)) (c .before .before .before .before .before .refusal .ensures) (c .before .before .before .before .if1 .left))
+index-requires c κs =
+    let if1 = c .before .before .before .before in
+    let refusal = if1 .before in
+    let start = refusal .before .before .before .before .before .before .before .before .before in
+    passed-image documentCapacity (start .args .image .now) (start .args .table .now) (given start)
+    (lent-none documentCapacity (start .args .image .now) (start .args .table .now) (given start) (refusal .refusal .ensures) (if1 .if1 .left))
 
 slice-aggregate-in-turn : tie.Need-slice-aggregate-in-turn
 slice-aggregate-in-turn c = search needs
 
 in-turn-requires : tie.Need-in-turn-requires
-in-turn-requires c κs = (rw (passed-sizes documentCapacity (c .before .before .before .before .before .before .before .before .before .before .before .before .before .before .before .before .before .before .before .before .args .image .now) (c .before .before .before .before .before .before .before .before .before .before .before .before .before .before .before .before .before .before .before .before .args .table .now) (given (c .before .before .before .before .before .before .before .before .before .before .before .before .before .before .before .before .before .before .before .before)) (lent-none documentCapacity (c .before .before .before .before .before .before .before .before .before .before .before .before .before .before .before .before .before .before .before .before .args .image .now) (c .before .before .before .before .before .before .before .before .before .before .before .before .before .before .before .before .before .before .before .before .args .table .now) (given (c .before .before .before .before .before .before .before .before .before .before .before .before .before .before .before .before .before .before .before .before)) (c .before .before .before .before .before .before .before .before .before .before .before .refusal .ensures) (c .before .before .before .before .before .before .before .before .before .before .if1 .left)) .0) (lent-none documentCapacity (c .before .before .before .before .before .before .before .before .before .before .before .before .before .before .before .before .before .before .before .before .args .image .now) (c .before .before .before .before .before .before .before .before .before .before .before .before .before .before .before .before .before .before .before .before .args .table .now) (given (c .before .before .before .before .before .before .before .before .before .before .before .before .before .before .before .before .before .before .before .before)) (c .before .before .before .before .before .before .before .before .before .before .before .refusal .ensures) (c .before .before .before .before .before .before .before .before .before .before .if1 .left)), (c .before .before .before .before .before .index .ensures, (c .before .before .before .before .before .before .before .before .if3 .left, c .before .before .before .before .before .before .before .if4 .left)))
+in-turn-requires c κs =
+    let index = c .before .before .before .before .before in
+    let if4 = index .before .before in
+    let if3 = if4 .before in
+    let if1 = if3 .before .before in
+    let refusal = if1 .before in
+    let start = refusal .before .before .before .before .before .before .before .before .before in
+    let image = start .args .image .now in
+    let table = start .args .table .now in (
+      rw
+          (passed-sizes documentCapacity image table (given start)
+          (lent-none documentCapacity image table (given start) (refusal .refusal .ensures) (if1 .if1 .left)) .0)
+          (lent-none documentCapacity image table (given start) (refusal .refusal .ensures) (if1 .if1 .left)),
+      (index .index .ensures, (if3 .if3 .left, if4 .if4 .left)),
+    )
 
 same-length-9 : tie.Need-same-length-9
 same-length-9 c = search needs
@@ -95,7 +141,21 @@ same-length-11 c = search needs
 
 returns-5 : tie.Need-returns-5
 unfolding offers offersOf callWith
-returns-5 c = rw (passed-sizes documentCapacity (c .before .before .before .before .before .before .before .before .before .before .before .before .before .before .before .before .before .before .before .before .before .before .before .before .before .before .before .args .image .now) (c .before .before .before .before .before .before .before .before .before .before .before .before .before .before .before .before .before .before .before .before .before .before .before .before .before .before .before .args .table .now) (given (c .before .before .before .before .before .before .before .before .before .before .before .before .before .before .before .before .before .before .before .before .before .before .before .before .before .before .before)) (lent-none documentCapacity (c .before .before .before .before .before .before .before .before .before .before .before .before .before .before .before .before .before .before .before .before .before .before .before .before .before .before .before .args .image .now) (c .before .before .before .before .before .before .before .before .before .before .before .before .before .before .before .before .before .before .before .before .before .before .before .before .before .before .before .args .table .now) (given (c .before .before .before .before .before .before .before .before .before .before .before .before .before .before .before .before .before .before .before .before .before .before .before .before .before .before .before)) (c .before .before .before .before .before .before .before .before .before .before .before .before .before .before .before .before .before .before .refusal .ensures) (c .before .before .before .before .before .before .before .before .before .before .before .before .before .before .before .before .before .if1 .left)) .0) at (c .before .before .before .before .before .before .in-turn .ensures) ∙ batch-taken documentCapacity (c .before .before .before .before .before .before .before .before .before .before .before .before .before .before .before .before .before .before .before .before .before .before .before .before .before .before .before .args .image .now) (c .before .before .before .before .before .before .before .before .before .before .before .before .before .before .before .before .before .before .before .before .before .before .before .before .before .before .before .args .table .now) (given (c .before .before .before .before .before .before .before .before .before .before .before .before .before .before .before .before .before .before .before .before .before .before .before .before .before .before .before)) (c .before .before .before .before .before .before .before .before .before .before .before .before .before .before .before .before .before .before .before .before .before .before .before .before .before .before .before .args .events .now) (c .before .before .before .before .before .before .before .before .before .before .before .before .before .before .before .before .before .before .before .before .before .before .before .before .before .before .before .args .fuel) (c .before .before .before .before .before .before .before .before .before .before .before .before .before .before .before .before .before .before .before .before .before .before .before .before .before .before .before .args .answers .now) (lent-none documentCapacity (c .before .before .before .before .before .before .before .before .before .before .before .before .before .before .before .before .before .before .before .before .before .before .before .before .before .before .before .args .image .now) (c .before .before .before .before .before .before .before .before .before .before .before .before .before .before .before .before .before .before .before .before .before .before .before .before .before .before .before .args .table .now) (given (c .before .before .before .before .before .before .before .before .before .before .before .before .before .before .before .before .before .before .before .before .before .before .before .before .before .before .before)) (c .before .before .before .before .before .before .before .before .before .before .before .before .before .before .before .before .before .before .refusal .ensures) (c .before .before .before .before .before .before .before .before .before .before .before .before .before .before .before .before .before .if1 .left)) (c .before .before .before .before .before .before .before .before .before .before .before .before .before .before .before .before .if2 .left) (c .before .before .before .before .before .before .before .before .before .before .before .before .before .before .before .if3 .left) (c .before .before .before .before .before .before .before .before .before .before .before .before .before .before .if4 .left)
+returns-5 c =
+    let in-turn = c .before .before .before .before .before .before in
+    let if4 = in-turn .before .before .before .before .before .before .before .before in
+    let if3 = if4 .before in
+    let if2 = if3 .before in
+    let if1 = if2 .before in
+    let refusal = if1 .before in
+    let start = refusal .before .before .before .before .before .before .before .before .before in
+    let image = start .args .image .now in
+    let table = start .args .table .now in
+    rw
+    (passed-sizes documentCapacity image table (given start)
+    (lent-none documentCapacity image table (given start) (refusal .refusal .ensures) (if1 .if1 .left)) .0) at (in-turn .in-turn .ensures) ∙ batch-taken
+    documentCapacity image table (given start) (start .args .events .now) (start .args .fuel) (start .args .answers .now)
+    (lent-none documentCapacity image table (given start) (refusal .refusal .ensures) (if1 .if1 .left)) (if2 .if2 .left) (if3 .if3 .left) (if4 .if4 .left)
 
 pub batch-spec : {M : Type 1} → statement M
 batch-spec =

@@ -15,29 +15,69 @@ use Rattle.machine.proofs.Stepping.{passed-valid, passed-table}
 use Rattle.machine.proofs.TableWords.{table-header, states-in}
 use Rattle.layout.proofs.Image.{valid-in-range}
 use Rattle.layout.proofs.States.{few-states}
-use Rattle.machine.proofs.Offering.{Offering, offering-first, offering-passed, offering-number, offering-sums, offering-next, offering-refused, offering-all, call-at, fuel-with, calls-length}
+use Rattle.machine.proofs.Offering.{
+  Offering,
+  offering-first,
+  offering-passed,
+  offering-number,
+  offering-sums,
+  offering-next,
+  offering-refused,
+  offering-all,
+  call-at,
+  fuel-with,
+  calls-length,
+}
 use Rattle.monitor.proofs.Head.in_turn.Statement.{statement}
 use Rattle.monitor.proofs.Head.in_turn.Tie as tie
 
 abbrev Inv-loop : tie.InvT-loop
-Inv-loop image table starts bytes₀ words₀ offering events fuel answers₀ rows width head₀ steps₀ rewrites₀ put₀ k₀ k-end bytes words answers head steps rewrites put k =
+Inv-loop image table starts bytes₀ words₀ offering events fuel answers₀ rows width head₀ steps₀ rewrites₀ put₀ k₀ k-end bytes words answers head steps rewrites
+    put k =
     Offering (length bytes₀) image table (lent head₀ bytes₀ words₀) (callsWith offering events fuel) answers₀ (lent head bytes words) answers
     (record { steps = steps; rewrites = rewrites; put = put }) k
 
 abbrev μ-loop : tie.MeasureT-loop
-μ-loop image table starts bytes₀ words₀ offering events fuel answers₀ rows width head₀ steps₀ rewrites₀ put₀ k₀ k-end bytes words answers head steps rewrites put k = length events - k
+μ-loop image table starts bytes₀ words₀ offering events fuel answers₀ rows width head₀ steps₀ rewrites₀ put₀ k₀ k-end bytes words answers head steps rewrites
+    put k =
+    length events - k
 
 shared-slice-read-word : tie.Need-shared-slice-read-word Inv-loop μ-loop
-shared-slice-read-word c = omega (arith, table-header (read (c .before .before .before .before .before .before .before .before .args .image .now)) (c .before .before .before .before .before .before .before .before .args .table .now) (passed-table (length (c .before .before .before .before .before .before .before .before .args .bytes .now)) (c .before .before .before .before .before .before .before .before .args .image .now) (c .before .before .before .before .before .before .before .before .args .table .now) (lent (c .before .before .before .before .before .before .before .before .args .self) (c .before .before .before .before .before .before .before .before .args .bytes .now) (c .before .before .before .before .before .before .before .before .args .words .now)) (c .before .before .before .before .before .before .before .before .pre .0)))
+shared-slice-read-word c =
+    let start = c .before .before .before .before .before .before .before .before in
+    omega (
+      arith,
+      table-header (read (start .args .image .now)) (start .args .table .now)
+          (passed-table (length (start .args .bytes .now)) (start .args .image .now) (start .args .table .now)
+          (lent (start .args .self) (start .args .bytes .now) (start .args .words .now)) (start .pre .0)),
+    )
 
 word-requires : tie.Need-word-requires Inv-loop μ-loop
 word-requires c κs = search needs
 
 add-rows : tie.Need-add-rows Inv-loop μ-loop
-add-rows c = omega (arith, c .word .ensures, states-in (read (c .before .before .before .before .before .before .before .before .before .args .image .now)) (c .before .before .before .before .before .before .before .before .before .args .table .now) (passed-table (length (c .before .before .before .before .before .before .before .before .before .args .bytes .now)) (c .before .before .before .before .before .before .before .before .before .args .image .now) (c .before .before .before .before .before .before .before .before .before .args .table .now) (lent (c .before .before .before .before .before .before .before .before .before .args .self) (c .before .before .before .before .before .before .before .before .before .args .bytes .now) (c .before .before .before .before .before .before .before .before .before .args .words .now)) (c .before .before .before .before .before .before .before .before .before .pre .0)), few-states (read (c .before .before .before .before .before .before .before .before .before .args .image .now)) (valid-in-range (c .before .before .before .before .before .before .before .before .before .args .image .now) (passed-valid (length (c .before .before .before .before .before .before .before .before .before .args .bytes .now)) (c .before .before .before .before .before .before .before .before .before .args .image .now) (c .before .before .before .before .before .before .before .before .before .args .table .now) (lent (c .before .before .before .before .before .before .before .before .before .args .self) (c .before .before .before .before .before .before .before .before .before .args .bytes .now) (c .before .before .before .before .before .before .before .before .before .args .words .now)) (c .before .before .before .before .before .before .before .before .before .pre .0))))
+add-rows c =
+    let start = c .before .before .before .before .before .before .before .before .before in
+    let bytes = start .args .bytes .now in
+    let image = start .args .image .now in
+    let table = start .args .table .now in
+    omega (
+      arith,
+      c .word .ensures,
+      states-in (read image) table (passed-table (length bytes) image table (lent (start .args .self) bytes (start .args .words .now)) (start .pre .0)),
+      few-states (read image)
+          (valid-in-range image (passed-valid (length bytes) image table (lent (start .args .self) bytes (start .args .words .now)) (start .pre .0))),
+    )
 
 shared-slice-read-word-2 : tie.Need-shared-slice-read-word-2 Inv-loop μ-loop
-shared-slice-read-word-2 c = omega (arith, table-header (read (c .before .before .before .before .before .before .before .before .before .before .args .image .now)) (c .before .before .before .before .before .before .before .before .before .before .args .table .now) (passed-table (length (c .before .before .before .before .before .before .before .before .before .before .args .bytes .now)) (c .before .before .before .before .before .before .before .before .before .before .args .image .now) (c .before .before .before .before .before .before .before .before .before .before .args .table .now) (lent (c .before .before .before .before .before .before .before .before .before .before .args .self) (c .before .before .before .before .before .before .before .before .before .before .args .bytes .now) (c .before .before .before .before .before .before .before .before .before .before .args .words .now)) (c .before .before .before .before .before .before .before .before .before .before .pre .0)))
+shared-slice-read-word-2 c =
+    let start = c .before .before .before .before .before .before .before .before .before .before in
+    omega (
+      arith,
+      table-header (read (start .args .image .now)) (start .args .table .now)
+          (passed-table (length (start .args .bytes .now)) (start .args .image .now) (start .args .table .now)
+          (lent (start .args .self) (start .args .bytes .now) (start .args .words .now)) (start .pre .0)),
+    )
 
 word-requires-2 : tie.Need-word-requires-2 Inv-loop μ-loop
 word-requires-2 c κs = search needs
@@ -47,13 +87,20 @@ anew-requires c κs = search needs
 
 loop-holds : tie.Need-loop-holds Inv-loop μ-loop
 unfolding noCounts
-loop-holds c = offering-first _ _ _ _ (callsWith (c .before .before .before .before .before .before .before .before .before .before .before .before .args .offering) (c .before .before .before .before .before .before .before .before .before .before .before .before .args .events .now) (c .before .before .before .before .before .before .before .before .before .before .before .before .args .fuel)) _ (rw (c .anew .ensures) (c .before .before .before .before .before .before .before .before .before .before .before .before .pre .0))
+loop-holds c =
+    let start = c .before .before .before .before .before .before .before .before .before .before .before .before in
+    offering-first _ _ _ _ (callsWith (start .args .offering) (start .args .events .now) (start .args .fuel)) _ (rw (c .anew .ensures) (start .pre .0))
 
 shared-slice-read-called : tie.Need-shared-slice-read-called Inv-loop μ-loop
 shared-slice-read-called c = c .before .before .before .loop-test .taken
 
 called-requires : tie.Need-called-requires Inv-loop μ-loop
-called-requires c κs = (offering-passed (c .before .before .before .before .loop .inv), (c .before .before .before .before .before .before .before .before .before .before .before .before .before .before .before .before .before .pre .1 .0, (ap (λ (x : ℕ). 2 + x) (c .before .before .before .before .before .before .before .before .word .ensures), c .before .before .before .before .before .before .word2 .ensures)))
+called-requires c κs =
+    let loop = c .before .before .before .before in
+    let word2 = loop .before .before in
+    let word = word2 .before .before in
+    let start = word .before .before .before .before .before .before .before .before .before in
+    (offering-passed (loop .loop .inv), (start .pre .1 .0, (ap (λ (x : ℕ). 2 + x) (word .word .ensures), word2 .word2 .ensures)))
 
 enum-known-answer : tie.Need-enum-known-answer Inv-loop μ-loop
 enum-known-answer c = search needs
@@ -62,45 +109,150 @@ stopped-requires : tie.Need-stopped-requires Inv-loop μ-loop
 stopped-requires c κs = search needs
 
 same-length : tie.Need-same-length Inv-loop μ-loop
-same-length c = c .before .before .before .before .before .before .before .before .called .kept .1 .1 .1 .1 .1 .1 .0 ∙ c .before .before .before .before .before .before .before .before .before .before .before .before .before .loop .inv .bytes
+same-length c =
+    let called = c .before .before .before .before .before .before .before .before in
+    let loop = called .before .before .before .before .before in
+    called .called .kept .1 .1 .1 .1 .1 .1 .0 ∙ loop .loop .inv .bytes
 
 same-length-2 : tie.Need-same-length-2 Inv-loop μ-loop
-same-length-2 c = c .before .before .before .before .before .before .before .before .called .kept .1 .1 .1 .1 .1 .1 .1 .0 ∙ c .before .before .before .before .before .before .before .before .before .before .before .before .before .loop .inv .words
+same-length-2 c =
+    let called = c .before .before .before .before .before .before .before .before in
+    let loop = called .before .before .before .before .before in
+    called .called .kept .1 .1 .1 .1 .1 .1 .1 .0 ∙ loop .loop .inv .words
 
 same-length-3 : tie.Need-same-length-3 Inv-loop μ-loop
-same-length-3 c = c .before .before .before .before .before .before .before .before .before .before .before .before .before .loop .inv .size
+same-length-3 c =
+    let loop = c .before .before .before .before .before .before .before .before .before .before .before .before .before in
+    loop .loop .inv .size
 
 returns : tie.Need-returns Inv-loop μ-loop
 unfolding refusedAs
-returns c = rw (c .stopped .ensures, ← c .before .before .before .before .before .before .before .before .before .before .before .before .before .before .anew .ensures) (offering-refused (c .before .before .before .before .before .before .before .before .before .before .before .before .before .loop .inv) (rw (calls-length (c .before .before .before .before .before .before .before .before .before .before .before .before .before .before .before .before .before .before .before .before .before .before .before .before .before .before .args .offering) (c .before .before .before .before .before .before .before .before .before .before .before .before .before .before .before .before .before .before .before .before .before .before .before .before .before .before .args .events .now) (c .before .before .before .before .before .before .before .before .before .before .before .before .before .before .before .before .before .before .before .before .before .before .before .before .before .before .args .fuel)) (c .before .before .before .before .before .before .before .before .before .before .before .before .before .before .before .before .before .before .before .before .before .before .before .before .before .before .pre .1 .1 .1)) {o = (outcomeFrom (c .before .before .before .before .before .before .before .before .called .result) (c .before .before .before .before .before .before .before .before .called .last .1 .1 .1 .1 .1 .1 .0) (c .before .before .before .before .before .before .before .before .called .last .1 .1 .1 .1 .1 .1 .1 .0))} (rw (calls-length (c .before .before .before .before .before .before .before .before .before .before .before .before .before .before .before .before .before .before .before .before .before .before .before .before .before .before .args .offering) (c .before .before .before .before .before .before .before .before .before .before .before .before .before .before .before .before .before .before .before .before .before .before .before .before .before .before .args .events .now) (c .before .before .before .before .before .before .before .before .before .before .before .before .before .before .before .before .before .before .before .before .before .before .before .before .before .before .args .fuel)) (c .before .before .before .before .before .before .before .before .before .before .before .before .loop-test .taken)) (rw (call-at (c .before .before .before .before .before .before .before .before .before .before .before .before .before .before .before .before .before .before .before .before .before .before .before .before .before .before .args .offering) (c .before .before .before .before .before .before .before .before .before .before .before .before .before .before .before .before .before .before .before .before .before .before .before .before .before .before .args .events .now) (c .before .before .before .before .before .before .before .before .before .before .before .before .before .before .before .before .before .before .before .before .before .before .before .before .before .before .args .fuel) (c .before .before .before .before .before .before .before .before .before .before .before .before .before .loop .k) (c .before .before .before .before .before .before .before .before .before .before .before .before .loop-test .taken)) (c .before .before .before .before .before .before .before .before .called .ensures)) _ (c .before .before .answer .given .1))
+returns c =
+    let called = c .before .before .before .before .before .before .before .before in
+    let loop-test = called .before .before .before .before in
+    let loop = loop-test .before in
+    let anew = loop .before in
+    let start = anew .before .before .before .before .before .before .before .before .before .before .before .before in
+    let events = start .args .events .now in
+    let fuel = start .args .fuel in
+    let offering = start .args .offering in
+    rw (c .stopped .ensures, ← anew .anew .ensures)
+    (offering-refused (loop .loop .inv) (rw (calls-length offering events fuel) (start .pre .1 .1 .1))
+    {o = (outcomeFrom (called .called .result) (called .called .last .1 .1 .1 .1 .1 .1 .0) (called .called .last .1 .1 .1 .1 .1 .1 .1 .0))}
+    (rw (calls-length offering events fuel) (loop-test .loop-test .taken))
+    (rw (call-at offering events fuel (loop .loop .k) (loop-test .loop-test .taken)) (called .called .ensures)) _ (c .before .before .answer .given .1))
 
 answer-byte-requires : tie.Need-answer-byte-requires Inv-loop μ-loop
-answer-byte-requires c κs = offering-number (c .before .before .before .before .before .before .before .before .before .before .loop .inv) (rw (calls-length (c .before .before .before .before .before .before .before .before .before .before .before .before .before .before .before .before .before .before .before .before .before .before .before .args .offering) (c .before .before .before .before .before .before .before .before .before .before .before .before .before .before .before .before .before .before .before .before .before .before .before .args .events .now) (c .before .before .before .before .before .before .before .before .before .before .before .before .before .before .before .before .before .before .before .before .before .before .before .args .fuel)) (c .before .before .before .before .before .before .before .before .before .before .before .before .before .before .before .before .before .before .before .before .before .before .before .pre .1 .1 .1)) {o = (outcomeFrom (c .before .before .before .before .before .called .result) (c .before .before .before .before .before .called .last .1 .1 .1 .1 .1 .1 .0) (c .before .before .before .before .before .called .last .1 .1 .1 .1 .1 .1 .1 .0))} (rw (calls-length (c .before .before .before .before .before .before .before .before .before .before .before .before .before .before .before .before .before .before .before .before .before .before .before .args .offering) (c .before .before .before .before .before .before .before .before .before .before .before .before .before .before .before .before .before .before .before .before .before .before .before .args .events .now) (c .before .before .before .before .before .before .before .before .before .before .before .before .before .before .before .before .before .before .before .before .before .before .before .args .fuel)) (c .before .before .before .before .before .before .before .before .before .loop-test .taken)) (rw (call-at (c .before .before .before .before .before .before .before .before .before .before .before .before .before .before .before .before .before .before .before .before .before .before .before .args .offering) (c .before .before .before .before .before .before .before .before .before .before .before .before .before .before .before .before .before .before .before .before .before .before .before .args .events .now) (c .before .before .before .before .before .before .before .before .before .before .before .before .before .before .before .before .before .before .before .before .before .before .before .args .fuel) (c .before .before .before .before .before .before .before .before .before .before .loop .k) (c .before .before .before .before .before .before .before .before .before .loop-test .taken)) (c .before .before .before .before .before .called .ensures))
+answer-byte-requires c κs =
+    let called = c .before .before .before .before .before in
+    let loop-test = called .before .before .before .before in
+    let loop = loop-test .before in
+    let start = loop .before .before .before .before .before .before .before .before .before .before .before .before .before in
+    let events = start .args .events .now in
+    let fuel = start .args .fuel in
+    let offering = start .args .offering in
+    offering-number (loop .loop .inv) (rw (calls-length offering events fuel) (start .pre .1 .1 .1))
+    {o = (outcomeFrom (called .called .result) (called .called .last .1 .1 .1 .1 .1 .1 .0) (called .called .last .1 .1 .1 .1 .1 .1 .1 .0))}
+    (rw (calls-length offering events fuel) (loop-test .loop-test .taken))
+    (rw (call-at offering events fuel (loop .loop .k) (loop-test .loop-test .taken)) (called .called .ensures))
 
 slice-write-answers : tie.Need-slice-write-answers Inv-loop μ-loop
-slice-write-answers c = omega (arith, c .before .before .before .before .before .before .before .before .before .before .loop-test .taken, c .before .before .before .before .before .before .before .before .before .before .before .loop .inv .size, c .before .before .before .before .before .before .before .before .before .before .before .before .before .before .before .before .before .before .before .before .before .before .before .before .pre .1 .1 .1)
+slice-write-answers c =
+    let loop-test = c .before .before .before .before .before .before .before .before .before .before in
+    let loop = loop-test .before in
+    let start = loop .before .before .before .before .before .before .before .before .before .before .before .before .before in
+    omega (arith, loop-test .loop-test .taken, loop .loop .inv .size, start .pre .1 .1 .1)
 
 anew-requires-2 : tie.Need-anew-requires-2 Inv-loop μ-loop
 anew-requires-2 c κs = search needs
 
 add-steps : tie.Need-add-steps Inv-loop μ-loop
-add-steps c = omega (arith, offering-sums (c .before .before .before .before .before .before .before .before .before .before .before .before .before .before .loop .inv) (rw (calls-length (c .before .before .before .before .before .before .before .before .before .before .before .before .before .before .before .before .before .before .before .before .before .before .before .before .before .before .before .args .offering) (c .before .before .before .before .before .before .before .before .before .before .before .before .before .before .before .before .before .before .before .before .before .before .before .before .before .before .before .args .events .now) (c .before .before .before .before .before .before .before .before .before .before .before .before .before .before .before .before .before .before .before .before .before .before .before .before .before .before .before .args .fuel)) (c .before .before .before .before .before .before .before .before .before .before .before .before .before .before .before .before .before .before .before .before .before .before .before .before .before .before .before .pre .1 .1 .1)) {o = (outcomeFrom (c .before .before .before .before .before .before .before .before .before .called .result) (c .before .before .before .before .before .before .before .before .before .called .last .1 .1 .1 .1 .1 .1 .0) (c .before .before .before .before .before .before .before .before .before .called .last .1 .1 .1 .1 .1 .1 .1 .0))} (rw (calls-length (c .before .before .before .before .before .before .before .before .before .before .before .before .before .before .before .before .before .before .before .before .before .before .before .before .before .before .before .args .offering) (c .before .before .before .before .before .before .before .before .before .before .before .before .before .before .before .before .before .before .before .before .before .before .before .before .before .before .before .args .events .now) (c .before .before .before .before .before .before .before .before .before .before .before .before .before .before .before .before .before .before .before .before .before .before .before .before .before .before .before .args .fuel)) (c .before .before .before .before .before .before .before .before .before .before .before .before .before .loop-test .taken)) (rw (call-at (c .before .before .before .before .before .before .before .before .before .before .before .before .before .before .before .before .before .before .before .before .before .before .before .before .before .before .before .args .offering) (c .before .before .before .before .before .before .before .before .before .before .before .before .before .before .before .before .before .before .before .before .before .before .before .before .before .before .before .args .events .now) (c .before .before .before .before .before .before .before .before .before .before .before .before .before .before .before .before .before .before .before .before .before .before .before .before .before .before .before .args .fuel) (c .before .before .before .before .before .before .before .before .before .before .before .before .before .before .loop .k) (c .before .before .before .before .before .before .before .before .before .before .before .before .before .loop-test .taken)) (c .before .before .before .before .before .before .before .before .before .called .ensures)) (rw ((call-at (c .before .before .before .before .before .before .before .before .before .before .before .before .before .before .before .before .before .before .before .before .before .before .before .before .before .before .before .args .offering) (c .before .before .before .before .before .before .before .before .before .before .before .before .before .before .before .before .before .before .before .before .before .before .before .before .before .before .before .args .events .now) (c .before .before .before .before .before .before .before .before .before .before .before .before .before .before .before .before .before .before .before .before .before .before .before .before .before .before .before .args .fuel) (c .before .before .before .before .before .before .before .before .before .before .before .before .before .before .loop .k) (c .before .before .before .before .before .before .before .before .before .before .before .before .before .loop-test .taken)), fuel-with (c .before .before .before .before .before .before .before .before .before .before .before .before .before .before .before .before .before .before .before .before .before .before .before .before .before .before .before .args .offering) (getD (c .before .before .before .before .before .before .before .before .before .before .before .before .before .before .before .before .before .before .before .before .before .before .before .before .before .before .before .args .events .now) (c .before .before .before .before .before .before .before .before .before .before .before .before .before .before .loop .k) 0) (c .before .before .before .before .before .before .before .before .before .before .before .before .before .before .before .before .before .before .before .before .before .before .before .before .before .before .before .args .fuel)) (omega (arith, c .before .before .before .before .before .before .before .before .before .before .before .before .before .before .before .before .before .before .before .before .before .before .before .before .before .before .before .fits .fuel))) (rw (calls-length (c .before .before .before .before .before .before .before .before .before .before .before .before .before .before .before .before .before .before .before .before .before .before .before .before .before .before .before .args .offering) (c .before .before .before .before .before .before .before .before .before .before .before .before .before .before .before .before .before .before .before .before .before .before .before .before .before .before .before .args .events .now) (c .before .before .before .before .before .before .before .before .before .before .before .before .before .before .before .before .before .before .before .before .before .before .before .before .before .before .before .args .fuel)) (c .before .before .before .before .before .before .before .before .before .before .before .before .before .before .before .before .before .before .before .before .before .before .before .before .before .before .before .pre .1 .1 .0)) .steps)
+add-steps c =
+    let called = c .before .before .before .before .before .before .before .before .before in
+    let loop-test = called .before .before .before .before in
+    let loop = loop-test .before in
+    let start = loop .before .before .before .before .before .before .before .before .before .before .before .before .before in
+    let events = start .args .events .now in
+    let fuel = start .args .fuel in
+    let offering = start .args .offering in
+    omega (
+      arith,
+      offering-sums (loop .loop .inv) (rw (calls-length offering events fuel) (start .pre .1 .1 .1))
+          {o = (outcomeFrom (called .called .result) (called .called .last .1 .1 .1 .1 .1 .1 .0) (called .called .last .1 .1 .1 .1 .1 .1 .1 .0))}
+          (rw (calls-length offering events fuel) (loop-test .loop-test .taken))
+          (rw (call-at offering events fuel (loop .loop .k) (loop-test .loop-test .taken)) (called .called .ensures))
+          (rw ((call-at offering events fuel (loop .loop .k) (loop-test .loop-test .taken)), fuel-with offering (getD events (loop .loop .k) 0) fuel)
+          (omega (arith, start .fits .fuel))) (rw (calls-length offering events fuel) (start .pre .1 .1 .0)) .steps,
+    )
 
 add-rewrites : tie.Need-add-rewrites Inv-loop μ-loop
-add-rewrites c = omega (arith, offering-sums (c .before .before .before .before .before .before .before .before .before .before .before .before .before .before .before .loop .inv) (rw (calls-length (c .before .before .before .before .before .before .before .before .before .before .before .before .before .before .before .before .before .before .before .before .before .before .before .before .before .before .before .before .args .offering) (c .before .before .before .before .before .before .before .before .before .before .before .before .before .before .before .before .before .before .before .before .before .before .before .before .before .before .before .before .args .events .now) (c .before .before .before .before .before .before .before .before .before .before .before .before .before .before .before .before .before .before .before .before .before .before .before .before .before .before .before .before .args .fuel)) (c .before .before .before .before .before .before .before .before .before .before .before .before .before .before .before .before .before .before .before .before .before .before .before .before .before .before .before .before .pre .1 .1 .1)) {o = (outcomeFrom (c .before .before .before .before .before .before .before .before .before .before .called .result) (c .before .before .before .before .before .before .before .before .before .before .called .last .1 .1 .1 .1 .1 .1 .0) (c .before .before .before .before .before .before .before .before .before .before .called .last .1 .1 .1 .1 .1 .1 .1 .0))} (rw (calls-length (c .before .before .before .before .before .before .before .before .before .before .before .before .before .before .before .before .before .before .before .before .before .before .before .before .before .before .before .before .args .offering) (c .before .before .before .before .before .before .before .before .before .before .before .before .before .before .before .before .before .before .before .before .before .before .before .before .before .before .before .before .args .events .now) (c .before .before .before .before .before .before .before .before .before .before .before .before .before .before .before .before .before .before .before .before .before .before .before .before .before .before .before .before .args .fuel)) (c .before .before .before .before .before .before .before .before .before .before .before .before .before .before .loop-test .taken)) (rw (call-at (c .before .before .before .before .before .before .before .before .before .before .before .before .before .before .before .before .before .before .before .before .before .before .before .before .before .before .before .before .args .offering) (c .before .before .before .before .before .before .before .before .before .before .before .before .before .before .before .before .before .before .before .before .before .before .before .before .before .before .before .before .args .events .now) (c .before .before .before .before .before .before .before .before .before .before .before .before .before .before .before .before .before .before .before .before .before .before .before .before .before .before .before .before .args .fuel) (c .before .before .before .before .before .before .before .before .before .before .before .before .before .before .before .loop .k) (c .before .before .before .before .before .before .before .before .before .before .before .before .before .before .loop-test .taken)) (c .before .before .before .before .before .before .before .before .before .before .called .ensures)) (rw ((call-at (c .before .before .before .before .before .before .before .before .before .before .before .before .before .before .before .before .before .before .before .before .before .before .before .before .before .before .before .before .args .offering) (c .before .before .before .before .before .before .before .before .before .before .before .before .before .before .before .before .before .before .before .before .before .before .before .before .before .before .before .before .args .events .now) (c .before .before .before .before .before .before .before .before .before .before .before .before .before .before .before .before .before .before .before .before .before .before .before .before .before .before .before .before .args .fuel) (c .before .before .before .before .before .before .before .before .before .before .before .before .before .before .before .loop .k) (c .before .before .before .before .before .before .before .before .before .before .before .before .before .before .loop-test .taken)), fuel-with (c .before .before .before .before .before .before .before .before .before .before .before .before .before .before .before .before .before .before .before .before .before .before .before .before .before .before .before .before .args .offering) (getD (c .before .before .before .before .before .before .before .before .before .before .before .before .before .before .before .before .before .before .before .before .before .before .before .before .before .before .before .before .args .events .now) (c .before .before .before .before .before .before .before .before .before .before .before .before .before .before .before .loop .k) 0) (c .before .before .before .before .before .before .before .before .before .before .before .before .before .before .before .before .before .before .before .before .before .before .before .before .before .before .before .before .args .fuel)) (omega (arith, c .before .before .before .before .before .before .before .before .before .before .before .before .before .before .before .before .before .before .before .before .before .before .before .before .before .before .before .before .fits .fuel))) (rw (calls-length (c .before .before .before .before .before .before .before .before .before .before .before .before .before .before .before .before .before .before .before .before .before .before .before .before .before .before .before .before .args .offering) (c .before .before .before .before .before .before .before .before .before .before .before .before .before .before .before .before .before .before .before .before .before .before .before .before .before .before .before .before .args .events .now) (c .before .before .before .before .before .before .before .before .before .before .before .before .before .before .before .before .before .before .before .before .before .before .before .before .before .before .before .before .args .fuel)) (c .before .before .before .before .before .before .before .before .before .before .before .before .before .before .before .before .before .before .before .before .before .before .before .before .before .before .before .before .pre .1 .1 .0)) .rewrites)
+add-rewrites c =
+    let called = c .before .before .before .before .before .before .before .before .before .before in
+    let loop-test = called .before .before .before .before in
+    let loop = loop-test .before in
+    let start = loop .before .before .before .before .before .before .before .before .before .before .before .before .before in
+    let events = start .args .events .now in
+    let fuel = start .args .fuel in
+    let offering = start .args .offering in
+    omega (
+      arith,
+      offering-sums (loop .loop .inv) (rw (calls-length offering events fuel) (start .pre .1 .1 .1))
+          {o = (outcomeFrom (called .called .result) (called .called .last .1 .1 .1 .1 .1 .1 .0) (called .called .last .1 .1 .1 .1 .1 .1 .1 .0))}
+          (rw (calls-length offering events fuel) (loop-test .loop-test .taken))
+          (rw (call-at offering events fuel (loop .loop .k) (loop-test .loop-test .taken)) (called .called .ensures))
+          (rw ((call-at offering events fuel (loop .loop .k) (loop-test .loop-test .taken)), fuel-with offering (getD events (loop .loop .k) 0) fuel)
+          (omega (arith, start .fits .fuel))) (rw (calls-length offering events fuel) (start .pre .1 .1 .0)) .rewrites,
+    )
 
 add-put : tie.Need-add-put Inv-loop μ-loop
-add-put c = omega (arith, offering-sums (c .before .before .before .before .before .before .before .before .before .before .before .before .before .before .before .before .loop .inv) (rw (calls-length (c .before .before .before .before .before .before .before .before .before .before .before .before .before .before .before .before .before .before .before .before .before .before .before .before .before .before .before .before .before .args .offering) (c .before .before .before .before .before .before .before .before .before .before .before .before .before .before .before .before .before .before .before .before .before .before .before .before .before .before .before .before .before .args .events .now) (c .before .before .before .before .before .before .before .before .before .before .before .before .before .before .before .before .before .before .before .before .before .before .before .before .before .before .before .before .before .args .fuel)) (c .before .before .before .before .before .before .before .before .before .before .before .before .before .before .before .before .before .before .before .before .before .before .before .before .before .before .before .before .before .pre .1 .1 .1)) {o = (outcomeFrom (c .before .before .before .before .before .before .before .before .before .before .before .called .result) (c .before .before .before .before .before .before .before .before .before .before .before .called .last .1 .1 .1 .1 .1 .1 .0) (c .before .before .before .before .before .before .before .before .before .before .before .called .last .1 .1 .1 .1 .1 .1 .1 .0))} (rw (calls-length (c .before .before .before .before .before .before .before .before .before .before .before .before .before .before .before .before .before .before .before .before .before .before .before .before .before .before .before .before .before .args .offering) (c .before .before .before .before .before .before .before .before .before .before .before .before .before .before .before .before .before .before .before .before .before .before .before .before .before .before .before .before .before .args .events .now) (c .before .before .before .before .before .before .before .before .before .before .before .before .before .before .before .before .before .before .before .before .before .before .before .before .before .before .before .before .before .args .fuel)) (c .before .before .before .before .before .before .before .before .before .before .before .before .before .before .before .loop-test .taken)) (rw (call-at (c .before .before .before .before .before .before .before .before .before .before .before .before .before .before .before .before .before .before .before .before .before .before .before .before .before .before .before .before .before .args .offering) (c .before .before .before .before .before .before .before .before .before .before .before .before .before .before .before .before .before .before .before .before .before .before .before .before .before .before .before .before .before .args .events .now) (c .before .before .before .before .before .before .before .before .before .before .before .before .before .before .before .before .before .before .before .before .before .before .before .before .before .before .before .before .before .args .fuel) (c .before .before .before .before .before .before .before .before .before .before .before .before .before .before .before .before .loop .k) (c .before .before .before .before .before .before .before .before .before .before .before .before .before .before .before .loop-test .taken)) (c .before .before .before .before .before .before .before .before .before .before .before .called .ensures)) (rw ((call-at (c .before .before .before .before .before .before .before .before .before .before .before .before .before .before .before .before .before .before .before .before .before .before .before .before .before .before .before .before .before .args .offering) (c .before .before .before .before .before .before .before .before .before .before .before .before .before .before .before .before .before .before .before .before .before .before .before .before .before .before .before .before .before .args .events .now) (c .before .before .before .before .before .before .before .before .before .before .before .before .before .before .before .before .before .before .before .before .before .before .before .before .before .before .before .before .before .args .fuel) (c .before .before .before .before .before .before .before .before .before .before .before .before .before .before .before .before .loop .k) (c .before .before .before .before .before .before .before .before .before .before .before .before .before .before .before .loop-test .taken)), fuel-with (c .before .before .before .before .before .before .before .before .before .before .before .before .before .before .before .before .before .before .before .before .before .before .before .before .before .before .before .before .before .args .offering) (getD (c .before .before .before .before .before .before .before .before .before .before .before .before .before .before .before .before .before .before .before .before .before .before .before .before .before .before .before .before .before .args .events .now) (c .before .before .before .before .before .before .before .before .before .before .before .before .before .before .before .before .loop .k) 0) (c .before .before .before .before .before .before .before .before .before .before .before .before .before .before .before .before .before .before .before .before .before .before .before .before .before .before .before .before .before .args .fuel)) (omega (arith, c .before .before .before .before .before .before .before .before .before .before .before .before .before .before .before .before .before .before .before .before .before .before .before .before .before .before .before .before .before .fits .fuel))) (rw (calls-length (c .before .before .before .before .before .before .before .before .before .before .before .before .before .before .before .before .before .before .before .before .before .before .before .before .before .before .before .before .before .args .offering) (c .before .before .before .before .before .before .before .before .before .before .before .before .before .before .before .before .before .before .before .before .before .before .before .before .before .before .before .before .before .args .events .now) (c .before .before .before .before .before .before .before .before .before .before .before .before .before .before .before .before .before .before .before .before .before .before .before .before .before .before .before .before .before .args .fuel)) (c .before .before .before .before .before .before .before .before .before .before .before .before .before .before .before .before .before .before .before .before .before .before .before .before .before .before .before .before .before .pre .1 .1 .0)) .put)
+add-put c =
+    let called = c .before .before .before .before .before .before .before .before .before .before .before in
+    let loop-test = called .before .before .before .before in
+    let loop = loop-test .before in
+    let start = loop .before .before .before .before .before .before .before .before .before .before .before .before .before in
+    let events = start .args .events .now in
+    let fuel = start .args .fuel in
+    let offering = start .args .offering in
+    omega (
+      arith,
+      offering-sums (loop .loop .inv) (rw (calls-length offering events fuel) (start .pre .1 .1 .1))
+          {o = (outcomeFrom (called .called .result) (called .called .last .1 .1 .1 .1 .1 .1 .0) (called .called .last .1 .1 .1 .1 .1 .1 .1 .0))}
+          (rw (calls-length offering events fuel) (loop-test .loop-test .taken))
+          (rw (call-at offering events fuel (loop .loop .k) (loop-test .loop-test .taken)) (called .called .ensures))
+          (rw ((call-at offering events fuel (loop .loop .k) (loop-test .loop-test .taken)), fuel-with offering (getD events (loop .loop .k) 0) fuel)
+          (omega (arith, start .fits .fuel))) (rw (calls-length offering events fuel) (start .pre .1 .1 .0)) .put,
+    )
 
 add-k : tie.Need-add-k Inv-loop μ-loop
-add-k c = omega (arith, c .before .before .before .before .before .before .before .before .before .before .before .before .before .before .before .loop-test .taken, c .before .before .before .before .before .before .before .before .before .before .before .before .before .before .before .before .before .before .before .before .before .before .before .before .before .before .before .before .before .pre .1 .1 .0)
+add-k c =
+    let loop-test = c .before .before .before .before .before .before .before .before .before .before .before .before .before .before .before in
+    let start = loop-test .before .before .before .before .before .before .before .before .before .before .before .before .before .before in
+    omega (arith, loop-test .loop-test .taken, start .pre .1 .1 .0)
 
 loop-less : tie.Need-loop-less Inv-loop μ-loop
-loop-less c = omega (arith, c .before .before .before .before .before .before .before .before .before .before .before .before .before .before .before .loop-test .taken)
+loop-less c =
+    let loop-test = c .before .before .before .before .before .before .before .before .before .before .before .before .before .before .before in
+    omega (arith, loop-test .loop-test .taken)
 
 loop-again : tie.Need-loop-again Inv-loop μ-loop
 unfolding plus
-loop-again c = rw (add-one, c .before .before .before .before .before .answer-byte .ensures, c .before .before .before .anew2 .ensures) (offering-next (c .before .before .before .before .before .before .before .before .before .before .before .before .before .before .before .before .loop .inv) (rw (calls-length (c .before .before .before .before .before .before .before .before .before .before .before .before .before .before .before .before .before .before .before .before .before .before .before .before .before .before .before .before .before .args .offering) (c .before .before .before .before .before .before .before .before .before .before .before .before .before .before .before .before .before .before .before .before .before .before .before .before .before .before .before .before .before .args .events .now) (c .before .before .before .before .before .before .before .before .before .before .before .before .before .before .before .before .before .before .before .before .before .before .before .before .before .before .before .before .before .args .fuel)) (c .before .before .before .before .before .before .before .before .before .before .before .before .before .before .before .before .before .before .before .before .before .before .before .before .before .before .before .before .before .pre .1 .1 .1)) {o = (outcomeFrom (c .before .before .before .before .before .before .before .before .before .before .before .called .result) (c .before .before .before .before .before .before .before .before .before .before .before .called .last .1 .1 .1 .1 .1 .1 .0) (c .before .before .before .before .before .before .before .before .before .before .before .called .last .1 .1 .1 .1 .1 .1 .1 .0))} (rw (calls-length (c .before .before .before .before .before .before .before .before .before .before .before .before .before .before .before .before .before .before .before .before .before .before .before .before .before .before .before .before .before .args .offering) (c .before .before .before .before .before .before .before .before .before .before .before .before .before .before .before .before .before .before .before .before .before .before .before .before .before .before .before .before .before .args .events .now) (c .before .before .before .before .before .before .before .before .before .before .before .before .before .before .before .before .before .before .before .before .before .before .before .before .before .before .before .before .before .args .fuel)) (c .before .before .before .before .before .before .before .before .before .before .before .before .before .before .before .loop-test .taken)) (rw (call-at (c .before .before .before .before .before .before .before .before .before .before .before .before .before .before .before .before .before .before .before .before .before .before .before .before .before .before .before .before .before .args .offering) (c .before .before .before .before .before .before .before .before .before .before .before .before .before .before .before .before .before .before .before .before .before .before .before .before .before .before .before .before .before .args .events .now) (c .before .before .before .before .before .before .before .before .before .before .before .before .before .before .before .before .before .before .before .before .before .before .before .before .before .before .before .before .before .args .fuel) (c .before .before .before .before .before .before .before .before .before .before .before .before .before .before .before .before .loop .k) (c .before .before .before .before .before .before .before .before .before .before .before .before .before .before .before .loop-test .taken)) (c .before .before .before .before .before .before .before .before .before .before .before .called .ensures)) (rw ((call-at (c .before .before .before .before .before .before .before .before .before .before .before .before .before .before .before .before .before .before .before .before .before .before .before .before .before .before .before .before .before .args .offering) (c .before .before .before .before .before .before .before .before .before .before .before .before .before .before .before .before .before .before .before .before .before .before .before .before .before .before .before .before .before .args .events .now) (c .before .before .before .before .before .before .before .before .before .before .before .before .before .before .before .before .before .before .before .before .before .before .before .before .before .before .before .before .before .args .fuel) (c .before .before .before .before .before .before .before .before .before .before .before .before .before .before .before .before .loop .k) (c .before .before .before .before .before .before .before .before .before .before .before .before .before .before .before .loop-test .taken)), fuel-with (c .before .before .before .before .before .before .before .before .before .before .before .before .before .before .before .before .before .before .before .before .before .before .before .before .before .before .before .before .before .args .offering) (getD (c .before .before .before .before .before .before .before .before .before .before .before .before .before .before .before .before .before .before .before .before .before .before .before .before .before .before .before .before .before .args .events .now) (c .before .before .before .before .before .before .before .before .before .before .before .before .before .before .before .before .loop .k) 0) (c .before .before .before .before .before .before .before .before .before .before .before .before .before .before .before .before .before .before .before .before .before .before .before .before .before .before .before .before .before .args .fuel)) (omega (arith, c .before .before .before .before .before .before .before .before .before .before .before .before .before .before .before .before .before .before .before .before .before .before .before .before .before .before .before .before .before .fits .fuel))) (accepted _ (c .before .before .before .before .before .before .match .keys2)))
+loop-again c =
+    let answer-byte = c .before .before .before .before .before in
+    let match = answer-byte .before in
+    let called = match .before .before .before .before .before in
+    let loop-test = called .before .before .before .before in
+    let loop = loop-test .before in
+    let start = loop .before .before .before .before .before .before .before .before .before .before .before .before .before in
+    let events = start .args .events .now in
+    let fuel = start .args .fuel in
+    let offering = start .args .offering in
+    rw (add-one, answer-byte .answer-byte .ensures, c .before .before .before .anew2 .ensures)
+    (offering-next (loop .loop .inv) (rw (calls-length offering events fuel) (start .pre .1 .1 .1))
+    {o = (outcomeFrom (called .called .result) (called .called .last .1 .1 .1 .1 .1 .1 .0) (called .called .last .1 .1 .1 .1 .1 .1 .1 .0))}
+    (rw (calls-length offering events fuel) (loop-test .loop-test .taken))
+    (rw (call-at offering events fuel (loop .loop .k) (loop-test .loop-test .taken)) (called .called .ensures))
+    (rw ((call-at offering events fuel (loop .loop .k) (loop-test .loop-test .taken)), fuel-with offering (getD events (loop .loop .k) 0) fuel)
+    (omega (arith, start .fits .fuel))) (accepted _ (match .match .keys2)))
 
 stopped-requires-2 : tie.Need-stopped-requires-2 Inv-loop μ-loop
 stopped-requires-2 c κs = search needs
@@ -116,7 +268,14 @@ same-length-6 c = c .before .before .loop .inv .size
 
 returns-2 : tie.Need-returns-2 Inv-loop μ-loop
 unfolding refusedAs
-returns-2 c = rw (c .stopped2 .ensures, ← c .before .before .before .anew .ensures, ← (calls-length (c .before .before .before .before .before .before .before .before .before .before .before .before .before .before .before .args .offering) (c .before .before .before .before .before .before .before .before .before .before .before .before .before .before .before .args .events .now) (c .before .before .before .before .before .before .before .before .before .before .before .before .before .before .before .args .fuel))) (offering-all (c .before .before .loop .inv) (rw (calls-length (c .before .before .before .before .before .before .before .before .before .before .before .before .before .before .before .args .offering) (c .before .before .before .before .before .before .before .before .before .before .before .before .before .before .before .args .events .now) (c .before .before .before .before .before .before .before .before .before .before .before .before .before .before .before .args .fuel)) (c .before .before .before .before .before .before .before .before .before .before .before .before .before .before .before .pre .1 .1 .1)) (rw (calls-length (c .before .before .before .before .before .before .before .before .before .before .before .before .before .before .before .args .offering) (c .before .before .before .before .before .before .before .before .before .before .before .before .before .before .before .args .events .now) (c .before .before .before .before .before .before .before .before .before .before .before .before .before .before .before .args .fuel)) (c .before .loop-test .left)))
+returns-2 c =
+    let start = c .before .before .before .before .before .before .before .before .before .before .before .before .before .before .before in
+    let events = start .args .events .now in
+    let fuel = start .args .fuel in
+    let offering = start .args .offering in
+    rw (c .stopped2 .ensures, ← c .before .before .before .anew .ensures, ← (calls-length offering events fuel))
+    (offering-all (c .before .before .loop .inv) (rw (calls-length offering events fuel) (start .pre .1 .1 .1))
+    (rw (calls-length offering events fuel) (c .before .loop-test .left)))
 
 pub in-turn-spec : {M : Type 1} → statement M
 in-turn-spec =

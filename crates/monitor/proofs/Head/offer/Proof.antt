@@ -30,19 +30,39 @@ same-length-2 c = search needs
 
 returns : tie.Need-returns
 unfolding offerOf
-returns c = rw (c .refused .ensures) (lent-refused documentCapacity (c .before .before .before .before .before .before .before .before .before .args .image .now) (c .before .before .before .before .before .before .before .before .before .args .table .now) (given (c .before .before .before .before .before .before .before .before .before)) (Offer (c .before .before .before .before .before .before .before .before .before .args .event) (c .before .before .before .before .before .before .before .before .before .args .fuel)) _ (lent-some documentCapacity (c .before .before .before .before .before .before .before .before .before .args .image .now) (c .before .before .before .before .before .before .before .before .before .args .table .now) (given (c .before .before .before .before .before .before .before .before .before)) (c .before .before .refusal .ensures) (c .before .if1 .taken)))
+returns c =
+    let start = c .before .before .before .before .before .before .before .before .before in
+    rw (c .refused .ensures)
+    (lent-refused documentCapacity (start .args .image .now) (start .args .table .now) (given start) (Offer (start .args .event) (start .args .fuel)) _
+    (lent-some documentCapacity (start .args .image .now) (start .args .table .now) (given start) (c .before .before .refusal .ensures)
+    (c .before .if1 .taken)))
 
 slice-aggregate-index : tie.Need-slice-aggregate-index
 slice-aggregate-index c = search needs
 
 index-requires : tie.Need-index-requires
-index-requires c κs = passed-image documentCapacity (c .before .before .before .before .before .before .before .before .before .args .image .now) (c .before .before .before .before .before .before .before .before .before .args .table .now) (given (c .before .before .before .before .before .before .before .before .before)) (lent-none documentCapacity (c .before .before .before .before .before .before .before .before .before .args .image .now) (c .before .before .before .before .before .before .before .before .before .args .table .now) (given (c .before .before .before .before .before .before .before .before .before)) (c .before .before .refusal .ensures) (c .before .if1 .left))
+index-requires c κs =
+    let start = c .before .before .before .before .before .before .before .before .before in
+    passed-image documentCapacity (start .args .image .now) (start .args .table .now) (given start)
+    (lent-none documentCapacity (start .args .image .now) (start .args .table .now) (given start) (c .before .before .refusal .ensures) (c .before .if1 .left))
 
 slice-aggregate-once : tie.Need-slice-aggregate-once
 slice-aggregate-once c = search needs
 
 once-requires : tie.Need-once-requires
-once-requires c κs = (rw (passed-sizes documentCapacity (c .before .before .before .before .before .before .before .before .before .before .before .before .before .before .args .image .now) (c .before .before .before .before .before .before .before .before .before .before .before .before .before .before .args .table .now) (given (c .before .before .before .before .before .before .before .before .before .before .before .before .before .before)) (lent-none documentCapacity (c .before .before .before .before .before .before .before .before .before .before .before .before .before .before .args .image .now) (c .before .before .before .before .before .before .before .before .before .before .before .before .before .before .args .table .now) (given (c .before .before .before .before .before .before .before .before .before .before .before .before .before .before)) (c .before .before .before .before .before .before .before .refusal .ensures) (c .before .before .before .before .before .before .if1 .left)) .0) (lent-none documentCapacity (c .before .before .before .before .before .before .before .before .before .before .before .before .before .before .args .image .now) (c .before .before .before .before .before .before .before .before .before .before .before .before .before .before .args .table .now) (given (c .before .before .before .before .before .before .before .before .before .before .before .before .before .before)) (c .before .before .before .before .before .before .before .refusal .ensures) (c .before .before .before .before .before .before .if1 .left)), c .before .before .before .before .index .ensures)
+once-requires c κs =
+    let index = c .before .before .before .before in
+    let if1 = index .before .before in
+    let refusal = if1 .before in
+    let start = refusal .before .before .before .before .before .before .before in
+    let image = start .args .image .now in
+    let table = start .args .table .now in (
+      rw
+          (passed-sizes documentCapacity image table (given start)
+          (lent-none documentCapacity image table (given start) (refusal .refusal .ensures) (if1 .if1 .left)) .0)
+          (lent-none documentCapacity image table (given start) (refusal .refusal .ensures) (if1 .if1 .left)),
+      index .index .ensures,
+    )
 
 same-length-3 : tie.Need-same-length-3
 same-length-3 c = search needs
@@ -52,7 +72,15 @@ same-length-4 c = search needs
 
 returns-2 : tie.Need-returns-2
 unfolding offerOf callWith
-returns-2 c = rw (passed-sizes documentCapacity (c .before .before .before .before .before .before .before .before .before .before .before .before .before .before .before .before .before .before .before .args .image .now) (c .before .before .before .before .before .before .before .before .before .before .before .before .before .before .before .before .before .before .before .args .table .now) (given (c .before .before .before .before .before .before .before .before .before .before .before .before .before .before .before .before .before .before .before)) (lent-none documentCapacity (c .before .before .before .before .before .before .before .before .before .before .before .before .before .before .before .before .before .before .before .args .image .now) (c .before .before .before .before .before .before .before .before .before .before .before .before .before .before .before .before .before .before .before .args .table .now) (given (c .before .before .before .before .before .before .before .before .before .before .before .before .before .before .before .before .before .before .before)) (c .before .before .before .before .before .before .before .before .before .before .before .before .refusal .ensures) (c .before .before .before .before .before .before .before .before .before .before .before .if1 .left)) .0) at (c .before .before .before .before .once .ensures)
+returns-2 c =
+    let once = c .before .before .before .before in
+    let if1 = once .before .before .before .before .before .before .before in
+    let refusal = if1 .before in
+    let start = refusal .before .before .before .before .before .before .before in
+    rw
+    (passed-sizes documentCapacity (start .args .image .now) (start .args .table .now) (given start)
+    (lent-none documentCapacity (start .args .image .now) (start .args .table .now) (given start) (refusal .refusal .ensures) (if1 .if1 .left)) .0) at
+    (once .once .ensures)
 
 pub offer-spec : {M : Type 1} → statement M
 offer-spec =

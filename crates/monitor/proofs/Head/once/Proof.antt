@@ -16,7 +16,9 @@ slice-aggregate-in-turn-2 : tie.Need-slice-aggregate-in-turn-2
 slice-aggregate-in-turn-2 c = search needs
 
 in-turn-requires : tie.Need-in-turn-requires
-in-turn-requires c κs = (c .before .before .before .before .before .before .before .before .before .pre .0, (c .before .before .before .before .before .before .before .before .before .pre .1, (omega arith, omega arith)))
+in-turn-requires c κs =
+    let start = c .before .before .before .before .before .before .before .before .before in
+    (start .pre .0, (start .pre .1, (omega arith, omega arith)))
 
 refused-requires : tie.Need-refused-requires
 refused-requires c κs = search needs
@@ -28,7 +30,13 @@ same-length-2 : tie.Need-same-length-2
 same-length-2 c = search needs
 
 returns : tie.Need-returns
-returns c = rw (c .refused .ensures) (single-refused (length (c .before .before .before .before .before .before .before .before .before .before .before .before .before .before .before .before .before .before .args .bytes .now)) (c .before .before .before .before .before .before .before .before .before .before .before .before .before .before .before .before .before .before .args .image .now) (c .before .before .before .before .before .before .before .before .before .before .before .before .before .before .before .before .before .before .args .table .now) (lent (c .before .before .before .before .before .before .before .before .before .before .before .before .before .before .before .before .before .before .args .self) (c .before .before .before .before .before .before .before .before .before .before .before .before .before .before .before .before .before .before .args .bytes .now) (c .before .before .before .before .before .before .before .before .before .before .before .before .before .before .before .before .before .before .args .words .now)) (callWith (c .before .before .before .before .before .before .before .before .before .before .before .before .before .before .before .before .before .before .args .offering) (c .before .before .before .before .before .before .before .before .before .before .before .before .before .before .before .before .before .before .args .event) (c .before .before .before .before .before .before .before .before .before .before .before .before .before .before .before .before .before .before .args .fuel)) _ (c .before .before .before .before .before .before .before .before .in-turn .ensures) (c .before .if1 .taken))
+returns c =
+    let in-turn = c .before .before .before .before .before .before .before .before in
+    let start = in-turn .before .before .before .before .before .before .before .before .before .before in
+    rw (c .refused .ensures)
+    (single-refused (length (start .args .bytes .now)) (start .args .image .now) (start .args .table .now)
+    (lent (start .args .self) (start .args .bytes .now) (start .args .words .now)) (callWith (start .args .offering) (start .args .event) (start .args .fuel)) _
+    (in-turn .in-turn .ensures) (c .before .if1 .taken))
 
 array-read-answer-from : tie.Need-array-read-answer-from
 array-read-answer-from c = search needs
@@ -43,7 +51,13 @@ same-length-4 : tie.Need-same-length-4
 same-length-4 c = search needs
 
 returns-2 : tie.Need-returns-2
-returns-2 c = rw (c .answer-from .ensures) (single-taken (length (c .before .before .before .before .before .before .before .before .before .before .before .before .before .before .before .before .before .before .before .before .args .bytes .now)) (c .before .before .before .before .before .before .before .before .before .before .before .before .before .before .before .before .before .before .before .before .args .image .now) (c .before .before .before .before .before .before .before .before .before .before .before .before .before .before .before .before .before .before .before .before .args .table .now) (lent (c .before .before .before .before .before .before .before .before .before .before .before .before .before .before .before .before .before .before .before .before .args .self) (c .before .before .before .before .before .before .before .before .before .before .before .before .before .before .before .before .before .before .before .before .args .bytes .now) (c .before .before .before .before .before .before .before .before .before .before .before .before .before .before .before .before .before .before .before .before .args .words .now)) (callWith (c .before .before .before .before .before .before .before .before .before .before .before .before .before .before .before .before .before .before .before .before .args .offering) (c .before .before .before .before .before .before .before .before .before .before .before .before .before .before .before .before .before .before .before .before .args .event) (c .before .before .before .before .before .before .before .before .before .before .before .before .before .before .before .before .before .before .before .before .args .fuel)) _ (c .before .before .before .before .before .before .before .before .before .before .in-turn .ensures) (c .before .before .before .if1 .left))
+returns-2 c =
+    let in-turn = c .before .before .before .before .before .before .before .before .before .before in
+    let start = in-turn .before .before .before .before .before .before .before .before .before .before in
+    rw (c .answer-from .ensures)
+    (single-taken (length (start .args .bytes .now)) (start .args .image .now) (start .args .table .now)
+    (lent (start .args .self) (start .args .bytes .now) (start .args .words .now)) (callWith (start .args .offering) (start .args .event) (start .args .fuel)) _
+    (in-turn .in-turn .ensures) (c .before .before .before .if1 .left))
 
 pub once-spec : {M : Type 1} → statement M
 once-spec =

@@ -58,15 +58,16 @@ returns-3 c =
     let called = passed .before .before in
     let start = called .before .before .before .before .before in
     all-right documentCapacity (start .args .image .now) (start .args .table .now) (called .check .ensures) (passed .enum-told .given .1)
-    (headIn (start .args .self)) (start .args .bytes .now) (start .args .words .now) (sized .before .if1 .left) (sized .if2 .left)
+    (headIn (start .args .self)) (start .args .bytes .now) (start .args .words .now) (c .before .before .before .if1 .left) (sized .if2 .left)
     (c .before .as-described .ensures) (c .if3 .taken)
 
 returns-4 : tie.Need-returns-4
 returns-4 c =
-    let called = c .before .before .before in
+    let n = c .before in
+    let called = n .before .before in
     let start = called .before .before .before .before .before in
     table-refused documentCapacity (start .args .image .now) (start .args .table .now) (called .check .ensures)
-    (lent (start .args .self) (start .args .bytes .now) (start .args .words .now)) (c .before .n .given .0 .0) (c .before .n .given .1)
+    (lent (start .args .self) (start .args .bytes .now) (start .args .words .now)) (n .n .given .0 .0) (n .n .given .1)
 
 returns-5 : tie.Need-returns-5
 returns-5 c =
@@ -75,7 +76,7 @@ returns-5 c =
     let called = passed .before .before in
     let start = called .before .before .before .before .before in
     not-as-described documentCapacity (start .args .image .now) (start .args .table .now) (called .check .ensures) (passed .enum-told .given .1)
-    (headIn (start .args .self)) (start .args .bytes .now) (start .args .words .now) (sized .before .if1 .left) (sized .if2 .left)
+    (headIn (start .args .self)) (start .args .bytes .now) (start .args .words .now) (c .before .before .before .if1 .left) (sized .if2 .left)
     (c .before .as-described .ensures) (c .if3 .left)
 
 pub refusal-spec : {M : Type 1} → statement M

@@ -10,13 +10,17 @@ use Rattle.monitor.proofs.Head.run.Statement.{statement}
 use Rattle.monitor.proofs.Head.run.Tie as tie
 
 abbrev Inv-loop : tie.InvT-loop
-Inv-loop image table rows width starts bytes₀ words₀ fuel head₀ left₀ rewrites₀ put₀ bytes words head left rewrites put = Running image table bytes₀ words₀ fuel (headIn head₀) bytes words (headIn head) left rewrites put
+Inv-loop image table rows width starts bytes₀ words₀ fuel head₀ left₀ rewrites₀ put₀ bytes words head left rewrites put =
+    Running image table bytes₀ words₀ fuel (headIn head₀) bytes words (headIn head) left rewrites put
 
 abbrev μ-loop : tie.MeasureT-loop
 μ-loop image table rows width starts bytes₀ words₀ fuel head₀ left₀ rewrites₀ put₀ bytes words head left rewrites put = left
 
 loop-holds : tie.Need-loop-holds Inv-loop μ-loop
-loop-holds c = running-first (c .before .before .before .before .before .args .image .now) (c .before .before .before .before .before .args .table .now) (c .before .before .before .before .before .args .bytes .now) (c .before .before .before .before .before .args .words .now) (c .before .before .before .before .before .args .fuel) (headIn (c .before .before .before .before .before .args .self)) (c .before .before .before .before .before .pre .0)
+loop-holds c =
+    let start = c .before .before .before .before .before in
+    running-first (start .args .image .now) (start .args .table .now) (start .args .bytes .now) (start .args .words .now) (start .args .fuel)
+    (headIn (start .args .self)) (start .pre .0)
 
 enum-known-verdict : tie.Need-enum-known-verdict Inv-loop μ-loop
 enum-known-verdict c = search needs
@@ -28,76 +32,162 @@ ended-requires : tie.Need-ended-requires Inv-loop μ-loop
 ended-requires c κs = search needs
 
 same-length : tie.Need-same-length Inv-loop μ-loop
-same-length c = c .before .before .before .before .loop .inv .bytes-kept
+same-length c =
+    let loop = c .before .before .before .before in
+    loop .loop .inv .bytes-kept
 
 same-length-2 : tie.Need-same-length-2 Inv-loop μ-loop
-same-length-2 c = c .before .before .before .before .loop .inv .words-kept
+same-length-2 c =
+    let loop = c .before .before .before .before in
+    loop .loop .inv .words-kept
 
 returns : tie.Need-returns Inv-loop μ-loop
-returns c = rw (c .ended .ensures) (verdict-ends (c .before .before .before .before .loop .inv) _ (c .before .before .verdict .given .1))
+returns c =
+    let loop = c .before .before .before .before in
+    rw (c .ended .ensures) (verdict-ends (loop .loop .inv) _ (c .before .before .verdict .given .1))
 
 enum-told : tie.Need-enum-told Inv-loop μ-loop
 enum-told c = search needs
 
 sub-ended-2 : tie.Need-sub-ended-2 Inv-loop μ-loop
-sub-ended-2 c = omega (arith, c .before .before .before .before .loop .inv .fuel-left)
+sub-ended-2 c =
+    let loop = c .before .before .before .before in
+    omega (arith, loop .loop .inv .fuel-left)
 
 ended-requires-2 : tie.Need-ended-requires-2 Inv-loop μ-loop
 ended-requires-2 c κs = search needs
 
 same-length-3 : tie.Need-same-length-3 Inv-loop μ-loop
-same-length-3 c = c .before .before .before .before .before .loop .inv .bytes-kept
+same-length-3 c =
+    let loop = c .before .before .before .before .before in
+    loop .loop .inv .bytes-kept
 
 same-length-4 : tie.Need-same-length-4 Inv-loop μ-loop
-same-length-4 c = c .before .before .before .before .before .loop .inv .words-kept
+same-length-4 c =
+    let loop = c .before .before .before .before .before in
+    loop .loop .inv .words-kept
 
 returns-2 : tie.Need-returns-2 Inv-loop μ-loop
-returns-2 c = rw (c .ended2 .ensures) (quiet-ends (c .before .before .before .before .before .loop .inv) (c .before .before .before .enum-told .given .1) (c .before .if1 .taken))
+returns-2 c =
+    let loop = c .before .before .before .before .before in
+    rw (c .ended2 .ensures) (quiet-ends (loop .loop .inv) (c .before .before .before .enum-told .given .1) (c .before .if1 .taken))
 
 ended-requires-3 : tie.Need-ended-requires-3 Inv-loop μ-loop
 ended-requires-3 c κs = search needs
 
 same-length-5 : tie.Need-same-length-5 Inv-loop μ-loop
-same-length-5 c = c .before .before .before .before .before .before .loop .inv .bytes-kept
+same-length-5 c =
+    let loop = c .before .before .before .before .before .before in
+    loop .loop .inv .bytes-kept
 
 same-length-6 : tie.Need-same-length-6 Inv-loop μ-loop
-same-length-6 c = c .before .before .before .before .before .before .loop .inv .words-kept
+same-length-6 c =
+    let loop = c .before .before .before .before .before .before in
+    loop .loop .inv .words-kept
 
 returns-3 : tie.Need-returns-3 Inv-loop μ-loop
-returns-3 c = rw (c .ended3 .ensures) (spent-ends (c .before .before .before .before .before .before .loop .inv) (c .before .before .before .before .enum-told .given .1) (c .before .before .if1 .left) (c .before .if2 .taken))
+returns-3 c =
+    let enum-told = c .before .before .before .before in
+    let loop = enum-told .before .before in
+    rw (c .ended3 .ensures) (spent-ends (loop .loop .inv) (enum-told .enum-told .given .1) (c .before .before .if1 .left) (c .before .if2 .taken))
 
 step-requires : tie.Need-step-requires Inv-loop μ-loop
-step-requires c κs = (running-asks (c .before .before .before .before .before .before .before .loop .inv), (c .before .before .before .before .before .before .before .before .before .before .before .before .before .pre .1 .0, (c .before .before .before .before .before .before .before .before .before .before .before .before .before .pre .1 .1 .0, (c .before .before .before .before .before .before .before .before .before .before .before .before .before .pre .1 .1 .1, (omega (arith, c .before .before .before .if1 .left), c .before .before .before .before .before .enum-told .given .1)))))
+step-requires c κs =
+    let enum-told = c .before .before .before .before .before in
+    let loop = enum-told .before .before in
+    let start = loop .before .before .before .before .before .before in (
+      running-asks (loop .loop .inv),
+      (start .pre .1 .0, (start .pre .1 .1 .0, (start .pre .1 .1 .1, (omega (arith, c .before .before .before .if1 .left), enum-told .enum-told .given .1)))),
+    )
 
 sub-ended-3 : tie.Need-sub-ended-3 Inv-loop μ-loop
-sub-ended-3 c = omega (arith, c .before .before .before .before .before .before .before .before .before .before .before .before .before .before .loop .inv .fuel-left)
+sub-ended-3 c =
+    let loop = c .before .before .before .before .before .before .before .before .before .before .before .before .before .before in
+    omega (arith, loop .loop .inv .fuel-left)
 
 ended-requires-4 : tie.Need-ended-requires-4 Inv-loop μ-loop
 ended-requires-4 c κs = search needs
 
 same-length-7 : tie.Need-same-length-7 Inv-loop μ-loop
-same-length-7 c = c .before .before .before .before .before .before .before .step .kept .1 .1 .1 .1 .1 .1 .0 ∙ c .before .before .before .before .before .before .before .before .before .before .before .before .before .before .before .loop .inv .bytes-kept
+same-length-7 c =
+    let step = c .before .before .before .before .before .before .before in
+    let loop = step .before .before .before .before .before .before .before .before in
+    step .step .kept .1 .1 .1 .1 .1 .1 .0 ∙ loop .loop .inv .bytes-kept
 
 same-length-8 : tie.Need-same-length-8 Inv-loop μ-loop
-same-length-8 c = c .before .before .before .before .before .before .before .step .kept .1 .1 .1 .1 .1 .1 .1 .0 ∙ c .before .before .before .before .before .before .before .before .before .before .before .before .before .before .before .loop .inv .words-kept
+same-length-8 c =
+    let step = c .before .before .before .before .before .before .before in
+    let loop = step .before .before .before .before .before .before .before .before in
+    step .step .kept .1 .1 .1 .1 .1 .1 .1 .0 ∙ loop .loop .inv .words-kept
 
 returns-4 : tie.Need-returns-4 Inv-loop μ-loop
-returns-4 c = rw (c .ended4 .ensures) (full-ends (c .before .before .before .before .before .before .before .before .before .before .before .before .before .before .before .loop .inv) (c .before .before .before .before .before .before .before .before .before .before .before .before .before .enum-told .given .1) (c .before .before .before .before .before .before .before .before .before .before .before .if1 .left) (c .before .before .before .before .before .before .before .before .before .before .if2 .left) (triedFrom (c .before .before .before .before .before .before .before .step .result) (c .before .before .before .before .before .before .before .step .last .1 .1 .1 .1 .1 .1 .0) (c .before .before .before .before .before .before .before .step .last .1 .1 .1 .1 .1 .1 .1 .0)) (not-true _ (c .before .if3 .taken)) (c .before .before .before .before .before .before .before .step .ensures))
+returns-4 c =
+    let step = c .before .before .before .before .before .before .before in
+    let if2 = step .before .before .before in
+    let if1 = if2 .before in
+    let enum-told = if1 .before .before in
+    let loop = enum-told .before .before in
+    rw (c .ended4 .ensures)
+    (full-ends (loop .loop .inv) (enum-told .enum-told .given .1) (if1 .if1 .left) (if2 .if2 .left)
+    (triedFrom (step .step .result) (step .step .last .1 .1 .1 .1 .1 .1 .0) (step .step .last .1 .1 .1 .1 .1 .1 .1 .0)) (not-true _ (c .before .if3 .taken))
+    (step .step .ensures))
 
 sub-left : tie.Need-sub-left Inv-loop μ-loop
-sub-left c = omega (arith, c .before .before .before .before .before .before .before .before .before .before .if2 .left)
+sub-left c =
+    let if2 = c .before .before .before .before .before .before .before .before .before .before in
+    omega (arith, if2 .if2 .left)
 
 add-rewrites : tie.Need-add-rewrites Inv-loop μ-loop
-add-rewrites c = omega (arith, running-next (c .before .before .before .before .before .before .before .before .before .before .before .before .before .before .before .before .loop .inv) (c .before .before .before .before .before .before .before .before .before .before .before .before .before .before .enum-told .given .1) (c .before .before .before .before .before .before .before .before .before .before .before .before .if1 .left) (c .before .before .before .before .before .before .before .before .before .before .before .if2 .left) (triedFrom (c .before .before .before .before .before .before .before .before .step .result) (c .before .before .before .before .before .before .before .before .step .last .1 .1 .1 .1 .1 .1 .0) (c .before .before .before .before .before .before .before .before .step .last .1 .1 .1 .1 .1 .1 .1 .0)) (not-false _ (c .before .before .if3 .left)) (c .before .before .before .before .before .before .before .before .step .ensures) (c .before .before .before .before .before .before .before .before .step .kept .1 .1 .1 .1 .1 .1 .0) (c .before .before .before .before .before .before .before .before .step .kept .1 .1 .1 .1 .1 .1 .1 .0) .few-rewrites, c .before .before .before .before .before .before .before .before .before .before .before .before .before .before .before .before .before .before .before .before .before .before .fits .fuel)
+add-rewrites c =
+    let step = c .before .before .before .before .before .before .before .before in
+    let if2 = step .before .before .before in
+    let if1 = if2 .before in
+    let enum-told = if1 .before .before in
+    let loop = enum-told .before .before in
+    let start = loop .before .before .before .before .before .before in
+    omega (
+      arith,
+      running-next (loop .loop .inv) (enum-told .enum-told .given .1) (if1 .if1 .left) (if2 .if2 .left)
+          (triedFrom (step .step .result) (step .step .last .1 .1 .1 .1 .1 .1 .0) (step .step .last .1 .1 .1 .1 .1 .1 .1 .0))
+          (not-false _ (c .before .before .if3 .left)) (step .step .ensures) (step .step .kept .1 .1 .1 .1 .1 .1 .0)
+          (step .step .kept .1 .1 .1 .1 .1 .1 .1 .0) .few-rewrites,
+      start .fits .fuel,
+    )
 
 add-put : tie.Need-add-put Inv-loop μ-loop
-add-put c = omega (arith, running-next (c .before .before .before .before .before .before .before .before .before .before .before .before .before .before .before .before .before .loop .inv) (c .before .before .before .before .before .before .before .before .before .before .before .before .before .before .before .enum-told .given .1) (c .before .before .before .before .before .before .before .before .before .before .before .before .before .if1 .left) (c .before .before .before .before .before .before .before .before .before .before .before .before .if2 .left) (triedFrom (c .before .before .before .before .before .before .before .before .before .step .result) (c .before .before .before .before .before .before .before .before .before .step .last .1 .1 .1 .1 .1 .1 .0) (c .before .before .before .before .before .before .before .before .before .step .last .1 .1 .1 .1 .1 .1 .1 .0)) (not-false _ (c .before .before .before .if3 .left)) (c .before .before .before .before .before .before .before .before .before .step .ensures) (c .before .before .before .before .before .before .before .before .before .step .kept .1 .1 .1 .1 .1 .1 .0) (c .before .before .before .before .before .before .before .before .before .step .kept .1 .1 .1 .1 .1 .1 .1 .0) .few-rewrites, running-next (c .before .before .before .before .before .before .before .before .before .before .before .before .before .before .before .before .before .loop .inv) (c .before .before .before .before .before .before .before .before .before .before .before .before .before .before .before .enum-told .given .1) (c .before .before .before .before .before .before .before .before .before .before .before .before .before .if1 .left) (c .before .before .before .before .before .before .before .before .before .before .before .before .if2 .left) (triedFrom (c .before .before .before .before .before .before .before .before .before .step .result) (c .before .before .before .before .before .before .before .before .before .step .last .1 .1 .1 .1 .1 .1 .0) (c .before .before .before .before .before .before .before .before .before .step .last .1 .1 .1 .1 .1 .1 .1 .0)) (not-false _ (c .before .before .before .if3 .left)) (c .before .before .before .before .before .before .before .before .before .step .ensures) (c .before .before .before .before .before .before .before .before .before .step .kept .1 .1 .1 .1 .1 .1 .0) (c .before .before .before .before .before .before .before .before .before .step .kept .1 .1 .1 .1 .1 .1 .1 .0) .few-put, c .before .before .before .before .before .before .before .before .before .before .before .before .before .before .before .before .before .before .before .before .before .before .before .fits .fuel)
+add-put c =
+    let if3 = c .before .before .before in
+    let step = if3 .before .before .before .before .before .before in
+    let if2 = step .before .before .before in
+    let if1 = if2 .before in
+    let enum-told = if1 .before .before in
+    let loop = enum-told .before .before in
+    let start = loop .before .before .before .before .before .before in
+    omega (
+      arith,
+      running-next (loop .loop .inv) (enum-told .enum-told .given .1) (if1 .if1 .left) (if2 .if2 .left)
+          (triedFrom (step .step .result) (step .step .last .1 .1 .1 .1 .1 .1 .0) (step .step .last .1 .1 .1 .1 .1 .1 .1 .0)) (not-false _ (if3 .if3 .left))
+          (step .step .ensures) (step .step .kept .1 .1 .1 .1 .1 .1 .0) (step .step .kept .1 .1 .1 .1 .1 .1 .1 .0) .few-rewrites,
+      running-next (loop .loop .inv) (enum-told .enum-told .given .1) (if1 .if1 .left) (if2 .if2 .left)
+          (triedFrom (step .step .result) (step .step .last .1 .1 .1 .1 .1 .1 .0) (step .step .last .1 .1 .1 .1 .1 .1 .1 .0)) (not-false _ (if3 .if3 .left))
+          (step .step .ensures) (step .step .kept .1 .1 .1 .1 .1 .1 .0) (step .step .kept .1 .1 .1 .1 .1 .1 .1 .0) .few-put,
+      start .fits .fuel,
+    )
 
 loop-less : tie.Need-loop-less Inv-loop μ-loop
 loop-less c = search needs
 
 loop-again : tie.Need-loop-again Inv-loop μ-loop
-loop-again c = running-next (c .before .before .before .before .before .before .before .before .before .before .before .before .before .before .before .before .before .loop .inv) (c .before .before .before .before .before .before .before .before .before .before .before .before .before .before .before .enum-told .given .1) (c .before .before .before .before .before .before .before .before .before .before .before .before .before .if1 .left) (c .before .before .before .before .before .before .before .before .before .before .before .before .if2 .left) (triedFrom (c .before .before .before .before .before .before .before .before .before .step .result) (c .before .before .before .before .before .before .before .before .before .step .last .1 .1 .1 .1 .1 .1 .0) (c .before .before .before .before .before .before .before .before .before .step .last .1 .1 .1 .1 .1 .1 .1 .0)) (not-false _ (c .before .before .before .if3 .left)) (c .before .before .before .before .before .before .before .before .before .step .ensures) (c .before .before .before .before .before .before .before .before .before .step .kept .1 .1 .1 .1 .1 .1 .0) (c .before .before .before .before .before .before .before .before .before .step .kept .1 .1 .1 .1 .1 .1 .1 .0)
+loop-again c =
+    let step = c .before .before .before .before .before .before .before .before .before in
+    let if2 = step .before .before .before in
+    let if1 = if2 .before in
+    let enum-told = if1 .before .before in
+    let loop = enum-told .before .before in
+    running-next (loop .loop .inv) (enum-told .enum-told .given .1) (if1 .if1 .left) (if2 .if2 .left)
+    (triedFrom (step .step .result) (step .step .last .1 .1 .1 .1 .1 .1 .0) (step .step .last .1 .1 .1 .1 .1 .1 .1 .0))
+    (not-false _ (c .before .before .before .if3 .left)) (step .step .ensures) (step .step .kept .1 .1 .1 .1 .1 .1 .0)
+    (step .step .kept .1 .1 .1 .1 .1 .1 .1 .0)
 
 pub run-spec : {M : Type 1} → statement M
 run-spec =

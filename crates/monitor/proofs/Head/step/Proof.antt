@@ -30,28 +30,70 @@ symbol s =
     symbol-is (length (s .args .bytes .now)) (s .args .image .now) (s .args .table .now) (given s) (s .pre .0) (one s .0) (one s .1) (one s .2) _ refl
 
 sub-first : tie.Need-sub-first
-sub-first c = omega (arith, facts (c .before .before .before .before .before .before), c .before .before .before .before .before .before .pre .1 .1 .1 .1 .0)
+sub-first c =
+    let start = c .before .before .before .before .before .before in
+    omega (arith, facts start, start .pre .1 .1 .1 .1 .0)
 
 slice-read-symbol : tie.Need-slice-read-symbol
-slice-read-symbol c = omega (arith, facts (c .before .before .before .before .before .before .before), c .before .before .before .before .before .before .before .pre .1 .1 .1 .1 .0)
+slice-read-symbol c =
+    let start = c .before .before .before .before .before .before .before in
+    omega (arith, facts start, start .pre .1 .1 .1 .1 .0)
 
 word-before-requires : tie.Need-word-before-requires
-word-before-requires c κs = omega (arith, facts (c .before .before .before .before .before .before .before .before), c .before .before .before .before .before .before .before .before .pre .1 .1 .1 .1 .0)
+word-before-requires c κs =
+    let start = c .before .before .before .before .before .before .before .before in
+    omega (arith, facts start, start .pre .1 .1 .1 .1 .0)
 
 cast-next-at : tie.Need-cast-next-at
-cast-next-at c = omega (arith, symbol (c .before .before .before .before .before .before .before .before .before), symbol-small (length (c .before .before .before .before .before .before .before .before .before .args .bytes .now)) (c .before .before .before .before .before .before .before .before .before .args .image .now) (c .before .before .before .before .before .before .before .before .before .args .table .now) (given (c .before .before .before .before .before .before .before .before .before)) (c .before .before .before .before .before .before .before .before .before .pre .0) (one (c .before .before .before .before .before .before .before .before .before) .0) (one (c .before .before .before .before .before .before .before .before .before) .1) (one (c .before .before .before .before .before .before .before .before .before) .2))
+cast-next-at c =
+    let start = c .before .before .before .before .before .before .before .before .before in
+    omega (
+      arith,
+      symbol start,
+      symbol-small (length (start .args .bytes .now)) (start .args .image .now) (start .args .table .now) (given start) (start .pre .0) (one start .0)
+          (one start .1) (one start .2),
+    )
 
 next-at-requires : tie.Need-next-at-requires
-next-at-requires c κs = rw (c .before .before .before .before .before .before .before .before .before .pre .1 .1 .0, c .before .before .before .before .before .before .before .before .before .pre .1 .1 .1 .0) (next-asks (length (c .before .before .before .before .before .before .before .before .before .args .bytes .now)) (c .before .before .before .before .before .before .before .before .before .args .image .now) (c .before .before .before .before .before .before .before .before .before .args .table .now) (given (c .before .before .before .before .before .before .before .before .before)) (c .before .before .before .before .before .before .before .before .before .pre .0) (one (c .before .before .before .before .before .before .before .before .before) .0) (one (c .before .before .before .before .before .before .before .before .before) .1) (one (c .before .before .before .before .before .before .before .before .before) .2) _ _ (c .word-before .ensures) (symbol (c .before .before .before .before .before .before .before .before .before)) .1)
+next-at-requires c κs =
+    let start = c .before .before .before .before .before .before .before .before .before in
+    rw (start .pre .1 .1 .0, start .pre .1 .1 .1 .0)
+    (next-asks (length (start .args .bytes .now)) (start .args .image .now) (start .args .table .now) (given start) (start .pre .0) (one start .0)
+    (one start .1) (one start .2) _ _ (c .word-before .ensures) (symbol start) .1)
 
 match-word-requires : tie.Need-match-word-requires
-match-word-requires c κs = match-asks (length (c .before .before .before .before .before .before .before .before .before .before .args .bytes .now)) (c .before .before .before .before .before .before .before .before .before .before .args .image .now) (c .before .before .before .before .before .before .before .before .before .before .args .table .now) (given (c .before .before .before .before .before .before .before .before .before .before)) (c .before .before .before .before .before .before .before .before .before .before .pre .0) (one (c .before .before .before .before .before .before .before .before .before .before) .0) (one (c .before .before .before .before .before .before .before .before .before .before) .1) (one (c .before .before .before .before .before .before .before .before .before .before) .2) _ (next-is (length (c .before .before .before .before .before .before .before .before .before .before .args .bytes .now)) (c .before .before .before .before .before .before .before .before .before .before .args .image .now) (c .before .before .before .before .before .before .before .before .before .before .args .table .now) (given (c .before .before .before .before .before .before .before .before .before .before)) (c .before .before .before .before .before .before .before .before .before .before .pre .0) (one (c .before .before .before .before .before .before .before .before .before .before) .0) (one (c .before .before .before .before .before .before .before .before .before .before) .1) (one (c .before .before .before .before .before .before .before .before .before .before) .2) _ _ _ (c .before .word-before .ensures) (symbol (c .before .before .before .before .before .before .before .before .before .before)) (rw (c .before .before .before .before .before .before .before .before .before .before .pre .1 .1 .0, c .before .before .before .before .before .before .before .before .before .before .pre .1 .1 .1 .0) at (c .next-at .ensures)))
+match-word-requires c κs =
+    let start = c .before .before .before .before .before .before .before .before .before .before in
+    match-asks (length (start .args .bytes .now)) (start .args .image .now) (start .args .table .now) (given start) (start .pre .0) (one start .0)
+    (one start .1) (one start .2) _
+    (next-is (length (start .args .bytes .now)) (start .args .image .now) (start .args .table .now) (given start) (start .pre .0) (one start .0) (one start .1)
+    (one start .2) _ _ _ (c .before .word-before .ensures) (symbol start) (rw (start .pre .1 .1 .0, start .pre .1 .1 .1 .0) at (c .next-at .ensures)))
 
 sub-rewrite : tie.Need-sub-rewrite
 sub-rewrite c = search needs
 
 rewrite-requires : tie.Need-rewrite-requires
-rewrite-requires c κs = (c .before .before .before .before .before .before .before .before .before .before .before .before .before .before .pre .0, (c .before .before .before .before .before .before .before .before .before .before .before .before .before .before .pre .1 .0, (one (c .before .before .before .before .before .before .before .before .before .before .before .before .before .before) .0, one (c .before .before .before .before .before .before .before .before .before .before .before .before .before .before) .1, one (c .before .before .before .before .before .before .before .before .before .before .before .before .before .before) .2, some-match _ _ (match-is (length (c .before .before .before .before .before .before .before .before .before .before .before .before .before .before .args .bytes .now)) (c .before .before .before .before .before .before .before .before .before .before .before .before .before .before .args .image .now) (c .before .before .before .before .before .before .before .before .before .before .before .before .before .before .args .table .now) (given (c .before .before .before .before .before .before .before .before .before .before .before .before .before .before)) (c .before .before .before .before .before .before .before .before .before .before .before .before .before .before .pre .0) (one (c .before .before .before .before .before .before .before .before .before .before .before .before .before .before) .0) (one (c .before .before .before .before .before .before .before .before .before .before .before .before .before .before) .1) (one (c .before .before .before .before .before .before .before .before .before .before .before .before .before .before) .2) _ (next-is (length (c .before .before .before .before .before .before .before .before .before .before .before .before .before .before .args .bytes .now)) (c .before .before .before .before .before .before .before .before .before .before .before .before .before .before .args .image .now) (c .before .before .before .before .before .before .before .before .before .before .before .before .before .before .args .table .now) (given (c .before .before .before .before .before .before .before .before .before .before .before .before .before .before)) (c .before .before .before .before .before .before .before .before .before .before .before .before .before .before .pre .0) (one (c .before .before .before .before .before .before .before .before .before .before .before .before .before .before) .0) (one (c .before .before .before .before .before .before .before .before .before .before .before .before .before .before) .1) (one (c .before .before .before .before .before .before .before .before .before .before .before .before .before .before) .2) _ _ _ (c .before .before .before .before .before .word-before .ensures) (symbol (c .before .before .before .before .before .before .before .before .before .before .before .before .before .before)) (rw (c .before .before .before .before .before .before .before .before .before .before .before .before .before .before .pre .1 .1 .0, c .before .before .before .before .before .before .before .before .before .before .before .before .before .before .pre .1 .1 .1 .0) at (c .before .before .before .before .next-at .ensures))) _ (c .before .before .before .match-word .ensures)) (c .before .before .if1 .taken))))
+rewrite-requires c κs =
+    let next-at = c .before .before .before .before in
+    let word-before = next-at .before in
+    let start = word-before .before .before .before .before .before .before .before .before .before in (
+      start .pre .0,
+      (
+        start .pre .1 .0,
+        (
+          one start .0,
+          one start .1,
+          one start .2,
+          some-match _ _
+              (match-is (length (start .args .bytes .now)) (start .args .image .now) (start .args .table .now) (given start) (start .pre .0)
+              (one start .0) (one start .1) (one start .2) _
+              (next-is (length (start .args .bytes .now)) (start .args .image .now) (start .args .table .now) (given start) (start .pre .0)
+              (one start .0) (one start .1) (one start .2) _ _ _ (word-before .word-before .ensures) (symbol start)
+              (rw (start .pre .1 .1 .0, start .pre .1 .1 .1 .0) at (next-at .next-at .ensures))) _ (c .before .before .before .match-word .ensures))
+              (c .before .before .if1 .taken),
+        ),
+      ),
+    )
 
 same-length : tie.Need-same-length
 same-length c = search needs
@@ -63,22 +105,41 @@ returns : tie.Need-returns
 returns c = search needs
 
 slice-write-bytes : tie.Need-slice-write-bytes
-slice-write-bytes c = omega (arith, facts (c .before .before .before .before .before .before .before .before .before .before .before .before), c .before .before .before .before .before .before .before .before .before .before .before .before .pre .1 .1 .1 .1 .0)
+slice-write-bytes c =
+    let start = c .before .before .before .before .before .before .before .before .before .before .before .before in
+    omega (arith, facts start, start .pre .1 .1 .1 .1 .0)
 
 slice-write-bytes-2 : tie.Need-slice-write-bytes-2
-slice-write-bytes-2 c = rw length-set (omega (arith, facts (c .before .before .before .before .before .before .before .before .before .before .before .before), c .before .before .before .before .before .before .before .before .before .before .before .before .pre .1 .1 .1 .1 .0))
+slice-write-bytes-2 c =
+    let start = c .before .before .before .before .before .before .before .before .before .before .before .before in
+    rw length-set (omega (arith, facts start, start .pre .1 .1 .1 .1 .0))
 
 cast-words : tie.Need-cast-words
-cast-words c = omega (arith, next-small (length (c .before .before .before .before .before .before .before .before .before .before .before .before .args .bytes .now)) (c .before .before .before .before .before .before .before .before .before .before .before .before .args .image .now) (c .before .before .before .before .before .before .before .before .before .before .before .before .args .table .now) (given (c .before .before .before .before .before .before .before .before .before .before .before .before)) (c .before .before .before .before .before .before .before .before .before .before .before .before .pre .0) (one (c .before .before .before .before .before .before .before .before .before .before .before .before) .0) (one (c .before .before .before .before .before .before .before .before .before .before .before .before) .1) (one (c .before .before .before .before .before .before .before .before .before .before .before .before) .2) _ (next-is (length (c .before .before .before .before .before .before .before .before .before .before .before .before .args .bytes .now)) (c .before .before .before .before .before .before .before .before .before .before .before .before .args .image .now) (c .before .before .before .before .before .before .before .before .before .before .before .before .args .table .now) (given (c .before .before .before .before .before .before .before .before .before .before .before .before)) (c .before .before .before .before .before .before .before .before .before .before .before .before .pre .0) (one (c .before .before .before .before .before .before .before .before .before .before .before .before) .0) (one (c .before .before .before .before .before .before .before .before .before .before .before .before) .1) (one (c .before .before .before .before .before .before .before .before .before .before .before .before) .2) _ _ _ (c .before .before .before .word-before .ensures) (symbol (c .before .before .before .before .before .before .before .before .before .before .before .before)) (rw (c .before .before .before .before .before .before .before .before .before .before .before .before .pre .1 .1 .0, c .before .before .before .before .before .before .before .before .before .before .before .before .pre .1 .1 .1 .0) at (c .before .before .next-at .ensures))))
+cast-words c =
+    let start = c .before .before .before .before .before .before .before .before .before .before .before .before in
+    omega (
+      arith,
+      next-small (length (start .args .bytes .now)) (start .args .image .now) (start .args .table .now) (given start) (start .pre .0) (one start .0)
+          (one start .1) (one start .2) _
+          (next-is (length (start .args .bytes .now)) (start .args .image .now) (start .args .table .now) (given start) (start .pre .0) (one start .0)
+          (one start .1) (one start .2) _ _ _ (c .before .before .before .word-before .ensures) (symbol start)
+          (rw (start .pre .1 .1 .0, start .pre .1 .1 .1 .0) at (c .before .before .next-at .ensures))),
+    )
 
 mul-words : tie.Need-mul-words
-mul-words c = omega (arith, facts (c .before .before .before .before .before .before .before .before .before .before .before .before), c .before .before .before .before .before .before .before .before .before .before .before .before .pre .1 .1 .1 .1 .0)
+mul-words c =
+    let start = c .before .before .before .before .before .before .before .before .before .before .before .before in
+    omega (arith, facts start, start .pre .1 .1 .1 .1 .0)
 
 slice-write-words : tie.Need-slice-write-words
-slice-write-words c = omega (arith, facts (c .before .before .before .before .before .before .before .before .before .before .before .before), c .before .before .before .before .before .before .before .before .before .before .before .before .pre .1 .1 .1 .1 .0)
+slice-write-words c =
+    let start = c .before .before .before .before .before .before .before .before .before .before .before .before in
+    omega (arith, facts start, start .pre .1 .1 .1 .1 .0)
 
 add-t18 : tie.Need-add-t18
-add-t18 c = omega (arith, facts (c .before .before .before .before .before .before .before .before .before .before .before .before), c .before .before .before .before .before .before .before .before .before .before .before .before .pre .1 .1 .1 .1 .0)
+add-t18 c =
+    let start = c .before .before .before .before .before .before .before .before .before .before .before .before in
+    omega (arith, facts start, start .pre .1 .1 .1 .1 .0)
 
 sub-t34 : tie.Need-sub-t34
 sub-t34 c = search needs
@@ -91,9 +152,21 @@ same-length-4 c = search needs
 
 returns-2 : tie.Need-returns-2
 returns-2 c =
-    rw (symbol (c .before .before .before .before .before .before .before .before .before .before .before .before .before))
-    (settled-step (read (c .before .before .before .before .before .before .before .before .before .before .before .before .before .args .image .now)) (length (c .before .before .before .before .before .before .before .before .before .before .before .before .before .args .bytes .now)) (given (c .before .before .before .before .before .before .before .before .before .before .before .before .before)) (facts (c .before .before .before .before .before .before .before .before .before .before .before .before .before)) (one (c .before .before .before .before .before .before .before .before .before .before .before .before .before) .0) (one (c .before .before .before .before .before .before .before .before .before .before .before .before .before) .1) (one (c .before .before .before .before .before .before .before .before .before .before .before .before .before) .2)
-    (no-match _ _ (match-is (length (c .before .before .before .before .before .before .before .before .before .before .before .before .before .args .bytes .now)) (c .before .before .before .before .before .before .before .before .before .before .before .before .before .args .image .now) (c .before .before .before .before .before .before .before .before .before .before .before .before .before .args .table .now) (given (c .before .before .before .before .before .before .before .before .before .before .before .before .before)) (c .before .before .before .before .before .before .before .before .before .before .before .before .before .pre .0) (one (c .before .before .before .before .before .before .before .before .before .before .before .before .before) .0) (one (c .before .before .before .before .before .before .before .before .before .before .before .before .before) .1) (one (c .before .before .before .before .before .before .before .before .before .before .before .before .before) .2) _ (next-is (length (c .before .before .before .before .before .before .before .before .before .before .before .before .before .args .bytes .now)) (c .before .before .before .before .before .before .before .before .before .before .before .before .before .args .image .now) (c .before .before .before .before .before .before .before .before .before .before .before .before .before .args .table .now) (given (c .before .before .before .before .before .before .before .before .before .before .before .before .before)) (c .before .before .before .before .before .before .before .before .before .before .before .before .before .pre .0) (one (c .before .before .before .before .before .before .before .before .before .before .before .before .before) .0) (one (c .before .before .before .before .before .before .before .before .before .before .before .before .before) .1) (one (c .before .before .before .before .before .before .before .before .before .before .before .before .before) .2) _ _ _ (c .before .before .before .before .word-before .ensures) (symbol (c .before .before .before .before .before .before .before .before .before .before .before .before .before)) (rw (c .before .before .before .before .before .before .before .before .before .before .before .before .before .pre .1 .1 .0, c .before .before .before .before .before .before .before .before .before .before .before .before .before .pre .1 .1 .1 .0) at (c .before .before .before .next-at .ensures))) _ (c .before .before .match-word .ensures)) (c .before .if1 .left)) _ _ refl (next-is (length (c .before .before .before .before .before .before .before .before .before .before .before .before .before .args .bytes .now)) (c .before .before .before .before .before .before .before .before .before .before .before .before .before .args .image .now) (c .before .before .before .before .before .before .before .before .before .before .before .before .before .args .table .now) (given (c .before .before .before .before .before .before .before .before .before .before .before .before .before)) (c .before .before .before .before .before .before .before .before .before .before .before .before .before .pre .0) (one (c .before .before .before .before .before .before .before .before .before .before .before .before .before) .0) (one (c .before .before .before .before .before .before .before .before .before .before .before .before .before) .1) (one (c .before .before .before .before .before .before .before .before .before .before .before .before .before) .2) _ _ _ (c .before .before .before .before .word-before .ensures) (symbol (c .before .before .before .before .before .before .before .before .before .before .before .before .before)) (rw (c .before .before .before .before .before .before .before .before .before .before .before .before .before .pre .1 .1 .0, c .before .before .before .before .before .before .before .before .before .before .before .before .before .pre .1 .1 .1 .0) at (c .before .before .before .next-at .ensures))))
+    let next-at = c .before .before .before in
+    let word-before = next-at .before in
+    let start = word-before .before .before .before .before .before .before .before .before .before in
+    let bytes = start .args .bytes .now in
+    let image = start .args .image .now in
+    let table = start .args .table .now in
+    rw (symbol start)
+    (settled-step (read image) (length bytes) (given start) (facts start) (one start .0) (one start .1) (one start .2)
+    (no-match _ _
+    (match-is (length bytes) image table (given start) (start .pre .0) (one start .0) (one start .1) (one start .2) _
+    (next-is (length bytes) image table (given start) (start .pre .0) (one start .0) (one start .1) (one start .2) _ _ _ (word-before .word-before .ensures)
+    (symbol start) (rw (start .pre .1 .1 .0, start .pre .1 .1 .1 .0) at (next-at .next-at .ensures))) _ (c .before .before .match-word .ensures))
+    (c .before .if1 .left)) _ _ refl
+    (next-is (length bytes) image table (given start) (start .pre .0) (one start .0) (one start .1) (one start .2) _ _ _ (word-before .word-before .ensures)
+    (symbol start) (rw (start .pre .1 .1 .0, start .pre .1 .1 .1 .0) at (next-at .next-at .ensures))))
 
 pub step-spec : {M : Type 1} → statement M
 step-spec =

@@ -40,7 +40,9 @@ put-requires c κs = search needs
 
 put-byte-requires : tie.Need-put-byte-requires
 put-byte-requires c κs =
-    let put = reaches 20480 (c .before .put .ensures) (c .before .put .kept .0) (omega arith) (c .before .before .before .before .before .before .pre) in
+    let at-put = c .before in
+    let start = at-put .before .before .before .before .before in
+    let put = reaches 20480 (at-put .put .ensures) (at-put .put .kept .0) (omega arith) (start .pre) in
     omega (arith, put .end, put .size, c .before .before .put-arg .given .0 .1)
 
 symbol-requires : tie.Need-symbol-requires
@@ -51,9 +53,13 @@ enum-told c = search needs
 
 put-refused-requires : tie.Need-put-refused-requires
 put-refused-requires c κs =
-    let put = reaches 20480 (c .before .before .before .before .before .before .before .before .put .ensures) (c .before .before .before .before .before .before .before .before .put .kept .0) (omega arith) (c .before .before .before .before .before .before .before .before .before .before .before .before .before .pre) in
-    let size = c .before .before .before .before .before .before .before .before .before .put-arg .given .0 .1 in
-    let byte = reaches 1 (c .before .before .before .before .before .before .put-byte .ensures) (c .before .before .before .before .before .before .put-byte .kept .0) (omega (arith, put .end, put .size, size)) (omega arith) in
+    let put-byte = c .before .before .before .before .before .before in
+    let at-put = put-byte .before .before in
+    let put-arg = at-put .before in
+    let start = put-arg .before .before .before .before in
+    let put = reaches 20480 (at-put .put .ensures) (at-put .put .kept .0) (omega arith) (start .pre) in
+    let size = put-arg .put-arg .given .0 .1 in
+    let byte = reaches 1 (put-byte .put-byte .ensures) (put-byte .put-byte .kept .0) (omega (arith, put .end, put .size, size)) (omega arith) in
     omega (arith, put .end, put .size, size, byte .end, byte .size)
 
 onward-requires : tie.Need-onward-requires
@@ -63,7 +69,9 @@ enum-known-a : tie.Need-enum-known-a
 enum-known-a c = search needs
 
 cast-offer : tie.Need-cast-offer
-cast-offer c = omega (arith, lookup-below _ _ _ (found _ _ _ (c .before .before .before .before .before .symbol .ensures) (c .before .before .before .a .given .1)))
+cast-offer c =
+    let symbol = c .before .before .before .before .before in
+    omega (arith, lookup-below _ _ _ (found _ _ _ (symbol .symbol .ensures) (c .before .before .before .a .given .1)))
 
 offer-requires : tie.Need-offer-requires
 offer-requires c κs = search needs
@@ -71,14 +79,26 @@ offer-requires c κs = search needs
 put-told-requires : tie.Need-put-told-requires
 put-told-requires c κs =
     let offer = c .before .before .before .before in
-    let short = named-short _ _ _ (found _ _ _ (c .before .before .before .before .before .before .before .before .before .before .symbol .ensures) (c .before .before .before .before .before .before .before .before .a .given .1)) in
-    let put = reaches 24 (c .before .before .before .before .before .before .before .before .before .before .before .before .before .before .before .put .ensures) (c .before .before .before .before .before .before .before .before .before .before .before .before .before .before .before .put .kept .0) (omega arith) short in
-    let size = c .before .before .before .before .before .before .before .before .before .before .before .before .before .before .before .before .put-arg .given .0 .1 in
-    let byte = reaches 1 (c .before .before .before .before .before .before .before .before .before .before .before .before .before .put-byte .ensures) (c .before .before .before .before .before .before .before .before .before .before .before .before .before .put-byte .kept .0) (omega (arith, put .end, put .size, size)) (omega arith) in (
+    let offer-arg = offer .before .before in
+    let a = offer-arg .before .before in
+    let symbol = a .before .before in
+    let put-byte = symbol .before .before .before in
+    let at-put = put-byte .before .before in
+    let put-arg = at-put .before in
+    let short = named-short _ _ _ (found _ _ _ (symbol .symbol .ensures) (a .a .given .1)) in
+    let put = reaches 24 (at-put .put .ensures) (at-put .put .kept .0) (omega arith) short in
+    let size = put-arg .put-arg .given .0 .1 in
+    let byte = reaches 1 (put-byte .put-byte .ensures) (put-byte .put-byte .kept .0) (omega (arith, put .end, put .size, size)) (omega arith) in (
       made-slot _ _ _ _ _ _ _ (offer .offer .ensures),
       (
         made-small _ _ _ _ _ _ _ (offer .offer .ensures),
-        (c .before .before .put-told-arg2 .given .0, (offer .offer .kept .1 .1 .1 .0 ∙ c .before .before .before .before .before .before .offer-arg .given .0 .1, (omega (arith, put .end, byte .end), omega (arith, put .size, size, byte .size)))),
+        (
+          c .before .before .put-told-arg2 .given .0,
+          (
+            offer .offer .kept .1 .1 .1 .0 ∙ offer-arg .offer-arg .given .0 .1,
+            (omega (arith, put .end, byte .end), omega (arith, put .size, size, byte .size)),
+          ),
+        ),
       ),
     )
 
@@ -88,33 +108,40 @@ onward-requires-2 c κs = search needs
 returns : tie.Need-returns
 unfolding offering offeredName offered
 returns c =
-    let start = c .before .before .before .before .before .before .before .before .before .before .before .before .before .before .before in
-    let w = watchWith (walkIn (start .args .self)) (start .args .image .now) (start .args .table .now) (start .args .names .now) (start .args .bytes .now) (start .args .words .now) in
-    let unknown = missing _ _ (c .before .before .before .before .before .symbol .ensures) (c .before .before .before .enum-told .given .1) in
-    let all =
-    writes-all
+    let put-refused = c .before in
+    let symbol = put-refused .before .before .before .before in
+    let put-byte = symbol .before .before .before in
+    let put = put-byte .before .before in
+    let put-arg = put .before in
+    let start = put-arg .before .before .before .before in
+    let w = watchWith (walkIn (start .args .self)) (start .args .image .now) (start .args .table .now) (start .args .names .now) (start .args .bytes .now)
+    (start .args .words .now) in
+    let unknown = missing _ _ (symbol .symbol .ensures) (c .before .before .before .enum-told .given .1) in
+    let all = writes-all
     (writes-as (line-unknown w (start .args .x .now) unknown)
-    (writes-then (c .before .before .before .before .before .before .before .before .before .before .put .ensures) (writes-then (c .before .before .before .before .before .before .before .before .put-byte .ensures) (c .before .put-refused .ensures))))
-    in
+    (writes-then (put .put .ensures) (writes-then (put-byte .put-byte .ensures) (put-refused .put-refused .ensures)))) in
     turn-is _ _ _ _ _ _ _ _ (all .0) (c .onward .ensures) (rw unknown) (all .1)
-    (c .before .put-refused .kept .0 ∙ c .before .before .before .before .before .before .before .before .put-byte .kept .0 ∙ c .before .before .before .before .before .before .before .before .before .before .put .kept .0)
-    (c .before .before .before .before .before .before .before .before .before .before .before .put-arg .given .0 .1)
+    (put-refused .put-refused .kept .0 ∙ put-byte .put-byte .kept .0 ∙ put .put .kept .0) (put-arg .put-arg .given .0 .1)
 
 returns-2 : tie.Need-returns-2
 unfolding offering offeredName offered
 returns-2 c =
-    let start = c .before .before .before .before .before .before .before .before .before .before .before .before .before .before .before .before .before .before .before .before .before .before .before in
-    let w = watchWith (walkIn (start .args .self)) (start .args .image .now) (start .args .table .now) (start .args .names .now) (start .args .bytes .now) (start .args .words .now) in
-    let known = found _ _ _ (c .before .before .before .before .before .before .before .before .before .before .before .before .before .symbol .ensures) (c .before .before .before .before .before .before .before .before .before .before .before .a .given .1) in
-    let line = line-offered w (start .args .x .now) _ _ _ _ known (c .before .before .before .before .before .before .before .offer .ensures) in
-    let all =
-    writes-all (writes-as line (writes-then (c .before .before .before .before .before .before .before .before .before .before .before .before .before .before .before .before .before .before .put .ensures) (writes-then (c .before .before .before .before .before .before .before .before .before .before .before .before .before .before .before .before .put-byte .ensures) (c .before .before .put-told .ensures))))
-    in
+    let put-told = c .before .before in
+    let offer = put-told .before .before .before .before .before in
+    let a = offer .before .before .before .before in
+    let symbol = a .before .before in
+    let put-byte = symbol .before .before .before in
+    let put = put-byte .before .before in
+    let put-arg = put .before in
+    let start = put-arg .before .before .before .before in
+    let w = watchWith (walkIn (start .args .self)) (start .args .image .now) (start .args .table .now) (start .args .names .now) (start .args .bytes .now)
+    (start .args .words .now) in
+    let known = found _ _ _ (symbol .symbol .ensures) (a .a .given .1) in
+    let line = line-offered w (start .args .x .now) _ _ _ _ known (offer .offer .ensures) in
+    let all = writes-all (writes-as line (writes-then (put .put .ensures) (writes-then (put-byte .put-byte .ensures) (put-told .put-told .ensures)))) in
     turn-is _ _ _ _ _ _ _ _ (all .0) (c .onward2 .ensures)
-    (left-by w (start .args .x .now) _ _ known (ap (λ (o : Outcome). o .monitor) (c .before .before .before .before .before .before .before .offer .ensures)))
-    (all .1)
-    (c .before .before .put-told .kept .0 ∙ c .before .before .before .before .before .before .before .before .before .before .before .before .before .before .before .before .put-byte .kept .0 ∙ c .before .before .before .before .before .before .before .before .before .before .before .before .before .before .before .before .before .before .put .kept .0)
-    (c .before .before .before .before .before .before .before .before .before .before .before .before .before .before .before .before .before .before .before .put-arg .given .0 .1)
+    (left-by w (start .args .x .now) _ _ known (ap (λ (o : Outcome). o .monitor) (offer .offer .ensures))) (all .1)
+    (put-told .put-told .kept .0 ∙ put-byte .put-byte .kept .0 ∙ put .put .kept .0) (put-arg .put-arg .given .0 .1)
 
 pub named-spec : {M : Type 1} → statement M
 named-spec =

@@ -15,20 +15,28 @@ within-requires-2 : tie.Need-within-requires-2
 within-requires-2 c κs = search needs
 
 slice-aggregate-turn : tie.Need-slice-aggregate-turn
-slice-aggregate-turn c = sym (length-take-le _ _ (omega (arith, c .before .before .before .before .within .ensures, c .before .before .images .given .0)))
+slice-aggregate-turn c =
+    let within = c .before .before .before .before in
+    sym (length-take-le _ _ (omega (arith, within .within .ensures, c .before .before .images .given .0)))
 
 slice-aggregate-turn-2 : tie.Need-slice-aggregate-turn-2
-slice-aggregate-turn-2 c = sym (length-take-le _ _ (omega (arith, c .before .before .before .before .within2 .ensures, c .before .before .tables .given .0)))
+slice-aggregate-turn-2 c =
+    let within2 = c .before .before .before .before in
+    sym (length-take-le _ _ (omega (arith, within2 .within2 .ensures, c .before .before .tables .given .0)))
 
 turn-requires : tie.Need-turn-requires
 turn-requires c κs = search needs
 
 returns : tie.Need-returns
 returns c =
-    let start = c .before .before .before .before .before .before .before .before .before .before .before in
-    let image = first-part (start .args .self .image) 1284 (start .args .image .now) (c .before .before .before .before .before .before .before .images .given .0) in
-    let table = first-part (start .args .self .table) 16931 (start .args .table .now) (c .before .before .before .before .before .before .tables .given .0) in
-    (rw (← image, ← table, ← c .before .before .before .before .before .before .before .before .before .within .ensures, ← c .before .before .before .before .before .before .before .before .within2 .ensures) (c .turn .ensures .0), c .turn .ensures .1)
+    let tables = c .before .before .before .before .before .before in
+    let images = tables .before in
+    let within2 = images .before in
+    let within = within2 .before in
+    let start = within .before .before in
+    let image = first-part (start .args .self .image) 1284 (start .args .image .now) (images .images .given .0) in
+    let table = first-part (start .args .self .table) 16931 (start .args .table .now) (tables .tables .given .0) in
+    (rw (← image, ← table, ← within .within .ensures, ← within2 .within2 .ensures) (c .turn .ensures .0), c .turn .ensures .1)
 
 pub next-spec : {M : Type 1} → statement M
 next-spec =

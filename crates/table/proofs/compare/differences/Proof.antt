@@ -60,7 +60,8 @@ loop-less c = search needs
 loop-again : tie.Need-loop-again Inv-loop μ-loop
 loop-again c =
     let turn = c .before .before .before .before in
-    let args = turn .before .args in
+    let start = turn .before in
+    let args = start .args in
     let own : ℕ → ℕ = λ k. transition (args .rows .now) (args .s) (args .q) k in
     let other : ℕ → ℕ = λ k. transition (args .rows .now) (args .s) (args .f) k in
     let known = turn .loop .inv .2 in
@@ -72,9 +73,10 @@ loop-again c =
 returns : tie.Need-returns Inv-loop μ-loop
 unfolding differing
 returns c =
+    let loop = c .before in
     let args = c .before .before .args in
-    let done : c .before .loop .a ≡ args .s = omega arith in
-    c .before .loop .inv .2
+    let done : loop .loop .a ≡ args .s = omega arith in
+    loop .loop .inv .2
     ∙ ap (tally (λ k. not (eqb (transition (args .rows .now) (args .s) (args .q) k) (transition (args .rows .now) (args .s) (args .f) k)))) done
 
 pub differences-spec : {M : Type 1} → statement M

@@ -43,9 +43,9 @@ word-requires c κs = search needs
 
 returns-2 : tie.Need-returns-2
 returns-2 c =
-    let sized = c .before .before .before in
-    let start = sized .before .before .before .before .before in
-    other-states (read (start .args .image .now)) (start .args .table .now) (start .pre .1 .nodes) (sized .before .symbols .ensures)
+    let symbols = c .before .before .before .before in
+    let start = symbols .before .before .before .before in
+    other-states (read (start .args .image .now)) (start .args .table .now) (start .pre .1 .nodes) (symbols .symbols .ensures)
     (λ e. c .if2 .taken (c .before .word .ensures ∙ e))
 
 shared-slice-read-word-2 : tie.Need-shared-slice-read-word-2
@@ -56,9 +56,9 @@ word-requires-2 c κs = search needs
 
 returns-3 : tie.Need-returns-3
 returns-3 c =
-    let sized = c .before .before .before .before .before .before in
-    let start = sized .before .before .before .before .before in
-    other-symbols (read (start .args .image .now)) (start .args .table .now) (start .pre .1 .nodes) (sized .before .symbols .ensures)
+    let symbols = c .before .before .before .before .before .before .before in
+    let start = symbols .before .before .before .before in
+    other-symbols (read (start .args .image .now)) (start .args .table .now) (start .pre .1 .nodes) (symbols .symbols .ensures)
     (λ e. c .if3 .taken (c .before .word2 .ensures ∙ e))
 
 sub-states-hold : tie.Need-sub-states-hold
@@ -85,10 +85,9 @@ part-states-hold-end-2 c = search needs
 states-hold-requires : tie.Need-states-hold-requires
 states-hold-requires c κs =
     let sized = c .before .before .before .before .before .before .before .before .before in
-    let start = sized .before .before .before .before .before in
-    let parts =
-    part-lengths (read (start .args .image .now)) (start .args .table .now) (start .pre .1 .nodes) (sized .before .symbols .ensures) (sized .if1 .left)
-    in
+    let symbols = sized .before in
+    let start = symbols .before .before .before .before in
+    let parts = part-lengths (read (start .args .image .now)) (start .args .table .now) (start .pre .1 .nodes) (symbols .symbols .ensures) (sized .if1 .left) in
     (start .pre .0, (start .pre .1, parts))
 
 same-length : tie.Need-same-length
@@ -96,14 +95,18 @@ same-length c = search needs
 
 returns-4 : tie.Need-returns-4
 returns-4 c =
-    let third = c .before .before .before .before .before .before in
-    let second = third .before .before .before in
-    let sized = second .before .before .before in
-    let start = sized .before .before .before .before .before in
-    compared (read (start .args .image .now)) (start .args .table .now) (start .pre .1 .nodes) (sized .before .symbols .ensures)
+    let states-hold = c .before .before in
+    let third = states-hold .before .before .before .before in
+    let word2 = third .before in
+    let second = word2 .before .before in
+    let word = second .before in
+    let sized = word .before .before in
+    let symbols = sized .before in
+    let start = symbols .before .before .before .before in
+    compared (read (start .args .image .now)) (start .args .table .now) (start .pre .1 .nodes) (symbols .symbols .ensures)
     (valid-in-range (start .args .image .now) (start .pre .0)) (sized .if1 .left)
-    (sym (second .before .word .ensures) ∙ second .if2 .left) (sym (third .before .word2 .ensures) ∙ third .if3 .left)
-    (c .before .before .states-hold .result) (c .before .before .states-hold .ensures)
+    (sym (word .word .ensures) ∙ second .if2 .left) (sym (word2 .word2 .ensures) ∙ third .if3 .left)
+    (states-hold .states-hold .result) (states-hold .states-hold .ensures)
 
 pub holds-spec : {M : Type 1} → statement M
 holds-spec =

@@ -11,7 +11,9 @@ use Rattle.table.proofs.compare.led_to.Tie as tie
 inside : (c : tie.After-word2)
     → c .before .before .word .result * (c .before .before .before .before .before .before .args .s) + c .word2 .result
     < length (c .before .before .before .before .before .before .args .rows .now)
-inside c = rw (c .word2 .ensures, c .before .before .word .ensures) (c .before .before .before .before .before .before .pre .1)
+inside c =
+    let start = c .before .before .before .before .before .before in
+    rw (c .word2 .ensures, c .before .before .word .ensures) (start .pre .1)
 
 mul-word : tie.Need-mul-word
 mul-word c = search needs
@@ -56,7 +58,9 @@ word-requires-3 : tie.Need-word-requires-3
 word-requires-3 c κs = search needs
 
 returns : tie.Need-returns
-returns c = rw (c .word3 .ensures, c .before .before .word2 .ensures, c .before .before .before .before .word .ensures)
+returns c =
+    let word = c .before .before .before .before in
+    rw (c .word3 .ensures, c .before .before .word2 .ensures, word .word .ensures)
 
 pub led-to-spec : {M : Type 1} → statement M
 led-to-spec =

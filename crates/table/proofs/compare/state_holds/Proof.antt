@@ -41,7 +41,8 @@ word-requires c κs = search needs
 
 differences-requires : tie.Need-differences-requires
 differences-requires c κs =
-    let pre = c .before .before .before .before .before .before .before .before .before .before .pre in
+    let start = c .before .before .before .before .before .before .before .before .before .before in
+    let pre = start .pre in
     (pre .0, (pre .1 .1 .1 .1 .0, rw (c .word .ensures) (pre .1 .1 .1 .1 .1)))
 
 mul-if3 : tie.Need-mul-if3
@@ -62,11 +63,14 @@ returns-3 c = λ p.
 
 returns-4 : tie.Need-returns-4
 returns-4 c =
-    let led = c .before .before .before .before .before .before .before .before in
-    let start = led .before .before .before .before .before in
+    let if2 = c .before .before .before .before .before in
+    let inherited = if2 .before .before in
+    let led = inherited .before in
+    let led-to = led .before in
+    let start = led-to .before .before .before .before in
     passes (start .args .trie .now) (start .args .matches .now) (start .args .rows .now) (start .args .s) (start .args .q)
-    (led .before .led-to .ensures) (led .if1 .left)
-    (c .before .before .before .before .before .before .before .inherited .ensures) (c .before .before .before .before .before .if2 .left)
+    (led-to .led-to .ensures) (led .if1 .left)
+    (inherited .inherited .ensures) (if2 .if2 .left)
     (c .before .before .before .word .ensures) (c .before .before .differences .ensures) (c .if3 .left)
 
 pub state-holds-spec : {M : Type 1} → statement M

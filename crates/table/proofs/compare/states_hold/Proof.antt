@@ -8,7 +8,19 @@ use lib.ListN.{length, length-set}
 use borrow.Author.Needs.{needs}
 use Rattle.layout.specs.Image.{read}
 use Rattle.layout.proofs.Image.{valid-in-range}
-use Rattle.table.proofs.CheckLoop.{Checking, root-asks, checking-root, wrong-root, checking-end, node-room, failure-asks, no-failure, no-state, state-asks, checking-more}
+use Rattle.table.proofs.CheckLoop.{
+  Checking,
+  root-asks,
+  checking-root,
+  wrong-root,
+  checking-end,
+  node-room,
+  failure-asks,
+  no-failure,
+  no-state,
+  state-asks,
+  checking-more,
+}
 use Rattle.table.proofs.compare.states_hold.Statement.{statement}
 use Rattle.table.proofs.compare.states_hold.Tie as tie
 
@@ -21,10 +33,14 @@ abbrev μ-loop : tie.MeasureT-loop
 -- the node's last word stands in the trie
 node-of : (c : tie.Else2 Inv-loop μ-loop)
     → 8 * (c .before .before .before .before .loop .q) + 7 < length (c .before .before .before .before .loop .trie)
-node-of c = node-room (c .before .before .before .before .loop .inv .1) (c .before .before .before .loop-test .taken)
+node-of c =
+    let loop = c .before .before .before .before in
+    node-room (loop .loop .inv .1) (c .before .before .before .loop-test .taken)
 
 symbols-requires : tie.Need-symbols-requires Inv-loop μ-loop
-symbols-requires c κs = c .before .before .before .before .pre .0
+symbols-requires c κs =
+    let start = c .before .before .before .before in
+    start .pre .0
 
 root-holds-requires : tie.Need-root-holds-requires Inv-loop μ-loop
 root-holds-requires c κs =
@@ -39,36 +55,43 @@ same-length c = refl
 
 returns : tie.Need-returns Inv-loop μ-loop
 returns c =
-    let start = c .before .before .before .before .before .before .before .before in
+    let root-holds = c .before in
+    let start = root-holds .before .before .before .before .before .before .before in
     let pre = start .pre in
     wrong-root (read (start .args .image .now)) (start .args .matches .now) (start .args .rows .now)
     (valid-in-range (start .args .image .now) (pre .0)) (pre .1 .0 .nodes) (c .before .before .before .symbols .ensures) (pre .1 .0 .trie)
-    (c .before .root-holds .result) (c .if1 .taken) (c .before .root-holds .ensures)
+    (root-holds .root-holds .result) (c .if1 .taken) (root-holds .root-holds .ensures)
 
 loop-holds : tie.Need-loop-holds Inv-loop μ-loop
 loop-holds c =
-    let start = c .before .before .before .before .before .before .before .before in
+    let root-holds = c .before in
+    let start = root-holds .before .before .before .before .before .before .before in
     let pre = start .pre in (
       refl,
       checking-root (read (start .args .image .now)) (start .args .matches .now) (start .args .rows .now)
           (valid-in-range (start .args .image .now) (pre .0)) (pre .1 .0 .nodes) (c .before .before .before .symbols .ensures)
           (pre .1 .0 .trie) (pre .1 .0 .owned) (pre .1 .1 .0) (pre .1 .1 .1)
-          (c .before .root-holds .result) (c .if1 .left) (c .before .root-holds .ensures),
+          (root-holds .root-holds .result) (c .if1 .left) (root-holds .root-holds .ensures),
     )
 
 failure-of-requires : tie.Need-failure-of-requires Inv-loop μ-loop
 failure-of-requires c κs = failure-asks (c .before .before .loop .inv .1) (c .before .loop-test .taken)
 
 same-length-2 : tie.Need-same-length-2 Inv-loop μ-loop
-same-length-2 c = c .before .before .before .before .loop .inv .0
+same-length-2 c =
+    let loop = c .before .before .before .before in
+    loop .loop .inv .0
 
 returns-2 : tie.Need-returns-2 Inv-loop μ-loop
 returns-2 c =
     let turn = c .before .before .before in
-    no-failure (turn .before .loop .inv .1) (turn .loop-test .taken) (rw (← c .before .failure-of .ensures) (c .if2 .taken))
+    let loop = turn .before in
+    no-failure (loop .loop .inv .1) (turn .loop-test .taken) (rw (← c .before .failure-of .ensures) (c .if2 .taken))
 
 cast-trie : tie.Need-cast-trie Inv-loop μ-loop
-cast-trie c = omega (arith, c .if2 .left, c .before .before .before .before .loop .inv .1 .few)
+cast-trie c =
+    let loop = c .before .before .before .before in
+    omega (arith, c .if2 .left, loop .loop .inv .1 .few)
 
 mul-trie : tie.Need-mul-trie Inv-loop μ-loop
 mul-trie c = omega (arith, node-of c)
@@ -85,18 +108,25 @@ slice-write-trie c = omega (arith, node-of c)
 state-holds-requires : tie.Need-state-holds-requires Inv-loop μ-loop
 state-holds-requires c κs =
     let found = c .before .before in
-    let turn = found .before .before .before .loop in
-    state-asks (turn .inv .1) (found .before .before .loop-test .taken) (found .failure-of .ensures) (c .before .if2 .left)
+    let loop-test = found .before .before in
+    let loop = loop-test .before in
+    let turn = loop .loop in
+    state-asks (turn .inv .1) (loop-test .loop-test .taken) (found .failure-of .ensures) (c .before .if2 .left)
 
 same-length-3 : tie.Need-same-length-3 Inv-loop μ-loop
-same-length-3 c = rw length-set (c .before .before .before .before .before .before .before .loop .inv .0)
+same-length-3 c =
+    let loop = c .before .before .before .before .before .before .before in
+    rw length-set (loop .loop .inv .0)
 
 returns-3 : tie.Need-returns-3 Inv-loop μ-loop
 returns-3 c =
-    let found = c .before .before .before .before in
-    let turn = found .before .before .before .loop in
-    no-state (turn .inv .1) (found .before .before .loop-test .taken) (found .failure-of .ensures)
-    (c .before .state-holds .result) (c .if3 .taken) (c .before .state-holds .ensures)
+    let state-holds = c .before in
+    let found = state-holds .before .before .before in
+    let loop-test = found .before .before in
+    let loop = loop-test .before in
+    let turn = loop .loop in
+    no-state (turn .inv .1) (loop-test .loop-test .taken) (found .failure-of .ensures)
+    (state-holds .state-holds .result) (c .if3 .taken) (state-holds .state-holds .ensures)
 
 add-q : tie.Need-add-q Inv-loop μ-loop
 add-q c = search needs
@@ -106,11 +136,14 @@ loop-less c = search needs
 
 loop-again : tie.Need-loop-again Inv-loop μ-loop
 loop-again c =
-    let found = c .before .before .before .before in
-    let turn = found .before .before .before .loop in (
+    let state-holds = c .before in
+    let found = state-holds .before .before .before in
+    let loop-test = found .before .before in
+    let loop = loop-test .before in
+    let turn = loop .loop in (
       rw length-set (turn .inv .0),
-      checking-more (turn .inv .1) (found .before .before .loop-test .taken) (found .failure-of .ensures) (c .before .before .before .if2 .left)
-          (c .before .state-holds .result) (c .if3 .left) (c .before .state-holds .ensures),
+      checking-more (turn .inv .1) (loop-test .loop-test .taken) (found .failure-of .ensures) (c .before .before .before .if2 .left)
+          (state-holds .state-holds .result) (c .if3 .left) (state-holds .state-holds .ensures),
     )
 
 same-length-4 : tie.Need-same-length-4 Inv-loop μ-loop

@@ -42,7 +42,8 @@ loop-less c = search needs
 loop-again : tie.Need-loop-again Inv-loop μ-loop
 loop-again c =
     let turn = c .before .before .before in
-    let own : ℕ → ℕ = λ k. getD (turn .before .args .rows .now) k 0 in
+    let start = turn .before in
+    let own : ℕ → ℕ = λ k. getD (start .args .rows .now) k 0 in
     let known = turn .loop .inv .2 in
     ⊎-elim
     (λ w. (omega arith, omega arith, w .1 ∙ ap (λ (n : ℕ). n + 1) known ∙ sym (tally-differ own (λ k. 0) (turn .loop .a) (w .0 .taken))))
@@ -52,8 +53,9 @@ loop-again c =
 returns : tie.Need-returns Inv-loop μ-loop
 unfolding leaving
 returns c =
-    let done : c .before .loop .a ≡ c .before .before .args .s = omega arith in
-    rw (← done) (c .before .loop .inv .2)
+    let loop = c .before in
+    let done : loop .loop .a ≡ c .before .before .args .s = omega arith in
+    rw (← done) (loop .loop .inv .2)
 
 pub transitions-spec : {M : Type 1} → statement M
 transitions-spec =

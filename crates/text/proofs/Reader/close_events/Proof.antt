@@ -15,7 +15,8 @@ at-requires : tie.Need-at-requires
 at-requires c κs = search needs
 
 returns-2 : tie.Need-returns-2
-returns-2 c = λ a b z d told s sound k. rw (c .at .ensures) (some-events k (place-at _ (s .place) (sym (place-number s (k .numbers)) ∙ told)) (c .before .if1 .left))
+returns-2 c =
+    λ a b z d told s sound k. rw (c .at .ensures) (some-events k (place-at _ (s .place) (sym (place-number s (k .numbers)) ∙ told)) (c .before .if1 .left))
 
 pub close-events-spec : {M : Type 1} → statement M
 close-events-spec = tie.close (tie.spec returns at-requires returns-2)

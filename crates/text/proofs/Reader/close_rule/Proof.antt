@@ -45,8 +45,11 @@ same-length c = search needs
 returns : tie.Need-returns
 unfolding closeRule
 returns c =
-    let lent = c .before .before .before .before .args in
-    λ a b d s closed k. rw (c .before .at .ensures, sets-four (lent .contents .now) (4 * lent .self .rules) (lent .self .left) (lent .self .kind) (lent .self .side) 0) (keeps-rule k closed (c .before .before .before .before .pre))
+    let start = c .before .before .before .before in
+    let lent = start .args in
+    λ a b d s closed k. rw
+    (c .before .at .ensures, sets-four (lent .contents .now) (4 * lent .self .rules) (lent .self .left) (lent .self .kind) (lent .self .side) 0)
+    (keeps-rule k closed (start .pre))
 
 pub close-rule-spec : {M : Type 1} → statement M
 close-rule-spec =

@@ -18,10 +18,17 @@ at-requires : tie.Need-at-requires
 at-requires c κs = search needs
 
 returns : tie.Need-returns
-returns c = λ a b z d told s sound k. rw (c .at .ensures) (first-events k (c .before .before .before .before .before .args .x .now) (place-at _ (s .place) (sym (place-number s (k .numbers)) ∙ told)) (sym (c .before .before .is-same .ensures) ∙ c .before .if1 .taken))
+returns c =
+    let start = c .before .before .before .before .before in
+    λ a b z d told s sound k. rw (c .at .ensures)
+    (first-events k (start .args .x .now) (place-at _ (s .place) (sym (place-number s (k .numbers)) ∙ told))
+    (sym (c .before .before .is-same .ensures) ∙ c .before .if1 .taken))
 
 returns-2 : tie.Need-returns-2
-returns-2 c = λ a b z d told s sound k. first-other k (c .before .before .before .before .args .x .now) (place-at _ (s .place) (sym (place-number s (k .numbers)) ∙ told)) (sym (c .before .is-same .ensures) ∙ c .if1 .left)
+returns-2 c =
+    let start = c .before .before .before .before in
+    λ a b z d told s sound k. first-other k (start .args .x .now) (place-at _ (s .place) (sym (place-number s (k .numbers)) ∙ told))
+    (sym (c .before .is-same .ensures) ∙ c .if1 .left)
 
 pub first-spec : {M : Type 1} → statement M
 first-spec =

@@ -30,19 +30,28 @@ enum-told-3 : tie.Need-enum-told-3
 enum-told-3 c = search needs
 
 returns : tie.Need-returns
-returns c = λ b z s sound k. rw (rule-65 s (c .before .before .before .before .before .before .before .args .x .now) (place-at _ (s .place) (sym (place-number s (k .numbers)) ∙ c .before .before .enum-told3 .given .1)) (omega (arith, rules-number s (k .numbers), c .if1 .taken))) refl
+returns c =
+    let start = c .before .before .before .before .before .before .before in
+    λ b z s sound k. rw
+    (rule-65 s (start .args .x .now) (place-at _ (s .place) (sym (place-number s (k .numbers)) ∙ c .before .before .enum-told3 .given .1))
+    (omega (arith, rules-number s (k .numbers), c .if1 .taken))) refl
 
 side-symbol-requires : tie.Need-side-symbol-requires
 side-symbol-requires c κs =
-    let q = c .before .before .before .before .before .before .before .before .before .pre in
-    (omega (arith, symbol-room (q .0), q .1 .0), (q .1 .1 .1, λ low. omega (arith, first-room (q .0) (c .before .before .before .before .enum-told3 .given .1) (c .before .before .if1 .left), q .1 .1 .0)))
+    let enum-told3 = c .before .before .before .before in
+    let start = enum-told3 .before .before .before .before .before in
+    let q = start .pre in (
+      omega (arith, symbol-room (q .0), q .1 .0),
+      (q .1 .1 .1, λ low. omega (arith, first-room (q .0) (enum-told3 .enum-told3 .given .1) (c .before .before .if1 .left), q .1 .1 .0)),
+    )
 
 enum-told-4 : tie.Need-enum-told-4
 enum-told-4 c = search needs
 
 side-symbol-requires-2 : tie.Need-side-symbol-requires-2
 side-symbol-requires-2 c κs =
-    let q = c .before .before .before .before .before .before .before .pre in
+    let start = c .before .before .before .before .before .before .before in
+    let q = start .pre in
     (omega (arith, symbol-room (q .0), q .1 .0), (q .1 .1 .1, λ low. omega (arith, left-room (q .0) (c .before .before .enum-told4 .given .1) low, q .1 .1 .0)))
 
 enum-told-5 : tie.Need-enum-told-5
@@ -50,8 +59,11 @@ enum-told-5 c = search needs
 
 side-symbol-requires-3 : tie.Need-side-symbol-requires-3
 side-symbol-requires-3 c κs =
-    let q = c .before .before .before .before .before .before .before .pre in
-    (omega (arith, symbol-room (q .0), q .1 .0), (q .1 .1 .1, λ low. omega (arith, right-room (q .0) (c .before .before .enum-told5 .given .1) low, q .1 .1 .0)))
+    let start = c .before .before .before .before .before .before .before in
+    let q = start .pre in (
+      omega (arith, symbol-room (q .0), q .1 .0),
+      (q .1 .1 .1, λ low. omega (arith, right-room (q .0) (c .before .before .enum-told5 .given .1) low, q .1 .1 .0)),
+    )
 
 enum-told-6 : tie.Need-enum-told-6
 enum-told-6 c = search needs
@@ -63,7 +75,9 @@ same-length : tie.Need-same-length
 same-length c = search needs
 
 returns-3 : tie.Need-returns-3
-returns-3 c = λ b z s sound k. c .before .before .event .ensures b z _ (c .before .before .before .before .enum-told2 .given .1) s sound k
+returns-3 c =
+    let enum-told2 = c .before .before .before .before in
+    λ b z s sound k. c .before .before .event .ensures b z _ (enum-told2 .enum-told2 .given .1) s sound k
 
 same-length-2 : tie.Need-same-length-2
 same-length-2 c = search needs
@@ -72,7 +86,15 @@ same-length-3 : tie.Need-same-length-3
 same-length-3 c = search needs
 
 returns-4 : tie.Need-returns-4
-returns-4 c = λ b z s sound k. let here = place-at _ (s .place) (sym (place-number s (k .numbers)) ∙ c .before .before .before .before .before .before .before .before .before .enum-told3 .given .1) in rw (name-between s (c .before .before .before .before .before .before .before .before .before .before .before .before .before .before .args .x .now) here (omega (arith, rules-number s (k .numbers), c .before .before .before .before .before .before .before .if1 .left))) (c .before .before .before .before .side-symbol .ensures b z [] InLeft s (first-left (s .place) here) sound k)
+returns-4 c =
+    let side-symbol = c .before .before .before .before in
+    let if1 = side-symbol .before .before .before in
+    let enum-told3 = if1 .before .before in
+    let start = enum-told3 .before .before .before .before .before in
+    λ b z s sound k.
+    let here = place-at _ (s .place) (sym (place-number s (k .numbers)) ∙ enum-told3 .enum-told3 .given .1) in rw
+    (name-between s (start .args .x .now) here (omega (arith, rules-number s (k .numbers), if1 .if1 .left)))
+    (side-symbol .side-symbol .ensures b z [] InLeft s (first-left (s .place) here) sound k)
 
 same-length-4 : tie.Need-same-length-4
 same-length-4 c = search needs
@@ -81,7 +103,14 @@ same-length-5 : tie.Need-same-length-5
 same-length-5 c = search needs
 
 returns-5 : tie.Need-returns-5
-returns-5 c = λ b z s sound k. let here = place-at _ (s .place) (sym (place-number s (k .numbers)) ∙ c .before .before .before .before .before .before .before .enum-told4 .given .1) in rw (name-left s (c .before .before .before .before .before .before .before .before .before .before .before .before .args .x .now) (here .0) (here .1)) (c .before .before .before .before .side-symbol2 .ensures b z (here .0) InLeft s (next-left (s .place) (here .0) (here .1)) sound k)
+returns-5 c =
+    let side-symbol2 = c .before .before .before .before in
+    let enum-told4 = side-symbol2 .before .before .before in
+    let start = enum-told4 .before .before .before .before .before in
+    λ b z s sound k.
+    let here = place-at _ (s .place) (sym (place-number s (k .numbers)) ∙ enum-told4 .enum-told4 .given .1) in rw
+    (name-left s (start .args .x .now) (here .0) (here .1))
+    (side-symbol2 .side-symbol2 .ensures b z (here .0) InLeft s (next-left (s .place) (here .0) (here .1)) sound k)
 
 same-length-6 : tie.Need-same-length-6
 same-length-6 c = search needs
@@ -90,10 +119,21 @@ same-length-7 : tie.Need-same-length-7
 same-length-7 c = search needs
 
 returns-6 : tie.Need-returns-6
-returns-6 c = λ b z s sound k. let here = place-at _ (s .place) (sym (place-number s (k .numbers)) ∙ c .before .before .before .before .before .before .before .enum-told5 .given .1) in rw (name-right s (c .before .before .before .before .before .before .before .before .before .before .before .before .args .x .now) (here .0) (here .1 .0) (here .1 .1)) (c .before .before .before .before .side-symbol3 .ensures b z (here .1 .0) (InRight (here .0)) s (next-right (s .place) (here .0) (here .1 .0) (here .1 .1)) sound k)
+returns-6 c =
+    let side-symbol3 = c .before .before .before .before in
+    let enum-told5 = side-symbol3 .before .before .before in
+    let start = enum-told5 .before .before .before .before .before in
+    λ b z s sound k.
+    let here = place-at _ (s .place) (sym (place-number s (k .numbers)) ∙ enum-told5 .enum-told5 .given .1) in rw
+    (name-right s (start .args .x .now) (here .0) (here .1 .0) (here .1 .1))
+    (side-symbol3 .side-symbol3 .ensures b z (here .1 .0) (InRight (here .0)) s (next-right (s .place) (here .0) (here .1 .0) (here .1 .1)) sound k)
 
 returns-7 : tie.Need-returns-7
-returns-7 c = λ b z s sound k. let here = place-at _ (s .place) (sym (place-number s (k .numbers)) ∙ c .enum-told6 .given .1) in rw (name-ending s (c .before .before .before .before .before .args .x .now) (here .0) (here .1 .0) (here .1 .1)) refl
+returns-7 c =
+    let start = c .before .before .before .before .before in
+    λ b z s sound k.
+    let here = place-at _ (s .place) (sym (place-number s (k .numbers)) ∙ c .enum-told6 .given .1) in rw
+    (name-ending s (start .args .x .now) (here .0) (here .1 .0) (here .1 .1)) refl
 
 pub name-spec : {M : Type 1} → statement M
 name-spec =

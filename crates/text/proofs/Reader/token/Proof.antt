@@ -12,7 +12,8 @@ enum-told c = search needs
 
 name-requires : tie.Need-name-requires
 name-requires c κs =
-    let q = c .before .before .before .before .before .before .before .before .before .pre in
+    let start = c .before .before .before .before .before .before .before .before .before in
+    let q = start .pre in
     (q .0, (q .1 .1 .0, (q .1 .1 .3, rw (c .before .before .enum-told .given .1) at (q .1 .0))))
 
 enum-told-2 : tie.Need-enum-told-2
@@ -20,7 +21,8 @@ enum-told-2 c = search needs
 
 word-requires : tie.Need-word-requires
 word-requires c κs =
-    let q = c .before .before .before .before .before .before .before .before .pre in
+    let start = c .before .before .before .before .before .before .before .before in
+    let q = start .pre in
     (q .0, (q .1 .1 .1, rw (c .before .enum-told2 .given .1) at (q .1 .0)))
 
 enum-told-3 : tie.Need-enum-told-3
@@ -46,14 +48,19 @@ same-length-2 c = search needs
 
 returns : tie.Need-returns
 unfolding afterRun afterToken tokenAs
-returns c = λ s sound k. rw (c .before .before .before .before .before .before .before .enum-told .given .1) (c .before .before .before .before .name .ensures _ _ s sound k)
+returns c =
+    let name = c .before .before .before .before in
+    let enum-told = name .before .before .before in
+    λ s sound k. rw (enum-told .enum-told .given .1) (name .name .ensures _ _ s sound k)
 
 same-length-3 : tie.Need-same-length-3
 same-length-3 c = search needs
 
 returns-2 : tie.Need-returns-2
 unfolding afterRun afterToken tokenAs
-returns-2 c = λ s sound k. rw (c .before .before .before .before .enum-told2 .given .1) (c .before .before .word .ensures _ _ _ s sound k)
+returns-2 c =
+    let enum-told2 = c .before .before .before .before in
+    λ s sound k. rw (enum-told2 .enum-told2 .given .1) (c .before .before .word .ensures _ _ _ s sound k)
 
 returns-3 : tie.Need-returns-3
 unfolding afterRun afterToken tokenAs
@@ -64,7 +71,9 @@ same-length-4 c = search needs
 
 returns-4 : tie.Need-returns-4
 unfolding afterRun afterToken tokenAs
-returns-4 c = λ s sound k. rw (c .before .before .before .before .enum-told4 .given .1) (c .before .before .stop .ensures _ _ _ s sound k)
+returns-4 c =
+    let enum-told4 = c .before .before .before .before in
+    λ s sound k. rw (enum-told4 .enum-told4 .given .1) (c .before .before .stop .ensures _ _ _ s sound k)
 
 returns-5 : tie.Need-returns-5
 unfolding afterRun afterToken tokenAs

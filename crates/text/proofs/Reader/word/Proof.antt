@@ -21,10 +21,13 @@ same-length : tie.Need-same-length
 same-length c = search needs
 
 returns : tie.Need-returns
-returns c = λ a z d s sound k. c .before .before .right-word .ensures a z d (c .before .before .before .before .enum-told .given .1) s sound k
+returns c =
+    let enum-told = c .before .before .before .before in
+    λ a z d s sound k. c .before .before .right-word .ensures a z d (enum-told .enum-told .given .1) s sound k
 
 returns-2 : tie.Need-returns-2
-returns-2 c = λ a z d s sound k. rw (word-elsewhere s (c .before .before .before .args .x .now) (s .place) (rw (place-number s (k .numbers)) at (c .match .keys2))) refl
+returns-2 c =
+    λ a z d s sound k. rw (word-elsewhere s (c .before .before .before .args .x .now) (s .place) (rw (place-number s (k .numbers)) at (c .match .keys2))) refl
 
 pub word-spec : {M : Type 1} → statement M
 word-spec = tie.close (tie.spec enum-told right-word-requires same-length returns returns-2)

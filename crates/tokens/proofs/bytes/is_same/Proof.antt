@@ -16,7 +16,9 @@ abbrev μ-loop : tie.MeasureT-loop
 μ-loop x y i₀ i-end i = i-end - i
 
 returns : tie.Need-returns Inv-loop μ-loop
-returns c = same-lengths (c .before .args .x .now) (c .before .args .y .now) (c .if1 .taken)
+returns c =
+    let start = c .before in
+    same-lengths (start .args .x .now) (start .args .y .now) (c .if1 .taken)
 
 loop-holds : tie.Need-loop-holds Inv-loop μ-loop
 loop-holds c = (omega arith, refl)
@@ -29,8 +31,10 @@ shared-slice-read-if2-2 c = omega arith
 
 returns-2 : tie.Need-returns-2 Inv-loop μ-loop
 returns-2 c =
-    let a = c .before .before .before .before .before .before .args in
-    let l = c .before .before .before .before .loop in
+    let loop = c .before .before .before .before in
+    let start = loop .before .before in
+    let a = start .args in
+    let l = loop .loop in
     same-not (a .x .now) (a .y .now) (l .i) (l .inv .1) (omega arith) (omega arith) (c .if2 .taken)
 
 add-i : tie.Need-add-i Inv-loop μ-loop
@@ -41,8 +45,10 @@ loop-less c = omega arith
 
 loop-again : tie.Need-loop-again Inv-loop μ-loop
 loop-again c =
-    let a = c .before .before .before .before .before .before .args in
-    let l = c .before .before .before .before .loop in
+    let loop = c .before .before .before .before in
+    let start = loop .before .before in
+    let a = start .args in
+    let l = loop .loop in
     (omega arith, same-more (a .x .now) (a .y .now) (l .i) (l .inv .1) (omega arith) (omega arith) (c .if2 .left))
 
 returns-3 : tie.Need-returns-3 Inv-loop μ-loop

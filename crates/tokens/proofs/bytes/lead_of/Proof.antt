@@ -25,12 +25,14 @@ byte-at-requires-2 c κs = search needs
 
 returns-4 : tie.Need-returns-4
 returns-4 c =
-    lead-arrow _ (sym (c .before .before .before .before .before .byte-at .ensures) ∙ c .before .before .if3 .left)
+    let byte-at = c .before .before .before .before .before in
+    lead-arrow _ (sym (byte-at .byte-at .ensures) ∙ c .before .before .if3 .left)
     (sym (c .before .byte-at2 .ensures) ∙ c .if4 .taken)
 
 returns-5 : tie.Need-returns-5
 returns-5 c =
-    lead-dash _ (sym (c .before .before .before .before .before .byte-at .ensures) ∙ c .before .before .if3 .left)
+    let byte-at = c .before .before .before .before .before in
+    lead-dash _ (sym (byte-at .byte-at .ensures) ∙ c .before .before .if3 .left)
     (λ e. c .if4 .left (c .before .byte-at2 .ensures ∙ e))
 
 pub lead-of-spec : {M : Type 1} → statement M

@@ -29,12 +29,14 @@ is-letter-requires c κs = search needs
 
 returns-3 : tie.Need-returns-3
 returns-3 c =
-    let a = c .before .before .before .before .before .before .args in
+    let start = c .before .before .before .before .before .before in
+    let a = start .args in
     named-by (a .kind) (a .run .now) (a .at) true (omega arith) (omega arith) (sym (c .before .is-letter .ensures) ∙ c .if3 .taken)
 
 returns-4 : tie.Need-returns-4
 returns-4 c =
-    let a = c .before .before .before .before .before .before .args in
+    let start = c .before .before .before .before .before .before in
+    let a = start .args in
     named-by (a .kind) (a .run .now) (a .at) false (omega arith) (omega arith) (sym (c .before .is-letter .ensures) ∙ c .if3 .left)
 
 pub named-spec : {M : Type 1} → statement M

@@ -27,7 +27,8 @@ is-separator-requires c κs = search needs
 
 returns : tie.Need-returns Inv-loop μ-loop
 returns c =
-    let l = c .before .before .before .before .loop in
+    let loop = c .before .before .before .before in
+    let l = loop .loop in
     unbroken-stops _ _ (l .inv .1) (c .before .before .before .loop-test .taken)
     (sym (c .before .is-separator .ensures) ∙ c .if1 .taken)
 
@@ -39,7 +40,8 @@ loop-less c = omega arith
 
 loop-again : tie.Need-loop-again Inv-loop μ-loop
 loop-again c =
-    let l = c .before .before .before .before .loop in (
+    let loop = c .before .before .before .before in
+    let l = loop .loop in (
       omega arith,
       unbroken-passes _ _ (l .inv .1) (c .before .before .before .loop-test .taken)
           (sym (c .before .is-separator .ensures) ∙ c .if1 .left),

@@ -14,13 +14,17 @@ abbrev μ-loop : tie.MeasureT-loop
 μ-loop area n key last i₀ i = n - i
 
 loop-holds : tie.Need-loop-holds Inv-loop μ-loop
-loop-holds c = finding-first (c .before .before .args .key .now) (c .before .before .args .n) (c .before .before .args .area .now) (c .before .before .pre .1 .0)
+loop-holds c =
+    let start = c .before .before in
+    finding-first (start .args .key .now) (start .args .n) (start .args .area .now) (start .pre .1 .0)
 
 mul-is-slot : tie.Need-mul-is-slot Inv-loop μ-loop
 mul-is-slot c = search needs
 
 is-slot-requires : tie.Need-is-slot-requires Inv-loop μ-loop
-is-slot-requires c κs = (c .before .before .before .before .pre .0, (finding-inside (c .before .loop .inv) (c .loop-test .taken), c .before .before .before .before .pre .1 .1))
+is-slot-requires c κs =
+    let start = c .before .before .before .before in
+    (start .pre .0, (finding-inside (c .before .loop .inv) (c .loop-test .taken), start .pre .1 .1))
 
 returns : tie.Need-returns Inv-loop μ-loop
 returns c = finding-here (c .before .before .before .loop .inv) (c .before .before .loop-test .taken) (sym (c .before .is-slot .ensures) ∙ c .if1 .taken)

@@ -37,13 +37,15 @@ loop-less c = search needs
 
 loop-again : tie.Need-loop-again Inv-loop μ-loop
 loop-again c =
-    let a = c .before .before .before .before .before .args in
-    let q = c .before .before .before .before .before .pre in
+    let loop = c .before .before .before .before in
+    let start = loop .before in
+    let a = start .args in
+    let q = start .pre in
     let more = c .before .before .before .loop-test .taken in
-    let place = getD-drop (a .at) (a .area .now) (c .before .before .before .before .loop .i) 0 in
+    let place = getD-drop (a .at) (a .area .now) (loop .loop .i) 0 in
     ⊎-elim
-    (λ w. rw (w .1) (comparing-differ (c .before .before .before .before .loop .inv) (omega (arith, q .0)) (λ e. w .0 .taken (sym place ∙ e))))
-    (λ w. rw (w .1) (comparing-equal (c .before .before .before .before .loop .inv) (omega (arith, q .0)) (place ∙ w .0 .left)))
+    (λ w. rw (w .1) (comparing-differ (loop .loop .inv) (omega (arith, q .0)) (λ e. w .0 .taken (sym place ∙ e))))
+    (λ w. rw (w .1) (comparing-equal (loop .loop .inv) (omega (arith, q .0)) (place ∙ w .0 .left)))
     (c .if1 .came)
 
 returns : tie.Need-returns Inv-loop μ-loop

@@ -19,8 +19,10 @@ shared-slice-read-if1-2 c = search needs
 
 returns : tie.Need-returns
 returns c =
-    let a = c .before .before .before .before .before .args in
-    same-differ (a .key .now) (drop (a .at) (a .area .now)) 25 (a .last) (c .before .before .before .before .before .pre .1 .1) (λ e. c .if1 .taken (sym (getD-drop (a .at) (a .area .now) (a .last) 0) ∙ e))
+    let start = c .before .before .before .before .before in
+    let a = start .args in
+    same-differ (a .key .now) (drop (a .at) (a .area .now)) 25 (a .last) (start .pre .1 .1)
+    (λ e. c .if1 .taken (sym (getD-drop (a .at) (a .area .now) (a .last) 0) ∙ e))
 
 is-same-slot-requires : tie.Need-is-same-slot-requires
 is-same-slot-requires c κs = search needs

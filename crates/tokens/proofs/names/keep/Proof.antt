@@ -25,7 +25,9 @@ add-area : tie.Need-add-area Inv-loop μ-loop
 add-area c = search needs
 
 slice-write-area : tie.Need-slice-write-area Inv-loop μ-loop
-slice-write-area c = omega (arith, c .before .before .loop .inv .room, copying-length (c .before .before .loop .inv), c .before .loop-test .taken)
+slice-write-area c =
+    let loop = c .before .before in
+    omega (arith, loop .loop .inv .room, copying-length (loop .loop .inv), c .before .loop-test .taken)
 
 add-i : tie.Need-add-i Inv-loop μ-loop
 add-i c = search needs
