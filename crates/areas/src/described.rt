@@ -9,7 +9,7 @@ ghost use Rattle.layout.specs.ImageCheck.{Decides};
 ghost use Rattle.layout.specs.Image.{read, valid};
 ghost use Rattle.layout.specs.Table.{tableOf};
 ghost use Rattle.machine.specs.Areas.{standsBy, described};
-ghost use Rattle.machine.specs.Lent.{monitorIn, Settled};
+ghost use Rattle.machine.specs.Lent.{monitorWith, Settled};
 use crate::held;
 use image::wide;
 use layout::RightSide;
@@ -98,7 +98,7 @@ pub fn as_described(
     requires table { ⌜ prefix (tableOf (read (now image))) (now table) ≡ true ⌝ }
     requires size { ⌜ length (now words) ≡ length (now bytes) ⌝ }
     ensures { λ r. ⌜ r ≡ described (read (now (image .entry))) (length (now (bytes .entry)))
-        (monitorIn (record { settled = settled; waiting = waiting; verdict = verdict; rule = rule }) (now (bytes .entry)) (now (words .entry))) ⌝ }
+        (monitorWith settled waiting verdict rule (now (bytes .entry)) (now (words .entry))) ⌝ }
 {
     let capacity = bytes.len();
     if capacity < settled {

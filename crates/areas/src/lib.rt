@@ -2,11 +2,13 @@
 // their caller, the checks of a call have shown; the crate monitor is the only one that calls them.
 ghost use Prim.Native.Nat.{_+_, _≤_, _<_};
 ghost use mathlib.Core.Path.{_≡_};
+ghost use mathlib.Core.Bool.{true};
 ghost use mathlib.Core.Option.{some};
 ghost use lib.ListN.{length};
 ghost use Rattle.layout.specs.Image.{read};
+ghost use Rattle.machine.specs.declared.Standing.{Standing};
 ghost use Rattle.machine.specs.Areas.{stateOf};
-ghost use Rattle.machine.specs.Lent.{monitorIn, Passed, Starts, Matches, stepOf, tried};
+ghost use Rattle.machine.specs.Lent.{monitorWith, Passed, Starts, Matches, stepOf, tried};
 ghost use Rattle.areas.specs.Rewritten.{rewrittenFrom};
 use image::wide;
 use layout::RightSide;
@@ -26,6 +28,21 @@ pub struct Rewritten {
     pub put: u64,
 }
 
+// A rewrite that ends in a verdict: nothing is put back.
+fn closed(settled: usize, waiting: usize, verdict: u64, rule: usize) -> Rewritten
+    ensures { λ r. ⌜ r ≡ record { settled = settled; waiting = waiting; verdict = Standing.Verdict verdict; rule = rule; taken = true; rewrites = 1; put = 0 } ⌝ }
+{
+    Rewritten {
+        settled: settled,
+        waiting: waiting,
+        verdict: Standing::Verdict(verdict),
+        rule: rule,
+        taken: true,
+        rewrites: 1,
+        put: 0,
+    }
+}
+
 // The first waiting symbol completes rule i's left side: that is taken off, and the right side put back or the verdict set.
 pub fn rewrite(
     settled: usize,
@@ -39,19 +56,21 @@ pub fn rewrite(
     words: &mut [u16],
     i: usize,
 ) -> Rewritten
-    requires lent { ⌜ Passed (length (now bytes)) (now image) (now table) (monitorIn (record { settled = settled; waiting = waiting; verdict = verdict; rule = rule }) (now bytes) (now words)) ⌝ }
+    requires lent { ⌜ Passed (length (now bytes)) (now image) (now table) (monitorWith settled waiting verdict rule (now bytes) (now words)) ⌝ }
     requires starts { ⌜ Starts (now image) (now starts) ⌝ }
-    requires next { ⌜ Matches (read (now image) .rules) (stateOf (monitorIn (record { settled = settled; waiting = waiting; verdict = verdict; rule = rule }) (now bytes) (now words))) (some i) ⌝ }
+    requires next { ⌜ Matches (read (now image) .rules) (stateOf (monitorWith settled waiting verdict rule (now bytes) (now words))) (some i) ⌝ }
     ensures { λ r. ⌜ rewrittenFrom r (now (bytes .exit)) (now (words .exit))
-        ≡ tried (read (now (image .entry)) .rules) (length (now (bytes .entry))) (monitorIn (record { settled = settled; waiting = waiting; verdict = verdict; rule = rule }) (now (bytes .entry)) (now (words .entry)))
-        (stepOf (read (now (image .entry)) .rules) (stateOf (monitorIn (record { settled = settled; waiting = waiting; verdict = verdict; rule = rule }) (now (bytes .entry)) (now (words .entry))))) ⌝ }
+        ≡ tried (read (now (image .entry)) .rules) (length (now (bytes .entry)))
+        (monitorWith settled waiting verdict rule (now (bytes .entry)) (now (words .entry)))
+        (stepOf (read (now (image .entry)) .rules) (stateOf (monitorWith settled waiting verdict rule (now (bytes .entry)) (now (words .entry))))) ⌝ }
 {
     let first = bytes.len() - waiting;
     let kept = settled + 1 - image::left_length(image, i);
     let behind = first + 1;
     match image::right_side(image, i) {
         RightSide::Put(n) => {
-            if behind < kept + n {
+            let end = kept + n;
+            if behind < end {
                 return Rewritten {
                     settled: settled,
                     waiting: waiting,
@@ -76,15 +95,7 @@ pub fn rewrite(
         }
         RightSide::Close(v) => {
             held::take_off(bytes, words, first, kept, settled);
-            Rewritten {
-                settled: kept,
-                waiting: waiting - 1,
-                verdict: Standing::Verdict(v),
-                rule: i,
-                taken: true,
-                rewrites: 1,
-                put: 0,
-            }
+            closed(kept, waiting - 1, v, i)
         }
     }
 }

@@ -20,7 +20,7 @@ use Rattle.machine.specs.Play.{Log, noCalls, play}
 use Rattle.machine.specs.Promise.{Agrees, Kept, Promise}
 use Rattle.machine.proofs.ListTheorem.{list-theorem}
 use Rattle.calls.specs.declared.Played.{Played}
-use Rattle.calls.specs.Encoding.{encodes, callsIn}
+use Rattle.calls.specs.Encoding.{encodes, decodedCalls}
 use Rattle.calls.specs.Played.{PlayEnded, playedFrom, logged, playChecks, playEnded, playOf, gaveBack, DemandThreeOf}
 
 module _ (capacity : ℕ) (image table bytes words numbers : List ℕ) where
@@ -48,20 +48,20 @@ module _ (capacity : ℕ) (image table bytes words numbers : List ℕ) where
               counts = noCounts;
             }
             ≡ playEnded (cond b none (some 10)) bytes words
-            (play capacity image table (noCalls (freshened capacity bytes words (cond b none (some 10)) .monitor)) (callsIn numbers))
+            (play capacity image table (noCalls (freshened capacity bytes words (cond b none (some 10)) .monitor)) (decodedCalls numbers))
         go true p = let z : _≡_ {A = ℕ} 0 1 = cc in absurd (omega arith)
         go false p = rw p
 
     -- none: the list is played
     pub is-played : f .refused ≡ none
-        → logged (play capacity image table (noCalls (f .monitor)) (callsIn numbers)) ≡ playOf capacity image table bytes words numbers
+        → logged (play capacity image table (noCalls (f .monitor)) (decodedCalls numbers)) ≡ playOf capacity image table bytes words numbers
     unfolding playOf playEnded playChecks freshOf freshened refusal
     is-played e = rw list (rw is (go (sized capacity bytes words) (ap (λ (x : Fresh). x .refused) (sym is) ∙ e)))
       where
         go : (b : Bool) → freshened capacity bytes words (cond b none (some 10)) .refused ≡ none
-            → logged (play capacity image table (noCalls (freshened capacity bytes words (cond b none (some 10)) .monitor)) (callsIn numbers))
+            → logged (play capacity image table (noCalls (freshened capacity bytes words (cond b none (some 10)) .monitor)) (decodedCalls numbers))
             ≡ playEnded (cond b none (some 10)) bytes words
-            (play capacity image table (noCalls (freshened capacity bytes words (cond b none (some 10)) .monitor)) (callsIn numbers))
+            (play capacity image table (noCalls (freshened capacity bytes words (cond b none (some 10)) .monitor)) (decodedCalls numbers))
         go true p = refl
         go false p = let z : _≡_ {A = ℕ} 0 1 = cc in absurd (omega arith)
 

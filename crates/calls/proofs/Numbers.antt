@@ -12,7 +12,7 @@ use borrow.Author.Tests.{leb-true, le-leb, lt-leb, ltb-true, ltb-false}
 use Rattle.rewriting.specs.Lists.{all}
 use Rattle.rewriting.proofs.Lists.{and-both, and-left, and-right}
 use Rattle.machine.specs.Calls.{Call, Offer, GoOn}
-use Rattle.calls.specs.Encoding.{callFrom, callsIn, pairs, encodes}
+use Rattle.calls.specs.Encoding.{decodedCall, decodedCalls, pairs, encodes}
 
 drop-two : (l : List ℕ) (k : ℕ) → k + 1 < length l → drop k l ≡ getD l k 0 ∷ getD l (k + 1) 0 ∷ drop (k + 2) l
 drop-two l k h =
@@ -43,8 +43,8 @@ pub pairs-end : (l : List ℕ) (k : ℕ) → length l ≤ k → pairs (drop k l)
 unfolding pairs
 pairs-end l k h = rw (drop-of-length-le l h)
 
-pub calls-end : (l : List ℕ) (k : ℕ) → length l ≤ k → callsIn (drop k l) ≡ []
-unfolding callsIn
+pub calls-end : (l : List ℕ) (k : ℕ) → length l ≤ k → decodedCalls (drop k l) ≡ []
+unfolding decodedCalls
 calls-end l k h = rw (drop-of-length-le l h)
 
 -- the check, by its two parts
@@ -69,10 +69,10 @@ pub record CallAt (l : List ℕ) (k : ℕ) : Type 0 where
   pub inside : k + 1 < length l
   pub first : getD l k 0 ≤ 256
   pub rest : pairs (drop (k + 2) l) ≡ true
-  pub calls : callsIn (drop k l) ≡ callFrom (getD l k 0) (getD l (k + 1) 0) ∷ callsIn (drop (k + 2) l)
+  pub calls : decodedCalls (drop k l) ≡ decodedCall (getD l k 0) (getD l (k + 1) 0) ∷ decodedCalls (drop (k + 2) l)
 
 pub call-at : (l : List ℕ) (k : ℕ) → k < length l → pairs (drop k l) ≡ true → CallAt l k
-unfolding pairs callsIn
+unfolding pairs decodedCalls
 call-at l k h e = go (ltb (k + 1) (length l)) refl
   where
     go : (b : Bool) → ltb (k + 1) (length l) ≡ b → CallAt l k
@@ -96,8 +96,8 @@ byteEvent (Offer event fuel) = ltb event 256
 byteEvent (GoOn fuel) = true
 
 pub all-lists : (calls : List Call) → all byteEvent calls ≡ true
-    → (numbers : List ℕ) × (pairs numbers ≡ true) × (callsIn numbers ≡ calls)
-unfolding callsIn pairs callFrom byteEvent
+    → (numbers : List ℕ) × (pairs numbers ≡ true) × (decodedCalls numbers ≡ calls)
+unfolding decodedCalls pairs decodedCall byteEvent
 all-lists [] h = ([], refl, refl)
 all-lists (Offer event fuel ∷ calls) h =
     let rest : _ = all-lists calls (and-right (ltb event 256) (all byteEvent calls) h) in

@@ -21,7 +21,7 @@ use Rattle.machine.specs.Play.{Log, noCalls, eventsOf, logged, play}
 use Rattle.machine.specs.Promise.{Ended}
 use Rattle.machine.proofs.Runs.{ran}
 use Rattle.machine.proofs.CallTheorem.{call-theorem}
-use Rattle.calls.specs.Encoding.{callFrom, callsIn, pairs, encodes}
+use Rattle.calls.specs.Encoding.{decodedCall, decodedCalls, pairs, encodes}
 use Rattle.calls.proofs.Numbers.{few, paired, CallAt, call-at, calls-end}
 use Rattle.calls.specs.Played as Played
 
@@ -56,8 +56,8 @@ call-steps capacity image table m c = go (refusal checks) refl
 
 -- the number of events does not depend on the fuel, and is 0 or 1
 pub events-number : (o : Option ℕ) (first fuel : ℕ)
-    → length (eventsOf o (callFrom first fuel)) ≡ length (eventsOf o (callFrom first 0))
-unfolding eventsOf callFrom
+    → length (eventsOf o (decodedCall first fuel)) ≡ length (eventsOf o (decodedCall first 0))
+unfolding eventsOf decodedCall
 events-number (some n) first fuel = refl
 events-number none zero fuel = refl
 events-number none (suc event) fuel = refl
@@ -84,8 +84,8 @@ pub record Playing (capacity : ℕ) (image table : List ℕ) (m : Monitor) (numb
   pub monitor : log .monitor ≡ n
   pub events : length (log .events) ≡ a
   pub counts : log .counts ≡ c
-  pub whole : play capacity image table (noCalls m) (callsIn numbers)
-      ≡ play capacity image table log (callsIn (drop k numbers))
+  pub whole : play capacity image table (noCalls m) (decodedCalls numbers)
+      ≡ play capacity image table log (decodedCalls (drop k numbers))
   pub accepted : a ≤ k
   pub steps : c .steps ≤ k * 65535
   pub rewrites : c .rewrites ≤ c .steps
@@ -121,7 +121,7 @@ module _ {capacity : ℕ} {image table : List ℕ} {m : Monitor} {numbers : List
   -- All calls have been made.
   pub playing-all : length numbers ≤ k
       → record { refused = none; monitor = n; accepted = a; counts = c }
-      ≡ Played.logged (play capacity image table (noCalls m) (callsIn numbers))
+      ≡ Played.logged (play capacity image table (noCalls m) (decodedCalls numbers))
   unfolding Played.logged play
   playing-all h = rw (now .whole, calls-end numbers k h, now .monitor, now .events, now .counts)
 
@@ -130,9 +130,9 @@ module _ {capacity : ℕ} {image table : List ℕ} {m : Monitor} {numbers : List
     pub playing-call : CallAt numbers k
     playing-call = call-at numbers k more (now .left)
 
-    module _ {o : Outcome} (is : o ≡ callOf capacity image table n (callFrom (getD numbers k 0) (getD numbers (k + 1) 0))) where
+    module _ {o : Outcome} (is : o ≡ callOf capacity image table n (decodedCall (getD numbers k 0) (getD numbers (k + 1) 0))) where
       abbrev next : Call
-      next = callFrom (getD numbers k 0) (getD numbers (k + 1) 0)
+      next = decodedCall (getD numbers k 0) (getD numbers (k + 1) 0)
 
       done : Ended (read image .rules) capacity n next o
       done = subst (λ (p : Outcome). Ended (read image .rules) capacity n next p) (sym is) (call-theorem capacity image table n next)
@@ -141,12 +141,12 @@ module _ {capacity : ℕ} {image table : List ℕ} {m : Monitor} {numbers : List
       few-steps = rw is (call-steps capacity image table n next)
 
       abbrev added : ℕ
-      added = length (eventsOf (refusedBy (o .answer)) (callFrom (getD numbers k 0) 0))
+      added = length (eventsOf (refusedBy (o .answer)) (decodedCall (getD numbers k 0) 0))
 
       few-added : added ≤ 1
-      few-added = events-few (refusedBy (o .answer)) (callFrom (getD numbers k 0) 0)
+      few-added = events-few (refusedBy (o .answer)) (decodedCall (getD numbers k 0) 0)
 
-      pub playing-sums : Within a (length (eventsOf (refusedBy (o .answer)) (callFrom (getD numbers k 0) 0))) c (o .counts)
+      pub playing-sums : Within a (length (eventsOf (refusedBy (o .answer)) (decodedCall (getD numbers k 0) 0))) c (o .counts)
       playing-sums =
           let product : k * 65535 ≤ 8589934590 * 65535 =
           mul-le-mul {n₂ = 8589934590} {m₂ = 65535} (omega (arith, now .within, now .short)) (omega arith)
@@ -159,7 +159,7 @@ module _ {capacity : ℕ} {image table : List ℕ} {m : Monitor} {numbers : List
           }
 
       pub playing-next : Playing capacity image table m numbers (o .monitor)
-          (a + length (eventsOf (refusedBy (o .answer)) (callFrom (getD numbers k 0) 0))) (plus c (o .counts)) (k + 2)
+          (a + length (eventsOf (refusedBy (o .answer)) (decodedCall (getD numbers k 0) 0))) (plus c (o .counts)) (k + 2)
       unfolding logged plus
       playing-next =
           record {
@@ -174,8 +174,8 @@ module _ {capacity : ℕ} {image table : List ℕ} {m : Monitor} {numbers : List
             whole =
                 now .whole
                 ∙ ap (λ (calls : List Call). play capacity image table (now .log) calls) (playing-call .calls)
-                ∙ play-call capacity image table (now .log) next (callsIn (drop (k + 2) numbers))
-                ∙ ap (λ (p : Outcome). play capacity image table (logged (now .log) next p) (callsIn (drop (k + 2) numbers)))
+                ∙ play-call capacity image table (now .log) next (decodedCalls (drop (k + 2) numbers))
+                ∙ ap (λ (p : Outcome). play capacity image table (logged (now .log) next p) (decodedCalls (drop (k + 2) numbers)))
                 (ap (λ (p : Monitor). callOf capacity image table p next) (now .monitor) ∙ sym is);
             accepted = omega (arith, now .accepted, few-added);
             steps = rw add-mul (omega (arith, now .steps, few-steps));

@@ -7,15 +7,15 @@ use lib.Dec.{leb}
 use lib.ListN.{length}
 use Rattle.machine.specs.Calls.{Call, Offer, GoOn}
 
-unfoldable pub callFrom : ℕ → ℕ → Call
-callFrom zero fuel = GoOn fuel
-callFrom (suc event) fuel = Offer event fuel
+unfoldable pub decodedCall : ℕ → ℕ → Call
+decodedCall zero fuel = GoOn fuel
+decodedCall (suc event) fuel = Offer event fuel
 
 -- the calls that the numbers are
-unfoldable pub callsIn : List ℕ → List Call
-callsIn [] = []
-callsIn (first ∷ []) = []
-callsIn (first ∷ fuel ∷ numbers) = callFrom first fuel ∷ callsIn numbers
+unfoldable pub decodedCalls : List ℕ → List Call
+decodedCalls [] = []
+decodedCalls (first ∷ []) = []
+decodedCalls (first ∷ fuel ∷ numbers) = decodedCall first fuel ∷ decodedCalls numbers
 
 -- two numbers a call, and each event below 256. Every list of calls with such events is the calls of some numbers
 -- (`all-lists`, proofs/Numbers.antt).

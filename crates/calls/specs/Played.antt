@@ -15,11 +15,12 @@ use Rattle.machine.specs.Run.{noCounts}
 use Rattle.machine.specs.Areas.{Monitor, headOf}
 use Rattle.machine.specs.Calls.{Call, sized, freshOf}
 use Rattle.machine.specs.Lent.{monitorIn}
-use Rattle.monitor.specs.Lent.{lent, refusedAs}
+use Rattle.monitor.specs.Lent.{lent}
+use Rattle.layout.specs.Refusals.{refusedAs}
 use Rattle.machine.specs.Play.{Log, noCalls, play}
 use Rattle.machine.specs.Promise.{Agrees, Promise}
 use Rattle.calls.specs.declared.Played.{Played}
-use Rattle.calls.specs.Encoding.{encodes, callsIn}
+use Rattle.calls.specs.Encoding.{encodes, decodedCalls}
 
 -- the refusal of the list, if it is refused; the monitor that the calls leave, the number of accepted events, the sums
 pub record PlayEnded : Type 0 where
@@ -57,7 +58,7 @@ playEnded none bytes words g = logged g
 unfoldable pub playOf : ℕ → List ℕ → List ℕ → List ℕ → List ℕ → List ℕ → PlayEnded
 playOf capacity image table bytes words numbers =
     playEnded (refusal (playChecks capacity bytes words numbers)) bytes words
-    (play capacity image table (noCalls (freshOf capacity bytes words .monitor)) (callsIn numbers))
+    (play capacity image table (noCalls (freshOf capacity bytes words .monitor)) (decodedCalls numbers))
 
 -- the log g with the monitor and the sums that the code gave back
 abbrev pub gaveBack : Log → Played → List ℕ → List ℕ → Log

@@ -5,34 +5,35 @@ ghost use mathlib.Core.Path.{_≡_};
 ghost use mathlib.Core.Bool.{true};
 ghost use mathlib.Core.Option.{none};
 ghost use lib.ListN.{length};
-ghost use Rattle.monitor.specs.declared.Refusal.{Refusal};
+ghost use Rattle.layout.specs.declared.Checked.{Checked};
 ghost use Rattle.machine.specs.State as State;
 ghost use Rattle.machine.specs.Areas.{documentCapacity, headOf};
 ghost use Rattle.machine.specs.Run.{noCounts};
 ghost use Rattle.machine.specs.Calls.{callOf, refusedBy};
 ghost use Rattle.machine.specs.Play.{eventsOf, noCalls, play};
-ghost use Rattle.monitor.specs.Lent.{headOut, lent, refusedAs, outcomeFrom};
-ghost use Rattle.calls.specs.Encoding.{callFrom, encodes, callsIn};
+ghost use Rattle.monitor.specs.Lent.{headOut, lent, outcomeFrom};
+ghost use Rattle.layout.specs.Refusals.{refusedAs};
+ghost use Rattle.calls.specs.Encoding.{decodedCall, encodes, decodedCalls};
 ghost use Rattle.calls.specs.Played.{logged, playedFrom, playOf, DemandThreeOf};
+use layout::Checked;
 use machine::Answer;
 use machine::Counts;
 use machine::Standing;
-use monitor::Called;
 use monitor::Head;
-use monitor::Refusal;
+use monitor::Returned;
 
 // What play gives back: the head that the calls leave, whether the list was refused, how many events were accepted, and
 // the summed counts.
 pub struct Played {
     pub head: Head,
-    pub refusal: Refusal,
+    pub refusal: Checked,
     pub accepted: u64,
     pub counts: Counts,
 }
 
 // A refusal of the list, beside the empty head.
 fn refused(n: u32) -> Played
-    ensures { λ r. ⌜ r ≡ record { head = headOut (headOf State.empty); refusal = Refusal.Number n; accepted = 0; counts = noCounts } ⌝ }
+    ensures { λ r. ⌜ r ≡ record { head = headOut (headOf State.empty); refusal = Checked.Refused n; accepted = 0; counts = noCounts } ⌝ }
 {
     Played {
         head: Head {
@@ -41,7 +42,7 @@ fn refused(n: u32) -> Played
             verdict: Standing::None,
             rule: 0,
         },
-        refusal: Refusal::Number(n),
+        refusal: Checked::Refused(n),
         accepted: 0,
         counts: Counts {
             steps: 0,
@@ -81,10 +82,10 @@ fn made(
     words: &mut [u16],
     first: u32,
     fuel: u32,
-) -> Called
+) -> Returned
     requires { ⌜ first ≤ 256 ⌝ }
     ensures { λ r. ⌜ outcomeFrom r (now (bytes .exit)) (now (words .exit))
-        ≡ callOf documentCapacity (now (image .entry)) (now (table .entry)) (lent head (now (bytes .entry)) (now (words .entry))) (callFrom first fuel) ⌝ }
+        ≡ callOf documentCapacity (now (image .entry)) (now (table .entry)) (lent head (now (bytes .entry)) (now (words .entry))) (decodedCall first fuel) ⌝ }
 {
     if first == 0 {
         return head.go_on(image, table, bytes, words, fuel);
@@ -94,7 +95,7 @@ fn made(
 
 // How many events a call with this answer adds to the accepted ones.
 fn events_of(answer: Answer, first: u32) -> u64
-    ensures { λ r. ⌜ r ≡ length (eventsOf (refusedBy answer) (callFrom first 0)) ⌝ }
+    ensures { λ r. ⌜ r ≡ length (eventsOf (refusedBy answer) (decodedCall first 0)) ⌝ }
 {
     if first == 0 {
         return 0;
@@ -119,7 +120,7 @@ fn made_all(
 ) -> Played
     requires { ⌜ encodes (now numbers) ≡ true ⌝ }
     ensures { λ r. ⌜ playedFrom r (now (bytes .exit)) (now (words .exit))
-        ≡ logged (play documentCapacity (now (image .entry)) (now (table .entry)) (noCalls (lent begun (now (bytes .entry)) (now (words .entry)))) (callsIn (now (numbers .entry)))) ⌝ }
+        ≡ logged (play documentCapacity (now (image .entry)) (now (table .entry)) (noCalls (lent begun (now (bytes .entry)) (now (words .entry)))) (decodedCalls (now (numbers .entry)))) ⌝ }
 {
     let mut head = begun;
     let mut accepted: u64 = 0;
@@ -140,7 +141,7 @@ fn made_all(
     }
     Played {
         head: head,
-        refusal: Refusal::None,
+        refusal: Checked::Passed,
         accepted: accepted,
         counts: Counts {
             steps: steps,
@@ -161,7 +162,7 @@ pub fn play(
     ensures outcome { λ r. ⌜ playedFrom r (now (bytes .exit)) (now (words .exit))
         ≡ playOf documentCapacity (now (image .entry)) (now (table .entry)) (now (bytes .entry)) (now (words .entry)) (now (numbers .entry)) ⌝ }
     ensures promise { λ r. ⌜ (refusedAs (r .refusal) ≡ none
-        → DemandThreeOf documentCapacity (now (image .entry)) (now (table .entry)) (now (bytes .entry)) (now (words .entry)) (callsIn (now (numbers .entry)))
+        → DemandThreeOf documentCapacity (now (image .entry)) (now (table .entry)) (now (bytes .entry)) (now (words .entry)) (decodedCalls (now (numbers .entry)))
         r (now (bytes .exit)) (now (words .exit))) ⌝ }
 {
     if !is_list(numbers) {
@@ -170,7 +171,7 @@ pub fn play(
     let begun = monitor::fresh(bytes, words);
     let refusal = begun.refusal;
     match refusal {
-        Refusal::Number(n) => refused(n),
-        Refusal::None => made_all(begun.head, image, table, bytes, words, numbers),
+        Checked::Refused(n) => refused(n),
+        Checked::Passed => made_all(begun.head, image, table, bytes, words, numbers),
     }
 }

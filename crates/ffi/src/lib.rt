@@ -20,9 +20,8 @@ use layout::Checked;
 use layout::Compiled;
 use machine::Answer;
 use machine::Standing;
-use monitor::Called;
 use monitor::Head;
-use monitor::Refusal;
+use monitor::Returned;
 
 // read_rules: 0, or the refusal's number; in `out` the image's length and 0, beside a refusal 0 and its place.
 #[no_mangle]
@@ -154,7 +153,7 @@ fn answer_word(answer: Answer) -> u64
 }
 
 // What a call gave back: the new head, unless the call is refused; the answer and the counts; the refusal's number or 0.
-fn told(called: Called, head: &mut [u64; 4], out: &mut [u64; 4]) -> u32
+fn told(called: Returned, head: &mut [u64; 4], out: &mut [u64; 4]) -> u32
     requires answer { ⌜ answerNumber (called .answer) < 256 ⌝ }
     requires verdict { ⌜ (refusedBy (called .answer) ≡ none → standingWord (called .head .verdict) ≤ 16) ⌝ }
     ensures refusal { λ r. ⌜ r ≡ refusalNumber (refusedBy (called .answer)) ⌝ }
@@ -187,8 +186,8 @@ pub extern "C" fn watcher_fresh(head: &mut [u64; 4], bytes: &mut [u8], words: &m
     set_head(head, begun.head);
     let refusal = begun.refusal;
     match refusal {
-        Refusal::None => 0,
-        Refusal::Number(n) => n,
+        Checked::Passed => 0,
+        Checked::Refused(n) => n,
     }
 }
 
@@ -258,8 +257,8 @@ pub extern "C" fn watcher_batch(
     ];
     let refusal = batched.refusal;
     match refusal {
-        Refusal::Number(n) => n,
-        Refusal::None => {
+        Checked::Refused(n) => n,
+        Checked::Passed => {
             set_head(head, batched.head);
             0
         }

@@ -6,10 +6,10 @@ use mathlib.Core.List.{List}
 use Prim.Native.Nat.{ℕ}
 use Rattle.rewriting.specs.Lists.{prefix}
 use Rattle.layout.specs.Image.{read, valid}
-use Rattle.layout.specs.Refusals.{refusal}
+use Rattle.layout.specs.Refusals.{refusal, answered}
 use Rattle.layout.specs.declared.Checked.{Checked}
 use Rattle.layout.specs.Table.{tableOf}
-use Rattle.layout.specs.TableCheck.{answered, checkOf}
+use Rattle.layout.specs.TableCheck.{checkOf}
 
 module _ (image table : List ℕ) where
   pub check-seven : valid image ≡ false → Checked.Refused 7 ≡ checkOf image table

@@ -13,7 +13,7 @@ ghost use Rattle.printing.specs.Lines.{space, comma, newline, refusedWord, deci
 ghost use Rattle.printing.specs.Turns.{lineMost};
 ghost use Rattle.lines.specs.Wrote.{Writes, HasSlot, Small};
 use machine::Answer;
-use monitor::Called;
+use monitor::Returned;
 
 // One byte.
 pub fn put_byte(line: &mut [u8], at: usize, b: u8) -> usize
@@ -124,7 +124,7 @@ fn put_counts(line: &mut [u8], at: usize, steps: u64, rewrites: u64) -> usize
 }
 
 // The counts, the string and the line's end.
-fn put_counted(line: &mut [u8], at: usize, names: &[u8], called: Called, bytes: &[u8]) -> usize
+fn put_counted(line: &mut [u8], at: usize, names: &[u8], called: Returned, bytes: &[u8]) -> usize
     requires small { ⌜ Small (outcomeFrom called (now bytes) []) ⌝ }
     requires names { ⌜ length (now names) ≡ 1200 ⌝ }
     requires bytes { ⌜ length (now bytes) ≡ 2048 ⌝ }
@@ -140,7 +140,7 @@ fn put_counted(line: &mut [u8], at: usize, names: &[u8], called: Called, bytes: 
 }
 
 // What is told of a call that is not refused: the answer, the counts, the string.
-fn put_accepted(line: &mut [u8], at: usize, names: &[u8], called: Called, bytes: &[u8]) -> usize
+fn put_accepted(line: &mut [u8], at: usize, names: &[u8], called: Returned, bytes: &[u8]) -> usize
     requires slot { ⌜ HasSlot (called .answer) ⌝ }
     requires small { ⌜ Small (outcomeFrom called (now bytes) []) ⌝ }
     requires names { ⌜ length (now names) ≡ 1200 ⌝ }
@@ -167,7 +167,7 @@ pub fn put_refused(line: &mut [u8], at: usize, n: u32) -> usize
 }
 
 // The rest of the line for a name, from the answer on.
-pub fn put_told(line: &mut [u8], at: usize, names: &[u8], called: Called, bytes: &[u8]) -> usize
+pub fn put_told(line: &mut [u8], at: usize, names: &[u8], called: Returned, bytes: &[u8]) -> usize
     requires slot { ⌜ HasSlot (called .answer) ⌝ }
     requires small { ⌜ (refusedBy (called .answer) ≡ none → Small (outcomeFrom called (now bytes) [])) ⌝ }
     requires names { ⌜ length (now names) ≡ 1200 ⌝ }

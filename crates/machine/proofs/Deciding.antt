@@ -23,7 +23,7 @@ use Rattle.machine.specs.State.{State, empty}
 use Rattle.machine.specs.Run.{fits, run}
 use Rattle.machine.specs.Calls.{sized, freshOf, freshened, lentChecks, callOf, Call, Offer, Outcome, fuelCheck, verdictCheck, isNone, callChecks, fuelOf, offered, refusalOf, outcome, decided}
 use Rattle.machine.specs.Play.{eventsOf}
-use Rattle.machine.specs.Lent.{monitorIn, Passed, appended, oneMore, callWith}
+use Rattle.machine.specs.Lent.{monitorIn, Passed, appended, oneMore, offerOrGoOn}
 use Rattle.machine.proofs.Legal.{legal-more}
 use Rattle.machine.proofs.Areas.{state-back}
 use Rattle.machine.proofs.AreaWrites.{area-append}
@@ -39,35 +39,35 @@ is-refused set capacity m c checks n e = rw e
 -- An offer refuses 12, 13, 14 and 15, in this order, and a go-on 13 and 14.
 module _ (set : RuleSet) (capacity : ℕ) (head : Head) (event fuel : ℕ) where
   pub refuses-event : (offering : Bool) → (not offering || ltb event (set .events)) ≡ false
-      → refusal (callChecks set capacity head (callWith offering event fuel)) ≡ some 12
-  unfolding callChecks refusal callWith
+      → refusal (callChecks set capacity head (offerOrGoOn offering event fuel)) ≡ some 12
+  unfolding callChecks refusal offerOrGoOn
   refuses-event true h = rw h
   refuses-event false h = let z : _≡_ {A = ℕ} 0 1 = cc in absurd (omega arith)
 
   pub refuses-fuel : (offering : Bool) → (not offering || ltb event (set .events)) ≡ true → 65535 < fuel
-      → refusal (callChecks set capacity head (callWith offering event fuel)) ≡ some 13
-  unfolding callChecks refusal fuelCheck callWith
+      → refusal (callChecks set capacity head (offerOrGoOn offering event fuel)) ≡ some 13
+  unfolding callChecks refusal fuelCheck offerOrGoOn
   refuses-fuel true h f = rw (h, lt-leb fuel 65535 f)
   refuses-fuel false h f = rw (lt-leb fuel 65535 f)
 
   module _ (taken : fuel ≤ 65535) where
     pub refuses-verdict : (offering : Bool) → (not offering || ltb event (set .events)) ≡ true → (v : ℕ) → head .verdict ≡ Standing.Verdict v
-        → refusal (callChecks set capacity head (callWith offering event fuel)) ≡ some 14
-    unfolding callChecks refusal fuelCheck verdictCheck isNone callWith
+        → refusal (callChecks set capacity head (offerOrGoOn offering event fuel)) ≡ some 14
+    unfolding callChecks refusal fuelCheck verdictCheck isNone offerOrGoOn
     refuses-verdict true h v e = rw (h, le-leb fuel 65535 taken, e)
     refuses-verdict false h v e = rw (le-leb fuel 65535 taken, e)
 
     pub refuses-room : (offering : Bool) → (not offering || ltb event (set .events)) ≡ true → head .verdict ≡ Standing.None
         → (not offering || not (eqb (head .settled + head .waiting) capacity)) ≡ false
-        → refusal (callChecks set capacity head (callWith offering event fuel)) ≡ some 15
-    unfolding callChecks refusal fuelCheck verdictCheck isNone callWith
+        → refusal (callChecks set capacity head (offerOrGoOn offering event fuel)) ≡ some 15
+    unfolding callChecks refusal fuelCheck verdictCheck isNone offerOrGoOn
     refuses-room true h v r = rw (h, le-leb fuel 65535 taken, v, r)
     refuses-room false h v r = let z : _≡_ {A = ℕ} 0 1 = cc in absurd (omega arith)
 
     pub refuses-none : (offering : Bool) → (not offering || ltb event (set .events)) ≡ true → head .verdict ≡ Standing.None
         → (not offering || not (eqb (head .settled + head .waiting) capacity)) ≡ true
-        → refusal (callChecks set capacity head (callWith offering event fuel)) ≡ none
-    unfolding callChecks refusal fuelCheck verdictCheck isNone callWith
+        → refusal (callChecks set capacity head (offerOrGoOn offering event fuel)) ≡ none
+    unfolding callChecks refusal fuelCheck verdictCheck isNone offerOrGoOn
     refuses-none true h v r = rw (h, le-leb fuel 65535 taken, v, r)
     refuses-none false h v r = rw (le-leb fuel 65535 taken, v)
 
@@ -136,16 +136,16 @@ module _ (capacity : ℕ) (image table : List ℕ) (m : Monitor) (ok : Passed ca
   pub call-state : (offering : Bool) → (offering ≡ true → m .head .settled + m .head .waiting ≡ capacity → ⊥)
       → stateOf
       (monitorIn (cond offering (oneMore (m .head)) (m .head)) (cond offering (appended capacity event (capacity - m .head .waiting) (m .bytes)) (m .bytes)) (m .words))
-      ≡ offered (stateOf m) (callWith offering event fuel)
-  unfolding callWith offered
+      ≡ offered (stateOf m) (offerOrGoOn offering event fuel)
+  unfolding offerOrGoOn offered
   call-state true room = offered-state capacity image table m ok event fuel (capacity - m .head .waiting) v (room refl) refl
   call-state false room = refl
 
   pub call-passes : (offering : Bool) → (offering ≡ true → m .head .settled + m .head .waiting ≡ capacity → ⊥)
-      → refusal (callChecks (read image) capacity (m .head) (callWith offering event fuel)) ≡ none
+      → refusal (callChecks (read image) capacity (m .head) (offerOrGoOn offering event fuel)) ≡ none
       → Passed capacity image table
       (monitorIn (cond offering (oneMore (m .head)) (m .head)) (cond offering (appended capacity event (capacity - m .head .waiting) (m .bytes)) (m .bytes)) (m .words))
-  unfolding callWith
+  unfolding offerOrGoOn
   call-passes true room e = offered-passes capacity image table m ok event fuel (capacity - m .head .waiting) v (room refl) refl e
   call-passes false room e = ok
 

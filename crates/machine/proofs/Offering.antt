@@ -21,7 +21,7 @@ use Rattle.machine.specs.Run.{noCounts, plus}
 use Rattle.machine.specs.Areas.{Monitor}
 use Rattle.machine.specs.Calls.{Call, GoOn, Outcome, sized, callChecks, decided, fuelOf, callOf, refusedBy, answerNumber}
 use Rattle.machine.specs.Batch.{Offers, stopped, andThen, inTurn, batched}
-use Rattle.machine.specs.Lent.{monitorIn, Passed, callWith, callsWith}
+use Rattle.machine.specs.Lent.{monitorIn, Passed, offerOrGoOn, offersOrGoesOn}
 use Rattle.machine.specs.Promise.{Ended}
 use Rattle.machine.proofs.Stepping.{passed-sized}
 use Rattle.machine.proofs.Sums.{none-plus, plus-none, plus-assoc}
@@ -209,13 +209,13 @@ module _ {capacity : ℕ} {image table : List ℕ} {m : Monitor} {calls : List C
 
 -- The call of event k, among those of all events.
 pub call-at : (offering : Bool) (events : List ℕ) (fuel k : ℕ) → k < length events
-    → getD (callsWith offering events fuel) k (GoOn 0) ≡ callWith offering (getD events k 0) fuel
-call-at offering events fuel k h = getD-map (λ event. callWith offering event fuel) events k 0 (GoOn 0) h
+    → getD (offersOrGoesOn offering events fuel) k (GoOn 0) ≡ offerOrGoOn offering (getD events k 0) fuel
+call-at offering events fuel k h = getD-map (λ event. offerOrGoOn offering event fuel) events k 0 (GoOn 0) h
 
-pub fuel-with : (offering : Bool) (event fuel : ℕ) → fuelOf (callWith offering event fuel) ≡ fuel
-unfolding callWith fuelOf
+pub fuel-with : (offering : Bool) (event fuel : ℕ) → fuelOf (offerOrGoOn offering event fuel) ≡ fuel
+unfolding offerOrGoOn fuelOf
 fuel-with true event fuel = refl
 fuel-with false event fuel = refl
 
-pub calls-length : (offering : Bool) (events : List ℕ) (fuel : ℕ) → length (callsWith offering events fuel) ≡ length events
-calls-length offering events fuel = length-map events (λ event. callWith offering event fuel)
+pub calls-length : (offering : Bool) (events : List ℕ) (fuel : ℕ) → length (offersOrGoesOn offering events fuel) ≡ length events
+calls-length offering events fuel = length-map events (λ event. offerOrGoOn offering event fuel)

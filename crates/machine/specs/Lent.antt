@@ -24,6 +24,11 @@ use Rattle.machine.specs.Calls.{Call, Offer, GoOn, lentChecks}
 abbrev pub monitorIn : Head → List ℕ → List ℕ → Monitor
 monitorIn head bytes words = record { head = head; bytes = bytes; words = words }
 
+-- the same, of the head with these fields
+abbrev pub monitorWith : ℕ → ℕ → Standing → ℕ → List ℕ → List ℕ → Monitor
+monitorWith settled waiting verdict rule bytes words =
+    monitorIn (record { settled = settled; waiting = waiting; verdict = verdict; rule = rule }) bytes words
+
 -- none of the refusals 7, 9, 10 and 11 is called for
 abbrev pub Passed : ℕ → List ℕ → List ℕ → Monitor → Type 0
 Passed capacity image table m = refusal (lentChecks capacity image table m) ≡ none
@@ -86,13 +91,13 @@ tried rules capacity m t =
     (record { taken = false; monitor = m; rewrites = 0; put = 0 })
 
 -- an offer of the event, or a go-on
-unfoldable pub callWith : Bool → ℕ → ℕ → Call
-callWith true event fuel = Offer event fuel
-callWith false event fuel = GoOn fuel
+unfoldable pub offerOrGoOn : Bool → ℕ → ℕ → Call
+offerOrGoOn true event fuel = Offer event fuel
+offerOrGoOn false event fuel = GoOn fuel
 
 -- one for each event
-abbrev pub callsWith : Bool → List ℕ → ℕ → List Call
-callsWith offering events fuel = map (λ event. callWith offering event fuel) events
+abbrev pub offersOrGoesOn : Bool → List ℕ → ℕ → List Call
+offersOrGoesOn offering events fuel = map (λ event. offerOrGoOn offering event fuel) events
 
 -- "the event becomes the last waiting symbol": those before it, from place `from` on, are moved to the left
 abbrev pub appended : ℕ → ℕ → ℕ → List ℕ → List ℕ

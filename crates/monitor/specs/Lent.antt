@@ -1,13 +1,12 @@
 -- How the code speaks of the definitions of the crate machine: what it is lent, and what it gives back.
 use Prim.Native.Nat.{ℕ}
-use mathlib.Core.Option.{Option, none, some}
 use mathlib.Core.List.{List}
 use Rattle.monitor.specs.declared.Head.{Head}
-use Rattle.monitor.specs.declared.Refusal.{Refusal}
 use Rattle.monitor.specs.declared.Begun.{Begun}
-use Rattle.monitor.specs.declared.Called.{Called}
+use Rattle.monitor.specs.declared.Returned.{Returned}
 use Rattle.monitor.specs.declared.Stepped.{Stepped}
-use Rattle.monitor.specs.declared.BatchCalled.{BatchCalled}
+use Rattle.monitor.specs.declared.BatchReturned.{BatchReturned}
+use Rattle.layout.specs.Refusals.{refusedAs}
 use Rattle.machine.specs.Areas as Areas
 use Rattle.machine.specs.Areas.{Monitor}
 use Rattle.machine.specs.Calls.{Fresh, Outcome}
@@ -26,19 +25,14 @@ headOut head = record { settled = head .settled; waiting = head .waiting; verdic
 abbrev pub lent : Head → List ℕ → List ℕ → Monitor
 lent head bytes words = record { head = headIn head; bytes = bytes; words = words }
 
--- a refusal, if it is one
-unfoldable pub refusedAs : Refusal → Option ℕ
-refusedAs Refusal.None = none
-refusedAs (Refusal.Number n) = some n
-
 -- What fresh, a call and batch gave back, with the areas at their exit.
 abbrev pub freshFrom : Begun → List ℕ → List ℕ → Fresh
 freshFrom r bytes words = record { refused = refusedAs (r .refusal); monitor = lent (r .head) bytes words }
 
-abbrev pub outcomeFrom : Called → List ℕ → List ℕ → Outcome
+abbrev pub outcomeFrom : Returned → List ℕ → List ℕ → Outcome
 outcomeFrom r bytes words = record { answer = r .answer; counts = r .counts; monitor = lent (r .head) bytes words }
 
-abbrev pub batchFrom : BatchCalled → List ℕ → List ℕ → List ℕ → Batched
+abbrev pub batchFrom : BatchReturned → List ℕ → List ℕ → List ℕ → Batched
 batchFrom r bytes words answers =
     record {
       refused = refusedAs (r .refusal);

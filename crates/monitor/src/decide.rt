@@ -7,17 +7,17 @@ ghost use mathlib.Core.Option.{none};
 ghost use lib.Dec.{eqb, ltb};
 ghost use lib.ListN.{length};
 ghost use Rattle.layout.specs.Image.{read, valid};
-ghost use Rattle.monitor.specs.declared.Refusal.{Refusal};
+ghost use Rattle.layout.specs.declared.Checked.{Checked};
 ghost use Rattle.machine.specs.Calls.{callChecks, callOf, decided, answerNumber};
 ghost use Rattle.machine.specs.Batch.{inTurn, batched};
-ghost use Rattle.machine.specs.Lent.{Passed, Starts, rowsIn, widthIn, appended, oneMore, callWith, callsWith, answerFrom};
+ghost use Rattle.machine.specs.Lent.{Passed, Starts, rowsIn, widthIn, appended, oneMore, offerOrGoOn, offersOrGoesOn, answerFrom};
 ghost use Rattle.monitor.specs.Lent.{headIn, lent, outcomeFrom, batchFrom};
-use crate::BatchCalled;
-use crate::Called;
+use crate::BatchReturned;
 use crate::Head;
-use crate::Refusal;
+use crate::Returned;
 use areas::held;
 use image::wide;
+use layout::Checked;
 use machine::Answer;
 use machine::Counts;
 use machine::Standing;
@@ -122,7 +122,7 @@ impl Head {
     }
 
     // One call, an offer or a go-on.
-    fn called(
+    fn decide(
         self,
         image: &[u8],
         table: &[u16],
@@ -134,14 +134,14 @@ impl Head {
         offering: bool,
         event: u8,
         fuel: u32,
-    ) -> Called
+    ) -> Returned
         requires lent { ⌜ Passed (length (now bytes)) (now image) (now table) (lent self (now bytes) (now words)) ⌝ }
         requires starts { ⌜ Starts (now image) (now starts) ⌝ }
         requires rows { ⌜ rows ≡ rowsIn (now table) ⌝ }
         requires width { ⌜ width ≡ widthIn (now table) ⌝ }
         ensures { λ r. ⌜ outcomeFrom r (now (bytes .exit)) (now (words .exit))
             ≡ decided (read (now (image .entry))) (length (now (bytes .entry))) (lent self (now (bytes .entry)) (now (words .entry)))
-            (callChecks (read (now (image .entry))) (length (now (bytes .entry))) (headIn self) (callWith offering event fuel)) (callWith offering event fuel) ⌝ }
+            (callChecks (read (now (image .entry))) (length (now (bytes .entry))) (headIn self) (offerOrGoOn offering event fuel)) (offerOrGoOn offering event fuel) ⌝ }
     {
         if !allowed(image, offering, event) {
             return self.refused(12);
@@ -163,13 +163,20 @@ impl Head {
     }
 
     // The end of a batch.
-    fn stopped(self, stop: u32, accepted: usize, steps: u64, rewrites: u64, put: u64) -> BatchCalled
+    fn stopped(
+        self,
+        stop: u32,
+        accepted: usize,
+        steps: u64,
+        rewrites: u64,
+        put: u64,
+    ) -> BatchReturned
         ensures { λ r. ⌜ r
-            ≡ record { head = self; refusal = Refusal.None; stop = stop; accepted = accepted; counts = record { steps = steps; rewrites = rewrites; put = put } } ⌝ }
+            ≡ record { head = self; refusal = Checked.Passed; stop = stop; accepted = accepted; counts = record { steps = steps; rewrites = rewrites; put = put } } ⌝ }
     {
-        BatchCalled {
+        BatchReturned {
             head: self,
-            refusal: Refusal::None,
+            refusal: Checked::Passed,
             stop: stop,
             accepted: accepted,
             counts: Counts {
@@ -181,7 +188,7 @@ impl Head {
     }
 
     // Calls one after another, up to the first that is refused: an offer of each event or, where `offering` is false, as many goes-on.
-    pub fn in_turn(
+    pub(crate) fn in_turn(
         self,
         image: &[u8],
         table: &[u16],
@@ -192,14 +199,14 @@ impl Head {
         events: &[u8],
         fuel: u32,
         answers: &mut [u8],
-    ) -> BatchCalled
+    ) -> BatchReturned
         requires lent { ⌜ Passed (length (now bytes)) (now image) (now table) (lent self (now bytes) (now words)) ⌝ }
         requires starts { ⌜ Starts (now image) (now starts) ⌝ }
         requires few { ⌜ length (now events) ≤ 65535 ⌝ }
         requires room { ⌜ length (now events) ≤ length (now answers) ⌝ }
         ensures { λ r. ⌜ batchFrom r (now (bytes .exit)) (now (words .exit)) (now (answers .exit))
             ≡ batched none (lent self (now (bytes .entry)) (now (words .entry))) (now (answers .entry))
-            (inTurn (length (now (bytes .entry))) (now (image .entry)) (now (table .entry)) (lent self (now (bytes .entry)) (now (words .entry))) (callsWith offering (now (events .entry)) fuel)) ⌝ }
+            (inTurn (length (now (bytes .entry))) (now (image .entry)) (now (table .entry)) (lent self (now (bytes .entry)) (now (words .entry))) (offersOrGoesOn offering (now (events .entry)) fuel)) ⌝ }
     {
         let rows = 2 + wide::word(table[0]);
         let width = wide::word(table[1]);
@@ -208,7 +215,7 @@ impl Head {
         let mut rewrites: u64 = 0;
         let mut put: u64 = 0;
         for k in 0..events.len() {
-            let called = head.called(
+            let called = head.decide(
                 image,
                 table,
                 rows,
@@ -238,7 +245,7 @@ impl Head {
     }
 
     // One call.
-    pub fn once(
+    pub(crate) fn once(
         self,
         image: &[u8],
         table: &[u16],
@@ -248,11 +255,11 @@ impl Head {
         offering: bool,
         event: u8,
         fuel: u32,
-    ) -> Called
+    ) -> Returned
         requires lent { ⌜ Passed (length (now bytes)) (now image) (now table) (lent self (now bytes) (now words)) ⌝ }
         requires starts { ⌜ Starts (now image) (now starts) ⌝ }
         ensures { λ r. ⌜ outcomeFrom r (now (bytes .exit)) (now (words .exit))
-            ≡ callOf (length (now (bytes .entry))) (now (image .entry)) (now (table .entry)) (lent self (now (bytes .entry)) (now (words .entry))) (callWith offering event fuel) ⌝ }
+            ≡ callOf (length (now (bytes .entry))) (now (image .entry)) (now (table .entry)) (lent self (now (bytes .entry)) (now (words .entry))) (offerOrGoOn offering event fuel) ⌝ }
     {
         let events = [event];
         let mut answers = [0u8; 1];
@@ -272,7 +279,7 @@ impl Head {
         }
         let head = r.head;
         let counts = r.counts;
-        Called {
+        Returned {
             head: head,
             answer: answer_from(answers[0]),
             counts: counts,

@@ -1,9 +1,9 @@
 // The monitor: fresh, offer, go on and batch. Each is what specs/ defines, for everything that may be lent to it; the
 // promise about every list of calls is proved of those definitions in proofs/ListTheorem.antt.
 ghost use mathlib.Core.Path.{_≡_};
-ghost use Rattle.layout.specs.Refusals.{refusal, refusalNumber};
+ghost use Rattle.layout.specs.Refusals.{refusal, answered};
 ghost use Rattle.machine.specs.declared.Answer.{Answer};
-ghost use Rattle.monitor.specs.declared.Refusal.{Refusal};
+ghost use Rattle.layout.specs.declared.Checked.{Checked};
 ghost use Rattle.machine.specs.State as State;
 ghost use Rattle.machine.specs.Areas.{documentCapacity, headOf};
 ghost use Rattle.machine.specs.Run.{noCounts};
@@ -31,29 +31,23 @@ pub struct Head {
     pub rule: usize,
 }
 
-// Whether an operation was refused, and document 01's number for it.
-pub enum Refusal {
-    None,
-    Number(u32),
-}
-
 // What fresh gives back.
 pub struct Begun {
     pub head: Head,
-    pub refusal: Refusal,
+    pub refusal: Checked,
 }
 
 // What offer and go on give back: the new head beside the answer.
-pub struct Called {
+pub struct Returned {
     pub head: Head,
     pub answer: Answer,
     pub counts: Counts,
 }
 
 // What batch gives back. The stop is 0, or the refusal of the first offer that was refused.
-pub struct BatchCalled {
+pub struct BatchReturned {
     pub head: Head,
-    pub refusal: Refusal,
+    pub refusal: Checked,
     pub stop: u32,
     pub accepted: usize,
     pub counts: Counts,
@@ -87,28 +81,28 @@ pub fn fresh(bytes: &mut [u8], words: &mut [u16]) -> Begun
     if bytes.len() != CAPACITY {
         return Begun {
             head: empty(),
-            refusal: Refusal::Number(10),
+            refusal: Checked::Refused(10),
         };
     }
     if words.len() != CAPACITY {
         return Begun {
             head: empty(),
-            refusal: Refusal::Number(10),
+            refusal: Checked::Refused(10),
         };
     }
     held::clear(bytes, words, 0, CAPACITY);
     Begun {
         head: empty(),
-        refusal: Refusal::None,
+        refusal: Checked::Passed,
     }
 }
 
 impl Head {
     // A refusal: the head as given, and no counts.
-    fn refused(self, n: u32) -> Called
+    fn refused(self, n: u32) -> Returned
         ensures { λ r. ⌜ r ≡ record { head = self; answer = Answer.Refused n; counts = noCounts } ⌝ }
     {
-        Called {
+        Returned {
             head: self,
             answer: Answer::Refused(n),
             counts: Counts {
@@ -120,12 +114,12 @@ impl Head {
     }
 
     // A refusal of a batch.
-    fn batch_refused(self, n: u32) -> BatchCalled
-        ensures { λ r. ⌜ r ≡ record { head = self; refusal = Refusal.Number n; stop = 0; accepted = 0; counts = noCounts } ⌝ }
+    fn batch_refused(self, n: u32) -> BatchReturned
+        ensures { λ r. ⌜ r ≡ record { head = self; refusal = Checked.Refused n; stop = 0; accepted = 0; counts = noCounts } ⌝ }
     {
-        BatchCalled {
+        BatchReturned {
             head: self,
-            refusal: Refusal::Number(n),
+            refusal: Checked::Refused(n),
             stop: 0,
             accepted: 0,
             counts: Counts {
@@ -136,19 +130,19 @@ impl Head {
         }
     }
 
-    // What is lent calls for refusal 7, 9, 10 or 11; else 0.
-    fn refusal(self, image: &[u8], table: &[u16], bytes: &[u8], words: &[u16]) -> u32
-        ensures { λ r. ⌜ r ≡ refusalNumber (refusal (lentChecks documentCapacity (now (image .entry)) (now (table .entry))
+    // The checks of what is lent: refusals 7, 9, 10 and 11.
+    fn check_lent(self, image: &[u8], table: &[u16], bytes: &[u8], words: &[u16]) -> Checked
+        ensures { λ r. ⌜ r ≡ answered (refusal (lentChecks documentCapacity (now (image .entry)) (now (table .entry))
             (lent self (now (bytes .entry)) (now (words .entry))))) ⌝ }
     {
         match table::check(image, table) {
-            Checked::Refused(n) => n,
+            Checked::Refused(n) => Checked::Refused(n),
             Checked::Passed => {
                 if bytes.len() != CAPACITY {
-                    return 10;
+                    return Checked::Refused(10);
                 }
                 if words.len() != CAPACITY {
-                    return 10;
+                    return Checked::Refused(10);
                 }
                 let verdict = self.verdict;
                 if described::as_described(
@@ -161,9 +155,9 @@ impl Head {
                     bytes,
                     words,
                 ) {
-                    return 0;
+                    return Checked::Passed;
                 }
-                11
+                Checked::Refused(11)
             }
         }
     }
@@ -177,17 +171,18 @@ impl Head {
         words: &mut [u16],
         event: u8,
         fuel: u32,
-    ) -> Called
+    ) -> Returned
         ensures { λ r. ⌜ outcomeFrom r (now (bytes .exit)) (now (words .exit))
             ≡ offerOf documentCapacity (now (image .entry)) (now (table .entry)) (lent self (now (bytes .entry)) (now (words .entry))) event fuel ⌝ }
     {
-        let n = self.refusal(image, table, bytes, words);
-        if n != 0 {
-            return self.refused(n);
+        match self.check_lent(image, table, bytes, words) {
+            Checked::Refused(n) => self.refused(n),
+            Checked::Passed => {
+                let mut starts = [0u16; 64];
+                held::index(image, &mut starts);
+                self.once(image, table, &starts, bytes, words, true, event, fuel)
+            }
         }
-        let mut starts = [0u16; 64];
-        held::index(image, &mut starts);
-        self.once(image, table, &starts, bytes, words, true, event, fuel)
     }
 
     // The call runs on.
@@ -198,17 +193,18 @@ impl Head {
         bytes: &mut [u8],
         words: &mut [u16],
         fuel: u32,
-    ) -> Called
+    ) -> Returned
         ensures { λ r. ⌜ outcomeFrom r (now (bytes .exit)) (now (words .exit))
             ≡ goOnOf documentCapacity (now (image .entry)) (now (table .entry)) (lent self (now (bytes .entry)) (now (words .entry))) fuel ⌝ }
     {
-        let n = self.refusal(image, table, bytes, words);
-        if n != 0 {
-            return self.refused(n);
+        match self.check_lent(image, table, bytes, words) {
+            Checked::Refused(n) => self.refused(n),
+            Checked::Passed => {
+                let mut starts = [0u16; 64];
+                held::index(image, &mut starts);
+                self.once(image, table, &starts, bytes, words, false, 0, fuel)
+            }
         }
-        let mut starts = [0u16; 64];
-        held::index(image, &mut starts);
-        self.once(image, table, &starts, bytes, words, false, 0, fuel)
     }
 
     // The offers of all events, up to the first that is refused, with the dear checks made once.
@@ -221,14 +217,16 @@ impl Head {
         events: &[u8],
         fuel: u32,
         answers: &mut [u8],
-    ) -> BatchCalled
+    ) -> BatchReturned
         ensures { λ r. ⌜ batchFrom r (now (bytes .exit)) (now (words .exit)) (now (answers .exit))
             ≡ batchOf documentCapacity (now (image .entry)) (now (table .entry)) (lent self (now (bytes .entry)) (now (words .entry)))
             (now (events .entry)) fuel (now (answers .entry)) ⌝ }
     {
-        let n = self.refusal(image, table, bytes, words);
-        if n != 0 {
-            return self.batch_refused(n);
+        match self.check_lent(image, table, bytes, words) {
+            Checked::Refused(n) => {
+                return self.batch_refused(n);
+            }
+            Checked::Passed => {}
         }
         if 65535 < fuel {
             return self.batch_refused(13);

@@ -11,8 +11,8 @@ ghost use Rattle.machine.specs.Areas.{stateOf};
 ghost use Rattle.machine.specs.Calls.{outcome};
 ghost use Rattle.machine.specs.Lent.{Passed, Starts, rowsIn, widthIn, stepOf, tried};
 ghost use Rattle.monitor.specs.Lent.{lent, triedFrom, outcomeFrom};
-use crate::Called;
 use crate::Head;
+use crate::Returned;
 use crate::Stepped;
 use areas::held;
 use machine::Answer;
@@ -21,10 +21,10 @@ use machine::Standing;
 
 impl Head {
     // The end of a run.
-    fn ended(self, answer: Answer, steps: u32, rewrites: u64, put: u64) -> Called
+    fn ended(self, answer: Answer, steps: u32, rewrites: u64, put: u64) -> Returned
         ensures { λ r. ⌜ r ≡ record { head = self; answer = answer; counts = record { steps = steps; rewrites = rewrites; put = put } } ⌝ }
     {
-        Called {
+        Returned {
             head: self,
             answer: answer,
             counts: Counts {
@@ -106,7 +106,7 @@ impl Head {
     }
 
     // A call's run: document 01's tests in their order, before the first step and after each.
-    pub fn run(
+    pub(crate) fn run(
         self,
         image: &[u8],
         table: &[u16],
@@ -116,7 +116,7 @@ impl Head {
         bytes: &mut [u8],
         words: &mut [u16],
         fuel: u32,
-    ) -> Called
+    ) -> Returned
         requires lent { ⌜ Passed (length (now bytes)) (now image) (now table) (lent self (now bytes) (now words)) ⌝ }
         requires starts { ⌜ Starts (now image) (now starts) ⌝ }
         requires rows { ⌜ rows ≡ rowsIn (now table) ⌝ }

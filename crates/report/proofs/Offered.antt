@@ -15,7 +15,7 @@ use Rattle.rewriting.proofs.Ranges.{ranges}
 use Rattle.layout.specs.Image.{read}
 use Rattle.layout.proofs.Image.{valid-in-range}
 use Rattle.machine.specs.declared.Answer.{Answer}
-use Rattle.monitor.specs.declared.Called.{Called}
+use Rattle.monitor.specs.declared.Returned.{Returned}
 use Rattle.machine.specs.Run.{fits}
 use Rattle.machine.specs.Areas.{Monitor, documentCapacity, headOf, monitorOf, stateOf}
 use Rattle.machine.specs.Calls.{Offer, fuelOf, Outcome, offerOf, callOf, refusedBy}
@@ -94,13 +94,13 @@ module _ (image table : List ℕ) (m : Monitor) (a : ℕ) where
       go (Answer.Refused n) f s = tt
 
 -- the words of a monitor play no part in a line
-small-words : (r : Called) (bytes words : List ℕ) → Small (outcomeFrom r bytes words) → Small (outcomeFrom r bytes [])
+small-words : (r : Returned) (bytes words : List ℕ) → Small (outcomeFrom r bytes words) → Small (outcomeFrom r bytes [])
 unfolding stringOf stateOf
 small-words r bytes words s =
     record { steps = s .steps; rewrites = s .rewrites; string = s .string; slots = s .slots }
 
 told-words :
-    (names : List ℕ) (r : Called) (bytes words : List ℕ) (a : Answer)
+    (names : List ℕ) (r : Returned) (bytes words : List ℕ) (a : Answer)
     → told names (outcomeFrom r bytes []) a ≡ told names (outcomeFrom r bytes words) a
 unfolding told counted stringOf stateOf
 told-words names r bytes words Answer.Quiet = refl
@@ -117,7 +117,7 @@ unfolding lineFor eventLine offeredName offered answerWord told
 line-unknown w x e = rw e
 
 pub line-offered :
-    (w : Watch) (x : List ℕ) (a : ℕ) (r : Called) (bytes words : List ℕ) → symbolNamed (w .names) x ≡ some a
+    (w : Watch) (x : List ℕ) (a : ℕ) (r : Returned) (bytes words : List ℕ) → symbolNamed (w .names) x ≡ some a
     → outcomeFrom r bytes words ≡ offerOf documentCapacity (w .image) (w .table) (w .monitor) a 1000
     → x
     ++ space
@@ -129,7 +129,7 @@ unfolding lineFor eventLine offeredName offered
 line-offered w x a r bytes words e p = rw (e, ← p, told-words (w .names) r bytes words (r .answer))
 
 -- what the code's offer gave back
-module _ (image table : List ℕ) (m : Monitor) (a : ℕ) (r : Called) (bytes words : List ℕ) (made : outcomeFrom r bytes words ≡ offerOf documentCapacity image table m a 1000) where
+module _ (image table : List ℕ) (m : Monitor) (a : ℕ) (r : Returned) (bytes words : List ℕ) (made : outcomeFrom r bytes words ≡ offerOf documentCapacity image table m a 1000) where
   pub made-slot : HasSlot (r .answer)
   unfolding offerOf
   made-slot = rw (ap (λ (o : Outcome). o .answer) made) (offer-slot image table m a)

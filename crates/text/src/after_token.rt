@@ -224,7 +224,7 @@ impl Reader {
     }
 
     // A token of this kind, with this name.
-    pub fn token(
+    pub(crate) fn token(
         self,
         kind: Kind,
         x: &[u8],

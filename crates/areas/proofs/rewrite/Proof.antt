@@ -95,8 +95,8 @@ right-side-requires c κs =
 enum-known-n : tie.Need-enum-known-n
 enum-known-n c = search needs
 
-add-if1 : tie.Need-add-if1
-add-if1 c =
+add-end : tie.Need-add-end
+add-end c =
     let place = c .before .before .before .before .before .before .before .before .before .before in
     omega (arith, facts place, few place _ (sym (c .before .before .before .right-side .ensures) ∙ c .before .n .given .1))
 
@@ -145,14 +145,14 @@ put-back-requires c κs =
     let bound = within place _ (sym (right-side .right-side .ensures) ∙ n .n .given .1) in
     (rw (c .before .word .ensures) bound, omega (arith, facts place, one-waits place, if1 .if1 .left, take-off .take-off .kept .0))
 
-sub-t20 : tie.Need-sub-t20
-sub-t20 c =
+sub-t27 : tie.Need-sub-t27
+sub-t27 c =
     let place = c .before .before .before .before .before .before .before .before .before .before .before .before .before .before .before .before .before
     .before .before .before .before .before .before .before in
     one-waits place
 
-add-t32 : tie.Need-add-t32
-add-t32 c =
+add-t33 : tie.Need-add-t33
+add-t33 c =
     let if1 = c .before .before .before .before .before .before .before .before .before .before .before .before .before in
     let n = if1 .before .before in
     let right-side = n .before .before in
@@ -171,10 +171,13 @@ take-off-requires-2 c κs =
       (omega (arith, some-symbol place, left-length .left-length .ensures), (omega (arith, facts place), omega (arith, facts place))),
     )
 
-sub-t40 : tie.Need-sub-t40
-sub-t40 c =
+sub-closed : tie.Need-sub-closed
+sub-closed c =
     let place = c .before .before .before .before .before .before .before .before .before .before .before .before .before .before .before .before .before in
     one-waits place
+
+closed-requires : tie.Need-closed-requires
+closed-requires c κs = search needs
 
 same-length : tie.Need-same-length
 same-length c = search needs
@@ -212,18 +215,19 @@ same-length-4 c = search needs
 
 returns-3 : tie.Need-returns-3
 returns-3 c =
-    let take-off2 = c .before .before .before .before in
+    let take-off2 = c .before .before .before .before .before in
     let v = take-off2 .before .before .before .before in
     let right-side = v .before .before in
     let left-length = right-side .before in
     let start = left-length .before .before .before .before .before .before in
-    close-step (read (start .args .image .now)) (length (start .args .bytes .now)) (given start) (facts start) (start .args .i) (start .pre .1 .1)
+    rw (c .closed .ensures)
+    (close-step (read (start .args .image .now)) (length (start .args .bytes .now)) (given start) (facts start) (start .args .i) (start .pre .1 .1)
     (record {
       first-is = refl;
       kept-is = (ap (λ (x : ℕ). start .args .settled + 1 - x) (left-length .left-length .ensures));
       bytes-is = take-off2 .take-off2 .ensures .0;
       words-is = take-off2 .take-off2 .ensures .1;
-    }) _ (is-close (rule (read (start .args .image .now) .rules) (start .args .i) .right) _ (sym (right-side .right-side .ensures) ∙ v .v .given .1))
+    }) _ (is-close (rule (read (start .args .image .now) .rules) (start .args .i) .right) _ (sym (right-side .right-side .ensures) ∙ v .v .given .1)))
 
 pub rewrite-spec : {M : Type 1} → statement M
 rewrite-spec =
@@ -236,7 +240,7 @@ rewrite-spec =
     add-behind
     right-side-requires
     enum-known-n
-    add-if1
+    add-end
     returns
     take-off-requires
     mul-word
@@ -244,11 +248,12 @@ rewrite-spec =
     word-requires
     sub-put-back
     put-back-requires
-    sub-t20
-    add-t32
+    sub-t27
+    add-t33
     enum-known-v
     take-off-requires-2
-    sub-t40
+    sub-closed
+    closed-requires
     same-length
     same-length-2
     returns-2

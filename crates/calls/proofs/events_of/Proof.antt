@@ -8,19 +8,19 @@ use lib.ListN.{length}
 use borrow.Author.Needs.{needs}
 use Rattle.machine.specs.Calls.{refusedBy}
 use Rattle.machine.specs.Play.{eventsOf}
-use Rattle.calls.specs.Encoding.{callFrom}
+use Rattle.calls.specs.Encoding.{decodedCall}
 use Rattle.calls.proofs.events_of.Statement.{statement}
 use Rattle.calls.proofs.events_of.Tie as tie
 
 -- a go-on has no event, an accepted offer one
-none-of : (o : Option ℕ) (first : ℕ) → first ≡ 0 → 0 ≡ length (eventsOf o (callFrom first 0))
-unfolding eventsOf callFrom
+none-of : (o : Option ℕ) (first : ℕ) → first ≡ 0 → 0 ≡ length (eventsOf o (decodedCall first 0))
+unfolding eventsOf decodedCall
 none-of none zero e = refl
 none-of (some n) zero e = refl
 none-of o (suc x) e = absurd (omega (arith, e))
 
-one-of : (first : ℕ) → (first ≡ 0 → ⊥) → 1 ≡ length (eventsOf none (callFrom first 0))
-unfolding eventsOf callFrom
+one-of : (first : ℕ) → (first ≡ 0 → ⊥) → 1 ≡ length (eventsOf none (decodedCall first 0))
+unfolding eventsOf decodedCall
 one-of zero h = absurd (h refl)
 one-of (suc x) h = refl
 

@@ -5,17 +5,17 @@ use mathlib.Core.Path.{_≡_, refl}
 use native.Mathlib.Omega.{arith}
 use borrow.Author.Needs.{needs}
 use Rattle.machine.specs.Calls.{GoOn, Offer, goOnOf, offerOf}
-use Rattle.calls.specs.Encoding.{callFrom}
+use Rattle.calls.specs.Encoding.{decodedCall}
 use Rattle.calls.proofs.made.Statement.{statement}
 use Rattle.calls.proofs.made.Tie as tie
 
-going-on : (first fuel : ℕ) → first ≡ 0 → callFrom first fuel ≡ GoOn fuel
-unfolding callFrom
+going-on : (first fuel : ℕ) → first ≡ 0 → decodedCall first fuel ≡ GoOn fuel
+unfolding decodedCall
 going-on zero fuel e = refl
 going-on (suc x) fuel e = absurd (omega (arith, e))
 
-offering : (first fuel : ℕ) → (first ≡ 0 → ⊥) → callFrom first fuel ≡ Offer (first - 1) fuel
-unfolding callFrom
+offering : (first fuel : ℕ) → (first ≡ 0 → ⊥) → decodedCall first fuel ≡ Offer (first - 1) fuel
+unfolding decodedCall
 offering zero fuel h = absurd (h refl)
 offering (suc x) fuel h = let e : suc x - 1 ≡ x = omega arith in rw e
 

@@ -7,7 +7,8 @@ use lib.ListN.{length}
 use borrow.Author.Needs.{needs}
 use Rattle.machine.specs.Run.{noCounts, plus}
 use Rattle.machine.specs.Areas.{documentCapacity}
-use Rattle.monitor.specs.Lent.{lent, refusedAs}
+use Rattle.monitor.specs.Lent.{lent}
+use Rattle.layout.specs.Refusals.{refusedAs}
 use Rattle.calls.proofs.Playing.{Playing, playing-first, playing-call, playing-sums, playing-next, playing-all}
 use Rattle.calls.proofs.made_all.Statement.{statement}
 use Rattle.calls.proofs.made_all.Tie as tie

@@ -5,7 +5,7 @@ use mathlib.Core.Path.{_≡_, sym, ap, _∙_}
 use mathlib.Core.Option.{none, some}
 use native.Mathlib.Omega.{arith}
 use borrow.Author.Tests.{not-true, not-false}
-use Rattle.monitor.specs.Lent.{refusedAs}
+use Rattle.layout.specs.Refusals.{refusedAs}
 use Rattle.calls.proofs.Demand.{not-a-list, not-fresh, is-played, demand}
 use borrow.Author.Needs.{needs}
 use Rattle.calls.proofs.play.Statement.{statement}

@@ -2,7 +2,7 @@
 -- Assumes nothing.
 use mathlib.Core.Path.{ap}
 use Rattle.layout.specs.Refusals.{refusalNumber}
-use Rattle.monitor.specs.Lent.{refusedAs}
+use Rattle.layout.specs.Refusals.{refusedAs}
 use Rattle.ffi.specs.Heads.{headAfter}
 use Rattle.ffi.proofs.Made.{batch-word, batch-made}
 use borrow.Author.Needs.{needs}

@@ -1,7 +1,7 @@
 -- `ffi::watcher_check_table` meets its contract, by the answer of check.
 -- Assumes nothing.
 use mathlib.Core.Path.{sym, _∙_}
-use Rattle.layout.specs.TableCheck.{refusedBy}
+use Rattle.layout.specs.Refusals.{refusedAs}
 use Rattle.layout.specs.Refusals.{refusalNumber}
 use Rattle.ffi.specs.Numbers.{checkedNumber}
 use borrow.Author.Needs.{needs}
@@ -18,11 +18,11 @@ enum-known-n : tie.Need-enum-known-n
 enum-known-n c = search needs
 
 returns : tie.Need-returns
-unfolding checkedNumber refusalNumber refusedBy
+unfolding checkedNumber refusalNumber refusedAs
 returns c = rw (sym (c .before .before .check .ensures) ∙ c .enum-told .given .1)
 
 returns-2 : tie.Need-returns-2
-unfolding checkedNumber refusalNumber refusedBy
+unfolding checkedNumber refusalNumber refusedAs
 returns-2 c = rw (sym (c .before .before .before .check .ensures) ∙ c .before .n .given .1)
 
 pub watcher-check-table-spec : {M : Type 1} → statement M

@@ -8,7 +8,7 @@ use lib.ListN.{length, take, drop, length-append, length-take, length-drop}
 use lib.Seq.{length-take-le}
 use borrow.Author.Needs.{needs}
 use Rattle.machine.specs.Areas.{stateOf}
-use Rattle.monitor.specs.declared.Called.{Called}
+use Rattle.monitor.specs.declared.Returned.{Returned}
 use Rattle.machine.specs.Play.{stringOf}
 use Rattle.monitor.specs.Lent.{outcomeFrom}
 use Rattle.printing.specs.Lines.{space, newline, decimal, joined, counted}
@@ -38,7 +38,7 @@ regrouped s r x =
     ∙ sym (append-assoc s (space ∷ (r ++ space ∷ x)) (newline ∷ []))
 
 all-parts :
-    (called : Called) (names bytes : List ℕ) → length bytes ≡ 2048
+    (called : Returned) (names bytes : List ℕ) → length bytes ≡ 2048
     → (decimal (called .counts .steps) ++ space ∷ decimal (called .counts .rewrites))
     ++ ((space
     ∷ joined names

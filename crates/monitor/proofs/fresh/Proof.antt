@@ -2,7 +2,7 @@
 -- Assumes nothing.
 use borrow.Author.Needs.{needs}
 use Rattle.machine.specs.Areas.{documentCapacity}
-use Rattle.monitor.specs.Lent.{refusedAs}
+use Rattle.layout.specs.Refusals.{refusedAs}
 use Rattle.machine.proofs.Deciding.{other-length, other-bytes, other-words, cleared}
 use Rattle.monitor.proofs.fresh.Statement.{statement}
 use Rattle.monitor.proofs.fresh.Tie as tie

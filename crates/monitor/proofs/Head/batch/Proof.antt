@@ -3,8 +3,9 @@
 use mathlib.Core.Path.{_∙_}
 use borrow.Author.Needs.{needs}
 use Rattle.machine.specs.Areas.{documentCapacity, Monitor}
-use Rattle.machine.specs.Lent.{callWith}
-use Rattle.monitor.specs.Lent.{lent, refusedAs}
+use Rattle.machine.specs.Lent.{offerOrGoOn}
+use Rattle.monitor.specs.Lent.{lent}
+use Rattle.layout.specs.Refusals.{refusedAs}
 use Rattle.machine.specs.Play.{offersOf}
 use Rattle.machine.specs.Batch.{offers}
 use Rattle.machine.proofs.LentRefusal.{lent-none, lent-some}
@@ -17,8 +18,11 @@ use Rattle.monitor.proofs.Head.batch.Tie as tie
 abbrev given : tie.Start → Monitor
 given s = lent (s .args .self) (s .args .bytes .now) (s .args .words .now)
 
-refusal-requires : tie.Need-refusal-requires
-refusal-requires c κs = search needs
+check-lent-requires : tie.Need-check-lent-requires
+check-lent-requires c κs = search needs
+
+enum-known-n : tie.Need-enum-known-n
+enum-known-n c = search needs
 
 batch-refused-requires : tie.Need-batch-refused-requires
 batch-refused-requires c κs = search needs
@@ -32,12 +36,15 @@ same-length-2 c = search needs
 returns : tie.Need-returns
 unfolding refusedAs
 returns c =
-    let start = c .before .before .before .before .before .before .before .before .before .before .before in
+    let start = c .before .before .before .before .before .before .before .before .before .before .before .before .before in
     rw (c .batch-refused .ensures)
     (batch-lent-refused documentCapacity (start .args .image .now) (start .args .table .now) (given start) (start .args .events .now) (start .args .fuel)
     (start .args .answers .now) _
-    (lent-some documentCapacity (start .args .image .now) (start .args .table .now) (given start) (c .before .before .refusal .ensures)
-    (c .before .if1 .taken)))
+    (lent-some documentCapacity (start .args .image .now) (start .args .table .now) (given start) (c .before .before .before .before .check-lent .ensures)
+    (c .before .before .n .given .1)))
+
+enum-told : tie.Need-enum-told
+enum-told c = search needs
 
 batch-refused-requires-2 : tie.Need-batch-refused-requires-2
 batch-refused-requires-2 c κs = search needs
@@ -51,12 +58,12 @@ same-length-4 c = search needs
 returns-2 : tie.Need-returns-2
 unfolding refusedAs
 returns-2 c =
-    let start = c .before .before .before .before .before .before .before .before .before .before .before .before in
+    let start = c .before .before .before .before .before .before .before .before .before .before .before .before .before in
     rw (c .batch-refused2 .ensures)
     (batch-fuel-refused documentCapacity (start .args .image .now) (start .args .table .now) (given start) (start .args .events .now) (start .args .fuel)
     (start .args .answers .now)
-    (lent-none documentCapacity (start .args .image .now) (start .args .table .now) (given start) (c .before .before .before .refusal .ensures)
-    (c .before .before .if1 .left)) (c .before .if2 .taken))
+    (lent-none documentCapacity (start .args .image .now) (start .args .table .now) (given start) (c .before .before .before .before .check-lent .ensures)
+    (c .before .before .enum-told .given .1)) (c .before .if1 .taken))
 
 batch-refused-requires-3 : tie.Need-batch-refused-requires-3
 batch-refused-requires-3 c κs = search needs
@@ -70,13 +77,13 @@ same-length-6 c = search needs
 returns-3 : tie.Need-returns-3
 unfolding refusedAs
 returns-3 c =
-    let refusal = c .before .before .before .before in
-    let start = refusal .before .before .before .before .before .before .before .before .before in
+    let check-lent = c .before .before .before .before .before in
+    let start = check-lent .before .before .before .before .before .before .before .before .before in
     rw (c .batch-refused3 .ensures)
     (batch-many-refused documentCapacity (start .args .image .now) (start .args .table .now) (given start) (start .args .events .now) (start .args .fuel)
     (start .args .answers .now)
-    (lent-none documentCapacity (start .args .image .now) (start .args .table .now) (given start) (refusal .refusal .ensures)
-    (c .before .before .before .if1 .left)) (c .before .before .if2 .left) (c .before .if3 .taken))
+    (lent-none documentCapacity (start .args .image .now) (start .args .table .now) (given start) (check-lent .check-lent .ensures)
+    (c .before .before .before .enum-told .given .1)) (c .before .before .if1 .left) (c .before .if2 .taken))
 
 batch-refused-requires-4 : tie.Need-batch-refused-requires-4
 batch-refused-requires-4 c κs = search needs
@@ -90,25 +97,25 @@ same-length-8 c = search needs
 returns-4 : tie.Need-returns-4
 unfolding refusedAs
 returns-4 c =
-    let if1 = c .before .before .before .before in
-    let refusal = if1 .before in
-    let start = refusal .before .before .before .before .before .before .before .before .before in
+    let enum-told = c .before .before .before .before in
+    let check-lent = enum-told .before .before in
+    let start = check-lent .before .before .before .before .before .before .before .before .before in
     rw (c .batch-refused4 .ensures)
     (batch-room-refused documentCapacity (start .args .image .now) (start .args .table .now) (given start) (start .args .events .now) (start .args .fuel)
     (start .args .answers .now)
-    (lent-none documentCapacity (start .args .image .now) (start .args .table .now) (given start) (refusal .refusal .ensures) (if1 .if1 .left))
-    (c .before .before .before .if2 .left) (c .before .before .if3 .left) (c .before .if4 .taken))
+    (lent-none documentCapacity (start .args .image .now) (start .args .table .now) (given start) (check-lent .check-lent .ensures) (enum-told .enum-told .given .1))
+    (c .before .before .before .if1 .left) (c .before .before .if2 .left) (c .before .if3 .taken))
 
 slice-aggregate-index : tie.Need-slice-aggregate-index
 slice-aggregate-index c = search needs
 
 index-requires : tie.Need-index-requires
 index-requires c κs =
-    let if1 = c .before .before .before .before in
-    let refusal = if1 .before in
-    let start = refusal .before .before .before .before .before .before .before .before .before in
+    let enum-told = c .before .before .before .before in
+    let check-lent = enum-told .before .before in
+    let start = check-lent .before .before .before .before .before .before .before .before .before in
     passed-image documentCapacity (start .args .image .now) (start .args .table .now) (given start)
-    (lent-none documentCapacity (start .args .image .now) (start .args .table .now) (given start) (refusal .refusal .ensures) (if1 .if1 .left))
+    (lent-none documentCapacity (start .args .image .now) (start .args .table .now) (given start) (check-lent .check-lent .ensures) (enum-told .enum-told .given .1))
 
 slice-aggregate-in-turn : tie.Need-slice-aggregate-in-turn
 slice-aggregate-in-turn c = search needs
@@ -116,18 +123,18 @@ slice-aggregate-in-turn c = search needs
 in-turn-requires : tie.Need-in-turn-requires
 in-turn-requires c κs =
     let index = c .before .before .before .before .before in
-    let if4 = index .before .before in
-    let if3 = if4 .before in
-    let if1 = if3 .before .before in
-    let refusal = if1 .before in
-    let start = refusal .before .before .before .before .before .before .before .before .before in
+    let if3 = index .before .before in
+    let if2 = if3 .before in
+    let enum-told = if2 .before .before in
+    let check-lent = enum-told .before .before in
+    let start = check-lent .before .before .before .before .before .before .before .before .before in
     let image = start .args .image .now in
     let table = start .args .table .now in (
       rw
           (passed-sizes documentCapacity image table (given start)
-          (lent-none documentCapacity image table (given start) (refusal .refusal .ensures) (if1 .if1 .left)) .0)
-          (lent-none documentCapacity image table (given start) (refusal .refusal .ensures) (if1 .if1 .left)),
-      (index .index .ensures, (if3 .if3 .left, if4 .if4 .left)),
+          (lent-none documentCapacity image table (given start) (check-lent .check-lent .ensures) (enum-told .enum-told .given .1)) .0)
+          (lent-none documentCapacity image table (given start) (check-lent .check-lent .ensures) (enum-told .enum-told .given .1)),
+      (index .index .ensures, (if2 .if2 .left, if3 .if3 .left)),
     )
 
 same-length-9 : tie.Need-same-length-9
@@ -140,32 +147,34 @@ same-length-11 : tie.Need-same-length-11
 same-length-11 c = search needs
 
 returns-5 : tie.Need-returns-5
-unfolding offers offersOf callWith
+unfolding offers offersOf offerOrGoOn
 returns-5 c =
     let in-turn = c .before .before .before .before .before .before in
-    let if4 = in-turn .before .before .before .before .before .before .before .before in
-    let if3 = if4 .before in
+    let if3 = in-turn .before .before .before .before .before .before .before .before in
     let if2 = if3 .before in
     let if1 = if2 .before in
-    let refusal = if1 .before in
-    let start = refusal .before .before .before .before .before .before .before .before .before in
+    let enum-told = if1 .before in
+    let check-lent = enum-told .before .before in
+    let start = check-lent .before .before .before .before .before .before .before .before .before in
     let image = start .args .image .now in
     let table = start .args .table .now in
     rw
     (passed-sizes documentCapacity image table (given start)
-    (lent-none documentCapacity image table (given start) (refusal .refusal .ensures) (if1 .if1 .left)) .0) at (in-turn .in-turn .ensures) ∙ batch-taken
+    (lent-none documentCapacity image table (given start) (check-lent .check-lent .ensures) (enum-told .enum-told .given .1)) .0) at (in-turn .in-turn .ensures) ∙ batch-taken
     documentCapacity image table (given start) (start .args .events .now) (start .args .fuel) (start .args .answers .now)
-    (lent-none documentCapacity image table (given start) (refusal .refusal .ensures) (if1 .if1 .left)) (if2 .if2 .left) (if3 .if3 .left) (if4 .if4 .left)
+    (lent-none documentCapacity image table (given start) (check-lent .check-lent .ensures) (enum-told .enum-told .given .1)) (if1 .if1 .left) (if2 .if2 .left) (if3 .if3 .left)
 
 pub batch-spec : {M : Type 1} → statement M
 batch-spec =
     tie.close
     (tie.spec
-    refusal-requires
+    check-lent-requires
+    enum-known-n
     batch-refused-requires
     same-length
     same-length-2
     returns
+    enum-told
     batch-refused-requires-2
     same-length-3
     same-length-4

@@ -8,8 +8,9 @@ use lib.ListN.{length, getD}
 use borrow.Author.Needs.{needs}
 use Rattle.layout.specs.Image.{read}
 use Rattle.machine.specs.Run.{noCounts, plus}
-use Rattle.machine.specs.Lent.{callsWith}
-use Rattle.monitor.specs.Lent.{lent, refusedAs, outcomeFrom}
+use Rattle.machine.specs.Lent.{offersOrGoesOn}
+use Rattle.monitor.specs.Lent.{lent, outcomeFrom}
+use Rattle.layout.specs.Refusals.{refusedAs}
 use Rattle.machine.proofs.AnswerKinds.{accepted}
 use Rattle.machine.proofs.Stepping.{passed-valid, passed-table}
 use Rattle.machine.proofs.TableWords.{table-header, states-in}
@@ -34,7 +35,7 @@ use Rattle.monitor.proofs.Head.in_turn.Tie as tie
 abbrev Inv-loop : tie.InvT-loop
 Inv-loop image table starts bytes₀ words₀ offering events fuel answers₀ rows width head₀ steps₀ rewrites₀ put₀ k₀ k-end bytes words answers head steps rewrites
     put k =
-    Offering (length bytes₀) image table (lent head₀ bytes₀ words₀) (callsWith offering events fuel) answers₀ (lent head bytes words) answers
+    Offering (length bytes₀) image table (lent head₀ bytes₀ words₀) (offersOrGoesOn offering events fuel) answers₀ (lent head bytes words) answers
     (record { steps = steps; rewrites = rewrites; put = put }) k
 
 abbrev μ-loop : tie.MeasureT-loop
@@ -89,13 +90,13 @@ loop-holds : tie.Need-loop-holds Inv-loop μ-loop
 unfolding noCounts
 loop-holds c =
     let start = c .before .before .before .before .before .before .before .before .before .before .before .before in
-    offering-first _ _ _ _ (callsWith (start .args .offering) (start .args .events .now) (start .args .fuel)) _ (rw (c .anew .ensures) (start .pre .0))
+    offering-first _ _ _ _ (offersOrGoesOn (start .args .offering) (start .args .events .now) (start .args .fuel)) _ (rw (c .anew .ensures) (start .pre .0))
 
-shared-slice-read-called : tie.Need-shared-slice-read-called Inv-loop μ-loop
-shared-slice-read-called c = c .before .before .before .loop-test .taken
+shared-slice-read-decide : tie.Need-shared-slice-read-decide Inv-loop μ-loop
+shared-slice-read-decide c = c .before .before .before .loop-test .taken
 
-called-requires : tie.Need-called-requires Inv-loop μ-loop
-called-requires c κs =
+decide-requires : tie.Need-decide-requires Inv-loop μ-loop
+decide-requires c κs =
     let loop = c .before .before .before .before in
     let word2 = loop .before .before in
     let word = word2 .before .before in
@@ -110,15 +111,15 @@ stopped-requires c κs = search needs
 
 same-length : tie.Need-same-length Inv-loop μ-loop
 same-length c =
-    let called = c .before .before .before .before .before .before .before .before in
-    let loop = called .before .before .before .before .before in
-    called .called .kept .1 .1 .1 .1 .1 .1 .0 ∙ loop .loop .inv .bytes
+    let decide = c .before .before .before .before .before .before .before .before in
+    let loop = decide .before .before .before .before .before in
+    decide .decide .kept .1 .1 .1 .1 .1 .1 .0 ∙ loop .loop .inv .bytes
 
 same-length-2 : tie.Need-same-length-2 Inv-loop μ-loop
 same-length-2 c =
-    let called = c .before .before .before .before .before .before .before .before in
-    let loop = called .before .before .before .before .before in
-    called .called .kept .1 .1 .1 .1 .1 .1 .1 .0 ∙ loop .loop .inv .words
+    let decide = c .before .before .before .before .before .before .before .before in
+    let loop = decide .before .before .before .before .before in
+    decide .decide .kept .1 .1 .1 .1 .1 .1 .1 .0 ∙ loop .loop .inv .words
 
 same-length-3 : tie.Need-same-length-3 Inv-loop μ-loop
 same-length-3 c =
@@ -128,8 +129,8 @@ same-length-3 c =
 returns : tie.Need-returns Inv-loop μ-loop
 unfolding refusedAs
 returns c =
-    let called = c .before .before .before .before .before .before .before .before in
-    let loop-test = called .before .before .before .before in
+    let decide = c .before .before .before .before .before .before .before .before in
+    let loop-test = decide .before .before .before .before in
     let loop = loop-test .before in
     let anew = loop .before in
     let start = anew .before .before .before .before .before .before .before .before .before .before .before .before in
@@ -138,23 +139,23 @@ returns c =
     let offering = start .args .offering in
     rw (c .stopped .ensures, ← anew .anew .ensures)
     (offering-refused (loop .loop .inv) (rw (calls-length offering events fuel) (start .pre .1 .1 .1))
-    {o = (outcomeFrom (called .called .result) (called .called .last .1 .1 .1 .1 .1 .1 .0) (called .called .last .1 .1 .1 .1 .1 .1 .1 .0))}
+    {o = (outcomeFrom (decide .decide .result) (decide .decide .last .1 .1 .1 .1 .1 .1 .0) (decide .decide .last .1 .1 .1 .1 .1 .1 .1 .0))}
     (rw (calls-length offering events fuel) (loop-test .loop-test .taken))
-    (rw (call-at offering events fuel (loop .loop .k) (loop-test .loop-test .taken)) (called .called .ensures)) _ (c .before .before .answer .given .1))
+    (rw (call-at offering events fuel (loop .loop .k) (loop-test .loop-test .taken)) (decide .decide .ensures)) _ (c .before .before .answer .given .1))
 
 answer-byte-requires : tie.Need-answer-byte-requires Inv-loop μ-loop
 answer-byte-requires c κs =
-    let called = c .before .before .before .before .before in
-    let loop-test = called .before .before .before .before in
+    let decide = c .before .before .before .before .before in
+    let loop-test = decide .before .before .before .before in
     let loop = loop-test .before in
     let start = loop .before .before .before .before .before .before .before .before .before .before .before .before .before in
     let events = start .args .events .now in
     let fuel = start .args .fuel in
     let offering = start .args .offering in
     offering-number (loop .loop .inv) (rw (calls-length offering events fuel) (start .pre .1 .1 .1))
-    {o = (outcomeFrom (called .called .result) (called .called .last .1 .1 .1 .1 .1 .1 .0) (called .called .last .1 .1 .1 .1 .1 .1 .1 .0))}
+    {o = (outcomeFrom (decide .decide .result) (decide .decide .last .1 .1 .1 .1 .1 .1 .0) (decide .decide .last .1 .1 .1 .1 .1 .1 .1 .0))}
     (rw (calls-length offering events fuel) (loop-test .loop-test .taken))
-    (rw (call-at offering events fuel (loop .loop .k) (loop-test .loop-test .taken)) (called .called .ensures))
+    (rw (call-at offering events fuel (loop .loop .k) (loop-test .loop-test .taken)) (decide .decide .ensures))
 
 slice-write-answers : tie.Need-slice-write-answers Inv-loop μ-loop
 slice-write-answers c =
@@ -168,8 +169,8 @@ anew-requires-2 c κs = search needs
 
 add-steps : tie.Need-add-steps Inv-loop μ-loop
 add-steps c =
-    let called = c .before .before .before .before .before .before .before .before .before in
-    let loop-test = called .before .before .before .before in
+    let decide = c .before .before .before .before .before .before .before .before .before in
+    let loop-test = decide .before .before .before .before in
     let loop = loop-test .before in
     let start = loop .before .before .before .before .before .before .before .before .before .before .before .before .before in
     let events = start .args .events .now in
@@ -178,17 +179,17 @@ add-steps c =
     omega (
       arith,
       offering-sums (loop .loop .inv) (rw (calls-length offering events fuel) (start .pre .1 .1 .1))
-          {o = (outcomeFrom (called .called .result) (called .called .last .1 .1 .1 .1 .1 .1 .0) (called .called .last .1 .1 .1 .1 .1 .1 .1 .0))}
+          {o = (outcomeFrom (decide .decide .result) (decide .decide .last .1 .1 .1 .1 .1 .1 .0) (decide .decide .last .1 .1 .1 .1 .1 .1 .1 .0))}
           (rw (calls-length offering events fuel) (loop-test .loop-test .taken))
-          (rw (call-at offering events fuel (loop .loop .k) (loop-test .loop-test .taken)) (called .called .ensures))
+          (rw (call-at offering events fuel (loop .loop .k) (loop-test .loop-test .taken)) (decide .decide .ensures))
           (rw ((call-at offering events fuel (loop .loop .k) (loop-test .loop-test .taken)), fuel-with offering (getD events (loop .loop .k) 0) fuel)
           (omega (arith, start .fits .fuel))) (rw (calls-length offering events fuel) (start .pre .1 .1 .0)) .steps,
     )
 
 add-rewrites : tie.Need-add-rewrites Inv-loop μ-loop
 add-rewrites c =
-    let called = c .before .before .before .before .before .before .before .before .before .before in
-    let loop-test = called .before .before .before .before in
+    let decide = c .before .before .before .before .before .before .before .before .before .before in
+    let loop-test = decide .before .before .before .before in
     let loop = loop-test .before in
     let start = loop .before .before .before .before .before .before .before .before .before .before .before .before .before in
     let events = start .args .events .now in
@@ -197,17 +198,17 @@ add-rewrites c =
     omega (
       arith,
       offering-sums (loop .loop .inv) (rw (calls-length offering events fuel) (start .pre .1 .1 .1))
-          {o = (outcomeFrom (called .called .result) (called .called .last .1 .1 .1 .1 .1 .1 .0) (called .called .last .1 .1 .1 .1 .1 .1 .1 .0))}
+          {o = (outcomeFrom (decide .decide .result) (decide .decide .last .1 .1 .1 .1 .1 .1 .0) (decide .decide .last .1 .1 .1 .1 .1 .1 .1 .0))}
           (rw (calls-length offering events fuel) (loop-test .loop-test .taken))
-          (rw (call-at offering events fuel (loop .loop .k) (loop-test .loop-test .taken)) (called .called .ensures))
+          (rw (call-at offering events fuel (loop .loop .k) (loop-test .loop-test .taken)) (decide .decide .ensures))
           (rw ((call-at offering events fuel (loop .loop .k) (loop-test .loop-test .taken)), fuel-with offering (getD events (loop .loop .k) 0) fuel)
           (omega (arith, start .fits .fuel))) (rw (calls-length offering events fuel) (start .pre .1 .1 .0)) .rewrites,
     )
 
 add-put : tie.Need-add-put Inv-loop μ-loop
 add-put c =
-    let called = c .before .before .before .before .before .before .before .before .before .before .before in
-    let loop-test = called .before .before .before .before in
+    let decide = c .before .before .before .before .before .before .before .before .before .before .before in
+    let loop-test = decide .before .before .before .before in
     let loop = loop-test .before in
     let start = loop .before .before .before .before .before .before .before .before .before .before .before .before .before in
     let events = start .args .events .now in
@@ -216,9 +217,9 @@ add-put c =
     omega (
       arith,
       offering-sums (loop .loop .inv) (rw (calls-length offering events fuel) (start .pre .1 .1 .1))
-          {o = (outcomeFrom (called .called .result) (called .called .last .1 .1 .1 .1 .1 .1 .0) (called .called .last .1 .1 .1 .1 .1 .1 .1 .0))}
+          {o = (outcomeFrom (decide .decide .result) (decide .decide .last .1 .1 .1 .1 .1 .1 .0) (decide .decide .last .1 .1 .1 .1 .1 .1 .1 .0))}
           (rw (calls-length offering events fuel) (loop-test .loop-test .taken))
-          (rw (call-at offering events fuel (loop .loop .k) (loop-test .loop-test .taken)) (called .called .ensures))
+          (rw (call-at offering events fuel (loop .loop .k) (loop-test .loop-test .taken)) (decide .decide .ensures))
           (rw ((call-at offering events fuel (loop .loop .k) (loop-test .loop-test .taken)), fuel-with offering (getD events (loop .loop .k) 0) fuel)
           (omega (arith, start .fits .fuel))) (rw (calls-length offering events fuel) (start .pre .1 .1 .0)) .put,
     )
@@ -239,8 +240,8 @@ unfolding plus
 loop-again c =
     let answer-byte = c .before .before .before .before .before in
     let match = answer-byte .before in
-    let called = match .before .before .before .before .before in
-    let loop-test = called .before .before .before .before in
+    let decide = match .before .before .before .before .before in
+    let loop-test = decide .before .before .before .before in
     let loop = loop-test .before in
     let start = loop .before .before .before .before .before .before .before .before .before .before .before .before .before in
     let events = start .args .events .now in
@@ -248,9 +249,9 @@ loop-again c =
     let offering = start .args .offering in
     rw (add-one, answer-byte .answer-byte .ensures, c .before .before .before .anew2 .ensures)
     (offering-next (loop .loop .inv) (rw (calls-length offering events fuel) (start .pre .1 .1 .1))
-    {o = (outcomeFrom (called .called .result) (called .called .last .1 .1 .1 .1 .1 .1 .0) (called .called .last .1 .1 .1 .1 .1 .1 .1 .0))}
+    {o = (outcomeFrom (decide .decide .result) (decide .decide .last .1 .1 .1 .1 .1 .1 .0) (decide .decide .last .1 .1 .1 .1 .1 .1 .1 .0))}
     (rw (calls-length offering events fuel) (loop-test .loop-test .taken))
-    (rw (call-at offering events fuel (loop .loop .k) (loop-test .loop-test .taken)) (called .called .ensures))
+    (rw (call-at offering events fuel (loop .loop .k) (loop-test .loop-test .taken)) (decide .decide .ensures))
     (rw ((call-at offering events fuel (loop .loop .k) (loop-test .loop-test .taken)), fuel-with offering (getD events (loop .loop .k) 0) fuel)
     (omega (arith, start .fits .fuel))) (accepted _ (match .match .keys2)))
 
@@ -290,8 +291,8 @@ in-turn-spec =
     word-requires-2
     anew-requires
     loop-holds
-    shared-slice-read-called
-    called-requires
+    shared-slice-read-decide
+    decide-requires
     enum-known-answer
     stopped-requires
     same-length

@@ -1,4 +1,4 @@
--- `monitor::Head::refusal` meets its contract: the first check that fails has its number.
+-- `monitor::Head::check_lent` meets its contract: the first check that fails has its number.
 -- Assumes nothing.
 use mathlib.Core.Path.{sym, _∙_}
 use borrow.Author.Needs.{needs}
@@ -13,8 +13,8 @@ use Rattle.machine.proofs.LentRefusal.{
   all-right,
   not-as-described,
 }
-use Rattle.monitor.proofs.Head.refusal.Statement.{statement}
-use Rattle.monitor.proofs.Head.refusal.Tie as tie
+use Rattle.monitor.proofs.Head.check_lent.Statement.{statement}
+use Rattle.monitor.proofs.Head.check_lent.Tie as tie
 
 check-requires : tie.Need-check-requires
 check-requires c κs = search needs
@@ -79,8 +79,8 @@ returns-5 c =
     (headIn (start .args .self)) (start .args .bytes .now) (start .args .words .now) (c .before .before .before .if1 .left) (sized .if2 .left)
     (c .before .as-described .ensures) (c .if3 .left)
 
-pub refusal-spec : {M : Type 1} → statement M
-refusal-spec =
+pub check-lent-spec : {M : Type 1} → statement M
+check-lent-spec =
     tie.close
     (tie.spec
     check-requires

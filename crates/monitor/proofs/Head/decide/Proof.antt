@@ -1,4 +1,4 @@
--- `monitor::Head::called` meets its contract: refused by the first of its own checks that fails, or run.
+-- `monitor::Head::decide` meets its contract: refused by the first of its own checks that fails, or run.
 -- Assumes nothing.
 use Prim.Native.Nat.{ℕ, _+_}
 use mathlib.Core.Path.{sym, _∙_}
@@ -8,7 +8,7 @@ use borrow.Author.Needs.{needs}
 use borrow.Author.Tests.{not-true, not-false}
 use Rattle.layout.specs.Image.{read}
 use Rattle.machine.specs.Areas.{Monitor, stateOf}
-use Rattle.machine.specs.Lent.{callWith}
+use Rattle.machine.specs.Lent.{offerOrGoOn}
 use Rattle.monitor.specs.Lent.{headIn, lent, outcomeFrom}
 use Rattle.machine.proofs.Stepping.{Held, held, passed-valid}
 use Rattle.machine.proofs.Offering.{fuel-with}
@@ -24,8 +24,8 @@ use Rattle.machine.proofs.Deciding.{
   call-state,
   call-passes,
 }
-use Rattle.monitor.proofs.Head.called.Statement.{statement}
-use Rattle.monitor.proofs.Head.called.Tie as tie
+use Rattle.monitor.proofs.Head.decide.Statement.{statement}
+use Rattle.monitor.proofs.Head.decide.Tie as tie
 
 -- what is lent
 abbrev given : tie.Start → Monitor
@@ -49,7 +49,7 @@ returns : tie.Need-returns
 returns c =
     let start = c .before .before .before .before .before .before .before .before in
     rw (c .refused .ensures)
-    (is-refused (read (start .args .image .now)) (room start) (given start) (callWith (start .args .offering) (start .args .event) (start .args .fuel)) _ _
+    (is-refused (read (start .args .image .now)) (room start) (given start) (offerOrGoOn (start .args .offering) (start .args .event) (start .args .fuel)) _ _
     (refuses-event (read (start .args .image .now)) (room start) (headIn (start .args .self)) (start .args .event) (start .args .fuel) (start .args .offering)
     (sym (c .before .before .allowed .ensures) ∙ not-true _ (c .before .if1 .taken))))
 
@@ -60,7 +60,7 @@ returns-2 : tie.Need-returns-2
 returns-2 c =
     let start = c .before .before .before .before .before .before .before .before .before in
     rw (c .refused2 .ensures)
-    (is-refused (read (start .args .image .now)) (room start) (given start) (callWith (start .args .offering) (start .args .event) (start .args .fuel)) _ _
+    (is-refused (read (start .args .image .now)) (room start) (given start) (offerOrGoOn (start .args .offering) (start .args .event) (start .args .fuel)) _ _
     (refuses-fuel (read (start .args .image .now)) (room start) (headIn (start .args .self)) (start .args .event) (start .args .fuel) (start .args .offering)
     (sym (c .before .before .before .allowed .ensures) ∙ not-false _ (c .before .before .if1 .left)) (c .before .if2 .taken)))
 
@@ -88,7 +88,7 @@ returns-3 c =
     let allowed = if1 .before in
     let start = allowed .before .before .before .before .before .before in
     rw (c .refused4 .ensures)
-    (is-refused (read (start .args .image .now)) (room start) (given start) (callWith (start .args .offering) (start .args .event) (start .args .fuel)) _ _
+    (is-refused (read (start .args .image .now)) (room start) (given start) (offerOrGoOn (start .args .offering) (start .args .event) (start .args .fuel)) _ _
     (refuses-room (read (start .args .image .now)) (room start) (headIn (start .args .self)) (start .args .event) (start .args .fuel) (if2 .if2 .left)
     (start .args .offering) (sym (allowed .allowed .ensures) ∙ not-false _ (if1 .if1 .left)) (c .before .before .before .enum-told2 .given .1)
     (sym (c .before .before .has-room .ensures) ∙ not-true _ (c .before .if3 .taken))))
@@ -129,7 +129,7 @@ returns-4 c =
     let allowed = if1 .before in
     let start = allowed .before .before .before .before .before .before in
     rw (c .refused3 .ensures)
-    (is-refused (read (start .args .image .now)) (room start) (given start) (callWith (start .args .offering) (start .args .event) (start .args .fuel)) _ _
+    (is-refused (read (start .args .image .now)) (room start) (given start) (offerOrGoOn (start .args .offering) (start .args .event) (start .args .fuel)) _ _
     (refuses-verdict (read (start .args .image .now)) (room start) (headIn (start .args .self)) (start .args .event) (start .args .fuel)
     (c .before .before .before .if2 .left) (start .args .offering) (sym (allowed .allowed .ensures) ∙ not-false _ (if1 .if1 .left)) _
     (c .before .enum-told .given .1)))
@@ -157,7 +157,7 @@ returns-5 c =
     let offering = start .args .offering in
     let self = start .args .self in
     is-run (read image) (room start) (given start) (lent (taking .taking .result) (taking .taking .last .1 .0) (start .args .words .now))
-    (callWith offering event fuel) _ (stateOf (lent (taking .taking .result) (taking .taking .last .1 .0) (start .args .words .now)))
+    (offerOrGoOn offering event fuel) _ (stateOf (lent (taking .taking .result) (taking .taking .last .1 .0) (start .args .words .now)))
     (outcomeFrom (run .run .result) (run .run .last .1 .1 .1 .1 .1 .1 .0) (run .run .last .1 .1 .1 .1 .1 .1 .1 .0))
     (refuses-none (read image) (room start) (headIn self) event fuel (if2 .if2 .left) offering (sym (allowed .allowed .ensures) ∙ not-false _ (if1 .if1 .left))
     (enum-told2 .enum-told2 .given .1) (sym (has-room .has-room .ensures) ∙ not-false _ (if3 .if3 .left)))
@@ -166,8 +166,8 @@ returns-5 c =
     (room-left offering (room start) (self .settled + self .waiting) (sym (has-room .has-room .ensures) ∙ not-false _ (if3 .if3 .left)))))
     (rw (fuel-with offering event fuel, ← taking .taking .kept .1 .0) (run .run .ensures))
 
-pub called-spec : {M : Type 1} → statement M
-called-spec =
+pub decide-spec : {M : Type 1} → statement M
+decide-spec =
     tie.close
     (tie.spec
     allowed-requires
