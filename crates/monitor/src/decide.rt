@@ -9,7 +9,7 @@ ghost use lib.ListN.{length};
 ghost use Rattle.layout.specs.Image.{read, valid};
 ghost use Rattle.layout.specs.declared.Checked.{Checked};
 ghost use Rattle.machine.specs.Calls.{callChecks, callOf, decided, answerNumber};
-ghost use Rattle.machine.specs.Batch.{inTurn, batched};
+ghost use Rattle.machine.specs.Batch.{eventsMost, inTurn, batched};
 ghost use Rattle.machine.specs.Lent.{Passed, Starts, rowsIn, widthIn, appended, oneMore, offerOrGoOn, offersOrGoesOn, answerFrom};
 ghost use Rattle.monitor.specs.Lent.{headIn, lent, outcomeFrom, batchFrom};
 use crate::BatchReturned;
@@ -20,6 +20,7 @@ use image::wide;
 use layout::Checked;
 use machine::Answer;
 use machine::Counts;
+use machine::FUEL_MOST;
 use machine::Standing;
 
 // An answer as a byte.
@@ -146,7 +147,7 @@ impl Head {
         if !allowed(image, offering, event) {
             return self.refused(12);
         }
-        if 65535 < fuel {
+        if FUEL_MOST < fuel {
             return self.refused(13);
         }
         let verdict = self.verdict;
@@ -202,7 +203,7 @@ impl Head {
     ) -> BatchReturned
         requires lent { ⌜ Passed (length (now bytes)) (now image) (now table) (lent self (now bytes) (now words)) ⌝ }
         requires starts { ⌜ Starts (now image) (now starts) ⌝ }
-        requires few { ⌜ length (now events) ≤ 65535 ⌝ }
+        requires few { ⌜ length (now events) ≤ eventsMost ⌝ }
         requires room { ⌜ length (now events) ≤ length (now answers) ⌝ }
         ensures { λ r. ⌜ batchFrom r (now (bytes .exit)) (now (words .exit)) (now (answers .exit))
             ≡ batched none (lent self (now (bytes .entry)) (now (words .entry))) (now (answers .entry))

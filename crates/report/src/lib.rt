@@ -6,12 +6,16 @@ ghost use lib.ListN.{length};
 ghost use Rattle.rewriting.specs.Lists.{over};
 ghost use Rattle.layout.specs.Image.{read, valid};
 ghost use Rattle.layout.specs.Table.{tableOf};
-ghost use Rattle.printing.specs.Watch.{rulePart, freshMonitor};
+ghost use Rattle.printing.specs.Watch.{inputMost, rulePart, freshMonitor};
 ghost use Rattle.printing.specs.Turns.{lineMost, Events, offering, nextOf, turnOf, watchWith, watchIn, eventsAt, areas, beginOf, beginsFrom, Inside};
 ghost use Rattle.report.specs.Lent.{walkIn, begunIn, turnFrom};
 use grammar::Found;
+use grammar::NAMES_BYTES;
 use grammar::Read;
 use layout::Compiled;
+use layout::IMAGE_BYTES;
+use layout::TABLE_WORDS;
+use machine::CAPACITY;
 use monitor::Head;
 
 // Document 01's 20,480 bytes of input, and fuel 1,000 for each name.
@@ -19,16 +23,7 @@ pub const INPUT_BYTES: usize = 20480;
 
 const FUEL: u32 = 1000;
 
-// What an image, the names' slots and a table need at most, and what a monitor holds.
-pub const IMAGE_BYTES: usize = 1284;
-
-pub const NAMES_BYTES: usize = 1200;
-
-pub const TABLE_WORDS: usize = 16931;
-
-pub const CAPACITY: usize = 2048;
-
-// The most bytes that a line has: `lineMost`, specs/Turns.antt.
+// The most bytes that a line has: `lineMost`, printing/specs/Turns.antt.
 pub const LINE_BYTES: usize = 51261;
 
 // The walk over the event names: the monitor's head, where in the input the next name is looked for, and how long the image and
@@ -180,7 +175,7 @@ impl Walk {
         words: &mut [u16; CAPACITY],
         line: &mut [u8; LINE_BYTES],
     ) -> Line
-        requires { ⌜ length (now x) ≤ 20480 ⌝ }
+        requires { ⌜ length (now x) ≤ inputMost ⌝ }
         ensures { λ r. ⌜ turnFrom r (now (bytes .exit)) (now (words .exit)) (now (line .exit))
             ≡ turnOf (walkIn self) (offering (watchWith (walkIn self) (now (image .entry)) (now (table .entry)) (now (names .entry)) (now (bytes .entry)) (now (words .entry)))
             end (now (x .entry))) (now (line .entry)) ⌝ }

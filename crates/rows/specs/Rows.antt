@@ -11,7 +11,7 @@ use Rattle.rewriting.specs.Occurrences.{lowest}
 use Rattle.layout.specs.States.{next, matching, known, states, number}
 use Rattle.layout.specs.Table.{matchWord, row}
 use Rattle.layout.specs.Words.{text, transition, ownOr}
-use Rattle.trie.specs.Nodes.{matched, failure, Trie, RightFailure}
+use Rattle.trie.specs.Nodes.{matchAt, failureAt, matched, failure, Trie, RightFailure}
 
 -- the child of state v by symbol a, 0 where it has none
 unfoldable pub childNumber : List (List ℕ) → List ℕ → ℕ → ℕ
@@ -36,7 +36,7 @@ pub record Noted (t t′ : List ℕ) (q f : ℕ) : Type 0 where
   pub size : length t′ ≡ length t
   pub own-failure : failure t′ q ≡ f
   pub own-match : matched t′ q ≡ ownOr (matched t q) (matched t f)
-  pub rest : (k : ℕ) → (k ≡ 8 * q + 6 → ⊥) → (k ≡ 8 * q + 7 → ⊥) → getD t′ k 0 ≡ getD t k 0
+  pub rest : (k : ℕ) → (k ≡ matchAt q → ⊥) → (k ≡ failureAt q → ⊥) → getD t′ k 0 ≡ getD t k 0
 
 -- state c's turn has come, where state q of the states of length d is next
 unfoldable pub reached : List (List ℕ) → ℕ → ℕ → ℕ → Bool

@@ -9,9 +9,14 @@ ghost use Rattle.layout.specs.Image.{read, valid};
 ghost use Rattle.layout.specs.States.{states, matching};
 ghost use Rattle.layout.specs.Table.{matchWord};
 ghost use Rattle.layout.specs.Words.{ownOr};
-ghost use Rattle.trie.specs.Nodes.{depth, Trie, Built};
+ghost use Rattle.trie.specs.Nodes.{failureAt, nodeWords, depth, Trie, Built};
 ghost use Rattle.rows.specs.Rows.{Laid, Merged, Noted, FillingAt, Matched, Filled};
 use image::wide;
+use trie::DEPTH;
+use trie::FAILURE;
+use trie::MATCH;
+use trie::NODE;
+use trie::SYMBOL;
 use trie::failure_of;
 
 // All words 0.
@@ -33,8 +38,8 @@ fn lay_children(image: &[u8], trie: &[u16], n: usize, rows: &mut [u16])
 {
     let s = image::symbols(image);
     for c in 1..n {
-        let p = wide::word(trie[8 * c]);
-        let a = wide::word(trie[8 * c + 1]);
+        let p = wide::word(trie[NODE * c]);
+        let a = wide::word(trie[NODE * c + SYMBOL]);
         rows[p * s + a] = c as u16;
     }
 }
@@ -62,14 +67,14 @@ fn merge(rows: &mut [u16], s: usize, q: usize, f: usize)
 
 // The failure state f of node q and, where q has no match word of its own, that of f.
 fn note(trie: &mut [u16], q: usize, f: usize)
-    requires own { ⌜ 8 * q + 7 < length (now trie) ⌝ }
-    requires other { ⌜ 8 * f + 7 < length (now trie) ⌝ }
+    requires own { ⌜ failureAt q < length (now trie) ⌝ }
+    requires other { ⌜ failureAt f < length (now trie) ⌝ }
     requires small { ⌜ f < 65536 ⌝ }
     ensures { λ _. ⌜ Noted (now (trie .entry)) (now (trie .exit)) q f ⌝ }
 {
-    let word = chosen(trie[8 * q + 6], trie[8 * f + 6]);
-    trie[8 * q + 7] = f as u16;
-    trie[8 * q + 6] = word;
+    let word = chosen(trie[NODE * q + MATCH], trie[NODE * f + MATCH]);
+    trie[NODE * q + FAILURE] = f as u16;
+    trie[NODE * q + MATCH] = word;
 }
 
 // State q, whose turn it is: its failure state, match word and row.
@@ -93,7 +98,7 @@ fn fill_depth(image: &[u8], trie: &mut [u16], rows: &mut [u16], n: usize, d: u16
     ensures { λ _. ⌜ FillingAt (read (now (image .entry))) (d + 1) 1 (now (trie .exit)) (now (rows .exit)) ⌝ }
 {
     for q in 1..n {
-        if trie[8 * q + 2] == d {
+        if trie[NODE * q + DEPTH] == d {
             fill_state(image, trie, rows, q);
         }
     }
@@ -117,11 +122,11 @@ pub fn fill(image: &[u8], trie: &mut [u16], n: usize, rows: &mut [u16])
 pub fn write_matches(image: &[u8], trie: &[u16], n: usize, words: &mut [u16])
     requires matches { ⌜ Matched (read (now image)) (now trie) ⌝ }
     requires count { ⌜ n ≡ length (states (read (now image) .rules)) ⌝ }
-    requires nodes { ⌜ 8 * n ≤ length (now trie) ⌝ }
+    requires nodes { ⌜ nodeWords * n ≤ length (now trie) ⌝ }
     requires size { ⌜ length (now words) ≡ n ⌝ }
     ensures { λ _. ⌜ now (words .exit) ≡ map (λ q. matchWord (matching (read (now (image .entry)) .rules) q)) (states (read (now (image .entry)) .rules)) ⌝ }
 {
     for q in 0..n {
-        words[q] = trie[8 * q + 6];
+        words[q] = trie[NODE * q + MATCH];
     }
 }

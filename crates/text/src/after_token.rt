@@ -12,6 +12,7 @@ ghost use Rattle.grammar.specs.Grammar as Grammar;
 ghost use Rattle.grammar.specs.Grammar.{name, word, arrow, stop, sideSymbol, closeRule, afterRun};
 ghost use Rattle.grammar.specs.Sound.{Sound};
 ghost use Rattle.text.specs.Held.{Keeps, Held, TakenIs, Takes, Lengthens, Closed, ruleAt};
+ghost use Rattle.grammar.specs.Names.{slotSize, symbolsSize, wordsSize};
 use crate::Place;
 use crate::Reader;
 use crate::Taken;
@@ -49,7 +50,7 @@ impl Reader {
 
     // A name in the list of events.
     fn event(self, x: &[u8], symbols: &mut [u8]) -> Taken
-        requires slots { ⌜ 25 * self .symbols ≤ length (now symbols) ⌝ }
+        requires slots { ⌜ slotSize * self .symbols ≤ length (now symbols) ⌝ }
         requires named { ⌜ isName (now x) ≡ true ⌝ }
         ensures { λ r. ⌜ ((b c d : List ℕ) → self .place ≡ Place.Events
             → Takes (λ s. name s (now (x .entry)) (s .place)) self (now (symbols .entry)) b c d r (now (symbols .exit)) b c d) ⌝ }
@@ -68,7 +69,7 @@ impl Reader {
 
     // A name in a side: the place behind it is `to`.
     fn side_symbol(self, to: Place, x: &[u8], symbols: &mut [u8], bodies: &mut [u8]) -> Taken
-        requires slots { ⌜ 25 * self .symbols ≤ length (now symbols) ⌝ }
+        requires slots { ⌜ slotSize * self .symbols ≤ length (now symbols) ⌝ }
         requires named { ⌜ isName (now x) ≡ true ⌝ }
         requires room { ⌜ (self .side < 8 → self .bodies < length (now bodies)) ⌝ }
         ensures { λ r. ⌜ ((b c side : List ℕ) (p : List ℕ → Grammar.Place) (s : Grammar.Reading)
@@ -94,7 +95,7 @@ impl Reader {
     // A name.
     fn name(self, x: &[u8], symbols: &mut [u8], bodies: &mut [u8]) -> Taken
         requires held { ⌜ Held self ⌝ }
-        requires slots { ⌜ length (now symbols) ≡ 800 ⌝ }
+        requires slots { ⌜ length (now symbols) ≡ symbolsSize ⌝ }
         requires room { ⌜ length (now bodies) ≡ 1024 ⌝ }
         requires named { ⌜ isName (now x) ≡ true ⌝ }
         ensures { λ r. ⌜ ((b c : List ℕ) → Takes (λ s. name s (now (x .entry)) (s .place)) self
@@ -118,7 +119,7 @@ impl Reader {
 
     // A `#` word as a right side.
     fn right_word(self, x: &[u8], words: &mut [u8]) -> Taken
-        requires slots { ⌜ 25 * self .words ≤ length (now words) ⌝ }
+        requires slots { ⌜ slotSize * self .words ≤ length (now words) ⌝ }
         requires named { ⌜ isName (now x) ≡ true ⌝ }
         ensures { λ r. ⌜ ((a c d : List ℕ) → self .place ≡ Place.Right
             → Takes (λ s. word s (now (x .entry)) (s .place)) self a (now (words .entry)) c d r a (now (words .exit)) c d) ⌝ }
@@ -143,7 +144,7 @@ impl Reader {
     // A `#` word.
     fn word(self, x: &[u8], words: &mut [u8]) -> Taken
         requires held { ⌜ Held self ⌝ }
-        requires slots { ⌜ length (now words) ≡ 400 ⌝ }
+        requires slots { ⌜ length (now words) ≡ wordsSize ⌝ }
         requires named { ⌜ isName (now x) ≡ true ⌝ }
         ensures { λ r. ⌜ ((a c d : List ℕ) → Takes (λ s. word s (now (x .entry)) (s .place)) self
             a (now (words .entry)) c d r a (now (words .exit)) c d) ⌝ }
@@ -235,7 +236,7 @@ impl Reader {
     ) -> Taken
         requires held { ⌜ Held self ⌝ }
         requires named { ⌜ Named kind (now x) ⌝ }
-        requires sizes { ⌜ (length (now symbols) ≡ 800) × (length (now words) ≡ 400) × (length (now contents) ≡ 256) × (length (now bodies) ≡ 1024) ⌝ }
+        requires sizes { ⌜ (length (now symbols) ≡ symbolsSize) × (length (now words) ≡ wordsSize) × (length (now contents) ≡ 256) × (length (now bodies) ≡ 1024) ⌝ }
         ensures { λ r. ⌜ Takes (λ s. afterRun s (tokenAs kind (now (x .entry)))) self
             (now (symbols .entry)) (now (words .entry)) (now (contents .entry)) (now (bodies .entry)) r
             (now (symbols .exit)) (now (words .exit)) (now (contents .exit)) (now (bodies .exit)) ⌝ }

@@ -5,13 +5,19 @@ ghost use mathlib.Core.List.{List, _++_};
 ghost use lib.ListN.{length, replicate};
 ghost use lib.Seq.{paste};
 ghost use Rattle.rewriting.specs.Lists.{over};
-ghost use Rattle.layout.specs.Image.{imageOf};
-ghost use Rattle.grammar.specs.Names.{slots};
+ghost use Rattle.layout.specs.Image.{imageMost, imageOf};
+ghost use Rattle.grammar.specs.Names.{symbolsSize, wordsSize, namesSize, slots};
 ghost use Rattle.grammar.specs.Grammar.{Between, Reading, begun, ruleSetOf};
 ghost use Rattle.grammar.specs.Read.{ended, readText, readOf};
 ghost use Rattle.grammar.specs.Sound.{Sound};
 ghost use Rattle.text.specs.Held.{readerOf, Keeps, FinishedIs, Small};
+use grammar::NAMES_BYTES;
 use grammar::Read;
+use grammar::SLOT_BYTES;
+use grammar::SYMBOLS_BYTES;
+use grammar::TEXT_BYTES;
+use grammar::WORDS_BYTES;
+use layout::IMAGE_BYTES;
 use tokens::bytes;
 use tokens::names;
 
@@ -55,16 +61,16 @@ pub enum Finished {
 
 // Nothing read: two words, `fail` and `succeed`.
 fn begin(words: &mut [u8]) -> Reader
-    requires { ⌜ now words ≡ replicate 400 0 ⌝ }
+    requires { ⌜ now words ≡ replicate wordsSize 0 ⌝ }
     ensures { λ r. ⌜ r ≡ readerOf begun ⌝ }
     ensures { λ r. ⌜ now (words .exit) ≡ slots 16 (begun .words) ⌝ }
 {
-    let mut fail: [u8; 25] = [0; 25];
+    let mut fail: [u8; SLOT_BYTES] = [0; SLOT_BYTES];
     names::make_slot(&mut fail, b"fail");
     names::keep(words, 0, &fail);
-    let mut succeed: [u8; 25] = [0; 25];
+    let mut succeed: [u8; SLOT_BYTES] = [0; SLOT_BYTES];
     names::make_slot(&mut succeed, b"succeed");
-    names::keep(words, 25, &succeed);
+    names::keep(words, SLOT_BYTES, &succeed);
     Reader {
         place: Place::First,
         symbols: 0,
@@ -98,8 +104,8 @@ fn read_tokens(
     contents: &mut [u8],
     bodies: &mut [u8],
 ) -> Finished
-    requires symbols { ⌜ now symbols ≡ replicate 800 0 ⌝ }
-    requires words { ⌜ now words ≡ replicate 400 0 ⌝ }
+    requires symbols { ⌜ now symbols ≡ replicate symbolsSize 0 ⌝ }
+    requires words { ⌜ now words ≡ replicate wordsSize 0 ⌝ }
     requires contents { ⌜ length (now contents) ≡ 256 ⌝ }
     requires bodies { ⌜ length (now bodies) ≡ 1024 ⌝ }
     ensures { λ r. ⌜ FinishedIs (readText (now (text .entry))) r
@@ -149,7 +155,7 @@ fn write_image(reader: Reader, contents: &[u8], bodies: &[u8], image: &mut [u8])
     requires small { ⌜ Small reader ⌝ }
     requires contents { ⌜ length (now contents) ≡ 256 ⌝ }
     requires bodies { ⌜ length (now bodies) ≡ 1024 ⌝ }
-    requires room { ⌜ 1284 ≤ length (now image) ⌝ }
+    requires room { ⌜ imageMost ≤ length (now image) ⌝ }
     ensures { λ r. ⌜ ((a b : List ℕ) (s : Reading) → Sound s → s .place ≡ Between
         → Keeps s reader a b (now (contents .entry)) (now (bodies .entry))
         → (r ≡ length (imageOf (ruleSetOf s))) × (now (image .exit) ≡ over (imageOf (ruleSetOf s)) (now (image .entry)))) ⌝ }
@@ -168,13 +174,13 @@ fn write_image(reader: Reader, contents: &[u8], bodies: &[u8], image: &mut [u8])
 
 // The name slots: 32 of symbols, 16 of words.
 fn write_names(symbols: &[u8], words: &[u8], names: &mut [u8])
-    requires symbols { ⌜ length (now symbols) ≡ 800 ⌝ }
-    requires words { ⌜ length (now words) ≡ 400 ⌝ }
-    requires room { ⌜ 1200 ≤ length (now names) ⌝ }
+    requires symbols { ⌜ length (now symbols) ≡ symbolsSize ⌝ }
+    requires words { ⌜ length (now words) ≡ wordsSize ⌝ }
+    requires room { ⌜ namesSize ≤ length (now names) ⌝ }
     ensures { λ _. ⌜ now (names .exit) ≡ over (now (symbols .entry) ++ now (words .entry)) (now (names .entry)) ⌝ }
 {
-    copy(symbols, 800, names, 0);
-    copy(words, 400, names, 800);
+    copy(symbols, SYMBOLS_BYTES, names, 0);
+    copy(words, WORDS_BYTES, names, SYMBOLS_BYTES);
 }
 
 // Reads a rule text: its image into one area, its name slots into the other. Both are made beside them and written when the
@@ -184,17 +190,17 @@ pub fn read_rules(text: &[u8], image: &mut [u8], names: &mut [u8]) -> Read
     ensures image { λ r. ⌜ now (image .exit) ≡ readOf (now (text .entry)) (now (image .entry)) (now (names .entry)) .image ⌝ }
     ensures names { λ r. ⌜ now (names .exit) ≡ readOf (now (text .entry)) (now (image .entry)) (now (names .entry)) .names ⌝ }
 {
-    if 16384 < text.len() {
+    if TEXT_BYTES < text.len() {
         return Read::Refused(1, 0);
     }
-    if image.len() < 1284 {
+    if image.len() < IMAGE_BYTES {
         return Read::Refused(2, 0);
     }
-    if names.len() < 1200 {
+    if names.len() < NAMES_BYTES {
         return Read::Refused(2, 0);
     }
-    let mut symbols: [u8; 800] = [0; 800];
-    let mut words: [u8; 400] = [0; 400];
+    let mut symbols: [u8; SYMBOLS_BYTES] = [0; SYMBOLS_BYTES];
+    let mut words: [u8; WORDS_BYTES] = [0; WORDS_BYTES];
     let mut contents: [u8; 256] = [0; 256];
     let mut bodies: [u8; 1024] = [0; 1024];
     match read_tokens(text, &mut symbols, &mut words, &mut contents, &mut bodies) {
