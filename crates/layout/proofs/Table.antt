@@ -14,7 +14,19 @@ use borrow.Author.Tests.{lt-ltb}
 use Rattle.rewriting.specs.Lists.{prefix, below, upTo}
 use Rattle.rewriting.specs.Rules.{Rule, RuleSet, inRange}
 use Rattle.rewriting.specs.Occurrences.{ending}
-use Rattle.rewriting.proofs.Lists.{and-both, all-append, all-map, all-flatMap, all-true, length-upTo, getD-upTo, getD-map, length-flatMap, getD-flatMap, begins-at}
+use Rattle.rewriting.proofs.Lists.{
+  and-both,
+  all-append,
+  all-map,
+  all-flatMap,
+  all-true,
+  length-upTo,
+  getD-upTo,
+  getD-map,
+  length-flatMap,
+  getD-flatMap,
+  begins-at,
+}
 use Rattle.rewriting.proofs.Ranges.{ranges}
 use Rattle.rewriting.proofs.Scan.{ending-left}
 use Rattle.layout.specs.States.{next, matching, states, number}

@@ -91,7 +91,8 @@ fn make_ready(
     words: &mut [u16; CAPACITY],
 ) -> Begun
     requires { ⌜ valid (now image) ≡ true ⌝ }
-    ensures answer { λ r. ⌜ begunIn r ≡ Events (record { head = freshMonitor .head; at = at; image = length (now (image .entry)); table = length (tableOf (read (now (image .entry)))) }) ⌝ }
+    ensures answer { λ r. ⌜ begunIn r
+        ≡ Events (record { head = freshMonitor .head; at = at; image = length (now (image .entry)); table = length (tableOf (read (now (image .entry)))) }) ⌝ }
     ensures table { λ r. ⌜ now (table .exit) ≡ over (tableOf (read (now (image .entry)))) (now (table .entry)) ⌝ }
     ensures bytes { λ r. ⌜ now (bytes .exit) ≡ freshMonitor .bytes ⌝ }
     ensures words { λ r. ⌜ now (words .exit) ≡ freshMonitor .words ⌝ }
@@ -122,8 +123,10 @@ pub fn begin(
     words: &mut [u16; CAPACITY],
     line: &mut [u8; LINE_BYTES],
 ) -> Begun
-    ensures outcome { λ r. ⌜ beginsFrom (begunIn r) (areas (now (image .exit)) (now (names .exit)) (now (table .exit)) (now (bytes .exit)) (now (words .exit)) (now (line .exit)))
-        ≡ beginOf (now (input .entry)) (areas (now (image .entry)) (now (names .entry)) (now (table .entry)) (now (bytes .entry)) (now (words .entry)) (now (line .entry))) ⌝ }
+    ensures outcome { λ r. ⌜ beginsFrom (begunIn r)
+        (areas (now (image .exit)) (now (names .exit)) (now (table .exit)) (now (bytes .exit)) (now (words .exit)) (now (line .exit)))
+        ≡ beginOf (now (input .entry)) (areas (now (image .entry)) (now (names .entry)) (now (table .entry)) (now (bytes .entry))
+        (now (words .entry)) (now (line .entry))) ⌝ }
     ensures inside { λ r. ⌜ Inside (begunIn r) ⌝ }
 {
     if INPUT_BYTES < input.len() {
@@ -177,7 +180,8 @@ impl Walk {
     ) -> Line
         requires { ⌜ length (now x) ≤ inputMost ⌝ }
         ensures { λ r. ⌜ turnFrom r (now (bytes .exit)) (now (words .exit)) (now (line .exit))
-            ≡ turnOf (walkIn self) (offering (watchWith (walkIn self) (now (image .entry)) (now (table .entry)) (now (names .entry)) (now (bytes .entry)) (now (words .entry)))
+            ≡ turnOf (walkIn self) (offering (watchWith (walkIn self) (now (image .entry)) (now (table .entry)) (now (names .entry))
+            (now (bytes .entry)) (now (words .entry)))
             end (now (x .entry))) (now (line .entry)) ⌝ }
         ensures { λ r. ⌜ r .length ≤ lineMost ⌝ }
     {
@@ -216,7 +220,8 @@ impl Walk {
         line: &mut [u8; LINE_BYTES],
     ) -> Line
         ensures turn { λ r. ⌜ turnFrom r (now (bytes .exit)) (now (words .exit)) (now (line .exit))
-            ≡ turnOf (walkIn self) (nextOf (watchWith (walkIn self) (now (image .entry)) (now (table .entry)) (now (names .entry)) (now (bytes .entry)) (now (words .entry)))
+            ≡ turnOf (walkIn self) (nextOf (watchWith (walkIn self) (now (image .entry)) (now (table .entry)) (now (names .entry))
+            (now (bytes .entry)) (now (words .entry)))
             (now (input .entry)) (self .at)) (now (line .entry)) ⌝ }
         ensures fits { λ r. ⌜ r .length ≤ lineMost ⌝ }
         ensures onward { λ r. ⌜ ((r .length ≡ 0 → ⊥) → (self .at < r .walk .at) × (r .walk .at ≤ length (now (input .entry)))) ⌝ }
@@ -258,7 +263,8 @@ impl Walk {
         line: &mut [u8; LINE_BYTES],
     ) -> Line
         ensures turn { λ r. ⌜ turnFrom r (now (bytes .exit)) (now (words .exit)) (now (line .exit))
-            ≡ turnOf (walkIn self) (nextOf (watchIn (walkIn self) (now (image .entry)) (now (table .entry)) (now (names .entry)) (now (bytes .entry)) (now (words .entry)))
+            ≡ turnOf (walkIn self) (nextOf (watchIn (walkIn self) (now (image .entry)) (now (table .entry)) (now (names .entry))
+            (now (bytes .entry)) (now (words .entry)))
             (now (input .entry)) (self .at)) (now (line .entry)) ⌝ }
         ensures fits { λ r. ⌜ r .length ≤ lineMost ⌝ }
         ensures onward { λ r. ⌜ ((r .length ≡ 0 → ⊥) → (self .at < r .walk .at) × (r .walk .at ≤ length (now (input .entry)))) ⌝ }

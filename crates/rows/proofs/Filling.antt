@@ -57,7 +57,8 @@ module _ (set : RuleSet) (done : ℕ → Bool) (t rows : List ℕ) (filling : Fi
 
     -- so are its parent and its parent's failure state
     pub parent-fails : 0 < parent t q → FailsTo (set .rules) (text (set .rules) (parent t q)) (failure t (parent t q))
-    parent-fails high = fails-to (set .rules) (text (set .rules) (parent t q)) (state-long (set .rules) (parent t q) high up) (failure t (parent t q)) (kept high)
+    parent-fails high = fails-to (set .rules) (text (set .rules) (parent t q)) (state-long (set .rules) (parent t q) high up)
+        (failure t (parent t q)) (kept high)
 
     -- by which its own is found
     pub own-failure : failureBy t rows (set .symbols) q ≡ number (states (set .rules)) (failureState (set .rules) (text (set .rules) q))

@@ -23,7 +23,18 @@ use tokens::names;
 impl Reader {
     // The same at another place.
     fn at(self, place: Place) -> Reader
-        ensures { λ r. ⌜ r ≡ record { place = place; symbols = self .symbols; words = self .words; events = self .events; rules = self .rules; bodies = self .bodies; left = self .left; side = self .side; kind = self .kind } ⌝ }
+        ensures { λ r. ⌜ r
+            ≡ record {
+              place = place;
+              symbols = self .symbols;
+              words = self .words;
+              events = self .events;
+              rules = self .rules;
+              bodies = self .bodies;
+              left = self .left;
+              side = self .side;
+              kind = self .kind;
+            } ⌝ }
     {
         Reader {
             place: place,
@@ -236,7 +247,8 @@ impl Reader {
     ) -> Taken
         requires held { ⌜ Held self ⌝ }
         requires named { ⌜ Named kind (now x) ⌝ }
-        requires sizes { ⌜ (length (now symbols) ≡ symbolsSize) × (length (now words) ≡ wordsSize) × (length (now contents) ≡ 256) × (length (now bodies) ≡ 1024) ⌝ }
+        requires sizes { ⌜ (length (now symbols) ≡ symbolsSize) × (length (now words) ≡ wordsSize) × (length (now contents) ≡ 256)
+            × (length (now bodies) ≡ 1024) ⌝ }
         ensures { λ r. ⌜ Takes (λ s. afterRun s (tokenAs kind (now (x .entry)))) self
             (now (symbols .entry)) (now (words .entry)) (now (contents .entry)) (now (bodies .entry)) r
             (now (symbols .exit)) (now (words .exit)) (now (contents .exit)) (now (bodies .exit)) ⌝ }

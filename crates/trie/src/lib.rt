@@ -7,7 +7,25 @@ ghost use lib.ListN.{length, take, replicate};
 ghost use Rattle.layout.specs.Image.{read, valid};
 ghost use Rattle.layout.specs.Places.{leftAt};
 ghost use Rattle.layout.specs.States.{statesMost, states};
-ghost use Rattle.trie.specs.Nodes.{failureAt, symbolAt, parent, symbol, depth, children, failure, failureBy, Linked, ChildOr, added, Followed, marked, Grown, FollowedRule, Roomy, Built};
+ghost use Rattle.trie.specs.Nodes.{
+  failureAt,
+  symbolAt,
+  parent,
+  symbol,
+  depth,
+  children,
+  failure,
+  failureBy,
+  Linked,
+  ChildOr,
+  added,
+  Followed,
+  marked,
+  Grown,
+  FollowedRule,
+  Roomy,
+  Built,
+};
 use image::wide;
 
 // A node has eight words: its parent, then these. specs/Nodes.antt says what they are.
