@@ -12,6 +12,7 @@ use layout::Checked;
 use layout::Compiled;
 use trie::FEW_WORDS;
 use trie::WORDS;
+use trie::rows;
 
 mod compare;
 

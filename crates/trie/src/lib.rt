@@ -1,5 +1,5 @@
 // The trie of the left sides, one node of eight words for each state. specs/Nodes.antt has the layout.
-// The module is private: what its functions ask, compile and check have shown.
+// What its functions ask, compile and check of the crate table have shown: it is the only one that calls them.
 ghost use Prim.Native.Nat.{_+_, _*_, _<_};
 ghost use mathlib.Core.Path.{_≡_};
 ghost use mathlib.Core.Bool.{true};
@@ -27,6 +27,8 @@ ghost use Rattle.trie.specs.Nodes.{
   Built,
 };
 use image::wide;
+
+pub mod rows;
 
 // A node has eight words: its parent, then these. specs/Nodes.antt says what they are.
 pub const NODE: usize = 8;
