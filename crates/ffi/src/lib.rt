@@ -85,7 +85,7 @@ pub extern "C" fn watcher_check_table(image: &[u8], table: &[u16]) -> u32
 {
     match table::check(image, table) {
         Checked::Passed => 0,
-        Checked::Refused(n) => n,
+        Checked::Refused(number) => number,
     }
 }
 
@@ -185,10 +185,10 @@ pub extern "C" fn watcher_fresh(head: &mut [u64; 4], bytes: &mut [u8], words: &m
     let begun = monitor::fresh(bytes, words);
     set_head(head, begun.head);
     let refusal = begun.refusal;
-    match refusal {
-        Checked::Passed => 0,
-        Checked::Refused(n) => n,
+    if let Checked::Refused(n) = refusal {
+        return n;
     }
+    0
 }
 
 // offer: 0 or the refusal's number; in `out` the answer and the counts.

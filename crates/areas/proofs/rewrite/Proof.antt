@@ -66,39 +66,39 @@ within s n e =
 
 sub-first : tie.Need-sub-first
 sub-first c =
-    let place = c .before .before .before .before .before in
-    omega (arith, facts place)
+    let start = c .before .before .before .before .before in
+    omega (arith, facts start)
 
 add-kept : tie.Need-add-kept
 add-kept c =
-    let place = c .before .before .before .before .before in
-    omega (arith, facts place)
+    let start = c .before .before .before .before .before in
+    omega (arith, facts start)
 
 left-length-requires : tie.Need-left-length-requires
 left-length-requires c κs =
-    let place = c .before .before .before .before .before in
-    (good place, is-rule place)
+    let start = c .before .before .before .before .before in
+    (good start, is-rule start)
 
 sub-kept : tie.Need-sub-kept
 sub-kept c =
-    let place = c .before .before .before .before .before .before in
-    omega (arith, left-side place, c .left-length .ensures)
+    let start = c .before .before .before .before .before .before in
+    omega (arith, left-side start, c .left-length .ensures)
 
 add-behind : tie.Need-add-behind
 add-behind c = search needs
 
 right-side-requires : tie.Need-right-side-requires
 right-side-requires c κs =
-    let place = c .before .before .before .before .before .before in
-    (good place, is-rule place)
+    let start = c .before .before .before .before .before .before in
+    (good start, is-rule start)
 
 enum-known-n : tie.Need-enum-known-n
 enum-known-n c = search needs
 
 add-end : tie.Need-add-end
 add-end c =
-    let place = c .before .before .before .before .before .before .before .before .before .before in
-    omega (arith, facts place, few place _ (sym (c .before .before .before .right-side .ensures) ∙ c .before .n .given .1))
+    let start = c .before .before .before .before .before .before .before .before .before .before in
+    omega (arith, facts start, few start _ (sym (c .before .before .before .right-side .ensures) ∙ c .before .n .given .1))
 
 returns : tie.Need-returns
 returns c =
@@ -112,9 +112,9 @@ returns c =
 take-off-requires : tie.Need-take-off-requires
 take-off-requires c κs =
     let left-length = c .before .before .before .before .before .before .before in
-    let place = left-length .before .before .before .before .before .before in (
-      omega (arith, facts place, one-waits place),
-      (omega (arith, some-symbol place, left-length .left-length .ensures), (omega (arith, facts place), omega (arith, facts place))),
+    let start = left-length .before .before .before .before .before .before in (
+      omega (arith, facts start, one-waits start),
+      (omega (arith, some-symbol start, left-length .left-length .ensures), (omega (arith, facts start), omega (arith, facts start))),
     )
 
 mul-word : tie.Need-mul-word
@@ -141,24 +141,24 @@ put-back-requires c κs =
     let if1 = take-off .before .before .before in
     let n = if1 .before .before in
     let right-side = n .before .before in
-    let place = right-side .before .before .before .before .before .before .before in
-    let bound = within place _ (sym (right-side .right-side .ensures) ∙ n .n .given .1) in
-    (rw (c .before .word .ensures) bound, omega (arith, facts place, one-waits place, if1 .if1 .left, take-off .take-off .kept .0))
+    let start = right-side .before .before .before .before .before .before .before in
+    let bound = within start _ (sym (right-side .right-side .ensures) ∙ n .n .given .1) in
+    (rw (c .before .word .ensures) bound, omega (arith, facts start, one-waits start, if1 .if1 .left, take-off .take-off .kept .0))
 
 sub-t27 : tie.Need-sub-t27
 sub-t27 c =
-    let place = c .before .before .before .before .before .before .before .before .before .before .before .before .before .before .before .before .before
+    let start = c .before .before .before .before .before .before .before .before .before .before .before .before .before .before .before .before .before
     .before .before .before .before .before .before .before in
-    one-waits place
+    one-waits start
 
 add-t33 : tie.Need-add-t33
 add-t33 c =
     let if1 = c .before .before .before .before .before .before .before .before .before .before .before .before .before in
     let n = if1 .before .before in
     let right-side = n .before .before in
-    let place = right-side .before .before in
-    let place2 = place .before .before .before .before .before in
-    omega (arith, facts place2, long place, if1 .if1 .left, few place2 _ (sym (right-side .right-side .ensures) ∙ n .n .given .1))
+    let kept = right-side .before .before in
+    let start = kept .before .before .before .before .before in
+    omega (arith, facts start, long kept, if1 .if1 .left, few start _ (sym (right-side .right-side .ensures) ∙ n .n .given .1))
 
 enum-known-v : tie.Need-enum-known-v
 enum-known-v c = search needs
@@ -166,15 +166,15 @@ enum-known-v c = search needs
 take-off-requires-2 : tie.Need-take-off-requires-2
 take-off-requires-2 c κs =
     let left-length = c .before .before .before .before .before .before in
-    let place = left-length .before .before .before .before .before .before in (
-      omega (arith, facts place, one-waits place),
-      (omega (arith, some-symbol place, left-length .left-length .ensures), (omega (arith, facts place), omega (arith, facts place))),
+    let start = left-length .before .before .before .before .before .before in (
+      omega (arith, facts start, one-waits start),
+      (omega (arith, some-symbol start, left-length .left-length .ensures), (omega (arith, facts start), omega (arith, facts start))),
     )
 
 sub-closed : tie.Need-sub-closed
 sub-closed c =
-    let place = c .before .before .before .before .before .before .before .before .before .before .before .before .before .before .before .before .before in
-    one-waits place
+    let start = c .before .before .before .before .before .before .before .before .before .before .before .before .before .before .before .before .before in
+    one-waits start
 
 closed-requires : tie.Need-closed-requires
 closed-requires c κs = search needs
@@ -193,18 +193,18 @@ returns-2 c =
     let n = if1 .before .before in
     let right-side = n .before .before in
     let left-length = right-side .before in
-    let s = left-length .before .before .before .before .before .before in
-    let i = s .args .i in
-    let r = string s _ (sym (right-side .right-side .ensures) ∙ n .n .given .1) in
-    let start = s .pre .1 .0 i (is-rule s) .1 in
+    let start = left-length .before .before .before .before .before .before in
+    let i = start .args .i in
+    let r = string start _ (sym (right-side .right-side .ensures) ∙ n .n .given .1) in
+    let right-start = start .pre .1 .0 i (is-rule start) .1 in
     rw (c .before .before .put-back .ensures)
-    (put-step (read (s .args .image .now)) (length (s .args .bytes .now)) (given s) (facts s) i (s .pre .1 .1)
+    (put-step (read (start .args .image .now)) (length (start .args .bytes .now)) (given start) (facts start) i (start .pre .1 .1)
     (record {
       first-is = refl;
-      kept-is = (ap (λ (x : ℕ). s .args .settled + 1 - x) (left-length .left-length .ensures));
+      kept-is = (ap (λ (x : ℕ). start .args .settled + 1 - x) (left-length .left-length .ensures));
       bytes-is = take-off .take-off .ensures .0;
       words-is = take-off .take-off .ensures .1;
-    }) (r .0) _ _ (r .1) (r .2) (rw (word .word .ensures, start) (put-here (s .args .image .now) (good s) i (is-rule s) (r .0) (r .1) _ (r .2)))
+    }) (r .0) _ _ (r .1) (r .2) (rw (word .word .ensures, right-start) (put-here (start .args .image .now) (good start) i (is-rule start) (r .0) (r .1) _ (r .2)))
     (if1 .if1 .left))
 
 same-length-3 : tie.Need-same-length-3

@@ -30,8 +30,8 @@ same-length-2 c = search needs
 returns : tie.Need-returns
 unfolding refusalNumber refusedAs
 returns c =
-    let begun = c .before .before .before .before .before .before .before .before in
-    fresh-made (begun .fresh .ensures) _ _ (rw (c .enum-told .given .1)) (c .before .before .set-head .ensures)
+    let begun = c .before .before .before .before .before .before .before .before .before in
+    fresh-made (begun .fresh .ensures) _ _ (rw (c .before .refusal .given .1)) (c .before .before .before .set-head .ensures)
 
 same-length-3 : tie.Need-same-length-3
 same-length-3 c = search needs
@@ -42,8 +42,8 @@ same-length-4 c = search needs
 returns-2 : tie.Need-returns-2
 unfolding refusalNumber refusedAs
 returns-2 c =
-    let begun = c .before .before .before .before .before .before .before .before .before in
-    fresh-made (begun .fresh .ensures) _ _ (rw (c .before .refusal .given .1)) (c .before .before .before .set-head .ensures)
+    let begun = c .before .before .before .before .before .before .before .before in
+    fresh-made (begun .fresh .ensures) _ _ (rw (c .enum-told .given .1)) (c .before .before .set-head .ensures)
 
 pub watcher-fresh-spec : {M : Type 1} → statement M
 watcher-fresh-spec =
@@ -51,11 +51,11 @@ watcher-fresh-spec =
     (tie.spec
     fresh-requires
     set-head-requires
-    enum-told
     enum-known-refusal
     same-length
     same-length-2
     returns
+    enum-told
     same-length-3
     same-length-4
     returns-2)

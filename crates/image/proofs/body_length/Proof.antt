@@ -44,8 +44,8 @@ whole c =
 add-result : tie.Need-add-result
 unfolding rule-of
 add-result c =
-    let s = c .before .before .before .before .before .before in
-    omega (arith, whole c, left-within (s .args .image .now) (s .pre .0) (s .args .i) (s .pre .1))
+    let start = c .before .before .before .before .before .before in
+    omega (arith, whole c, left-within (start .args .image .now) (start .pre .0) (start .args .i) (start .pre .1))
 
 enum-told : tie.Need-enum-told
 enum-told c = search needs

@@ -84,8 +84,8 @@ shared-slice-read-all-below c = search needs
 
 all-below-requires : tie.Need-all-below-requires
 all-below-requires c κs =
-    let place = c .before .before .before .before .before in
-    omega (arith, header place)
+    let start = c .before .before .before .before .before in
+    omega (arith, header start)
 
 returns-3 : tie.Need-returns-3
 returns-3 c =

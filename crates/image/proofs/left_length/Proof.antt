@@ -18,16 +18,16 @@ add-byte c =
 
 shared-slice-read-byte : tie.Need-shared-slice-read-byte
 shared-slice-read-byte c =
-    let s = c .before .before in
-    omega (arith, contents-inside (s .args .image .now) (s .pre .0) (s .args .i) (s .pre .1))
+    let start = c .before .before in
+    omega (arith, contents-inside (start .args .image .now) (start .pre .0) (start .args .i) (start .pre .1))
 
 byte-requires : tie.Need-byte-requires
 byte-requires c κs = search needs
 
 returns : tie.Need-returns
 returns c =
-    let s = c .before .before .before in
-    omega (arith, contents-left (s .args .image .now) (s .pre .0) (s .args .i) (s .pre .1))
+    let start = c .before .before .before in
+    omega (arith, contents-left (start .args .image .now) (start .pre .0) (start .args .i) (start .pre .1))
 
 pub left-length-spec : {M : Type 1} → statement M
 left-length-spec = tie.close (tie.spec mul-byte add-byte shared-slice-read-byte byte-requires returns)

@@ -13,33 +13,33 @@ use Rattle.image.proofs.right_side.Tie as tie
 
 mul-n : tie.Need-mul-n
 mul-n c =
-    let s = c .before in
-    omega (arith, contents-inside (s .args .image .now) (s .pre .0) (s .args .i) (s .pre .1))
+    let start = c .before in
+    omega (arith, contents-inside (start .args .image .now) (start .pre .0) (start .args .i) (start .pre .1))
 
 add-n : tie.Need-add-n
 add-n c =
-    let s = c .before in
-    omega (arith, contents-inside (s .args .image .now) (s .pre .0) (s .args .i) (s .pre .1))
+    let start = c .before in
+    omega (arith, contents-inside (start .args .image .now) (start .pre .0) (start .args .i) (start .pre .1))
 
 shared-slice-read-n : tie.Need-shared-slice-read-n
 shared-slice-read-n c =
-    let s = c .before .before in
-    omega (arith, contents-inside (s .args .image .now) (s .pre .0) (s .args .i) (s .pre .1))
+    let start = c .before .before in
+    omega (arith, contents-inside (start .args .image .now) (start .pre .0) (start .args .i) (start .pre .1))
 
 mul-if1 : tie.Need-mul-if1
 mul-if1 c =
-    let s = c .before .before in
-    omega (arith, contents-inside (s .args .image .now) (s .pre .0) (s .args .i) (s .pre .1))
+    let start = c .before .before in
+    omega (arith, contents-inside (start .args .image .now) (start .pre .0) (start .args .i) (start .pre .1))
 
 add-if1 : tie.Need-add-if1
 add-if1 c =
-    let s = c .before .before in
-    omega (arith, contents-inside (s .args .image .now) (s .pre .0) (s .args .i) (s .pre .1))
+    let start = c .before .before in
+    omega (arith, contents-inside (start .args .image .now) (start .pre .0) (start .args .i) (start .pre .1))
 
 shared-slice-read-if1 : tie.Need-shared-slice-read-if1
 shared-slice-read-if1 c =
-    let s = c .before .before .before in
-    omega (arith, contents-inside (s .args .image .now) (s .pre .0) (s .args .i) (s .pre .1))
+    let start = c .before .before .before in
+    omega (arith, contents-inside (start .args .image .now) (start .pre .0) (start .args .i) (start .pre .1))
 
 cast-t11 : tie.Need-cast-t11
 cast-t11 c =
@@ -51,21 +51,21 @@ byte-requires c κs = search needs
 
 returns : tie.Need-returns
 returns c =
-    let s = c .before .before .before .before in
-    let b = s .args .image .now in
-    let i = s .args .i in
+    let start = c .before .before .before .before in
+    let b = start .args .image .now in
+    let i = start .args .i in
     let x = rule (read b .rules) i .right in
-    let k : kind x ≡ 1 = omega (arith, contents-kind b (s .pre .0) i (s .pre .1)) in
-    ap RightSide.Close (contents-right b (s .pre .0) i (s .pre .1)) ∙ sym (right-close x k)
+    let k : kind x ≡ 1 = omega (arith, contents-kind b (start .pre .0) i (start .pre .1)) in
+    ap RightSide.Close (contents-right b (start .pre .0) i (start .pre .1)) ∙ sym (right-close x k)
 
 returns-2 : tie.Need-returns-2
 returns-2 c =
-    let s = c .before .before .before .before .before in
-    let b = s .args .image .now in
-    let i = s .args .i in
+    let start = c .before .before .before .before .before in
+    let b = start .args .image .now in
+    let i = start .args .i in
     let x = rule (read b .rules) i .right in
-    let k : kind x ≡ 1 → ⊥ = λ e. omega (arith, contents-kind b (s .pre .0) i (s .pre .1)) in
-    ap RightSide.Put (c .byte .ensures ∙ contents-right b (s .pre .0) i (s .pre .1)) ∙ sym (right-put x k)
+    let k : kind x ≡ 1 → ⊥ = λ e. omega (arith, contents-kind b (start .pre .0) i (start .pre .1)) in
+    ap RightSide.Put (c .byte .ensures ∙ contents-right b (start .pre .0) i (start .pre .1)) ∙ sym (right-put x k)
 
 pub right-side-spec : {M : Type 1} → statement M
 right-side-spec =

@@ -27,8 +27,8 @@ cast-table c =
 
 slice-write-table : tie.Need-slice-write-table
 slice-write-table c =
-    let place = c .before .before .before .before in
-    omega (arith, some place)
+    let start = c .before .before .before .before in
+    omega (arith, some start)
 
 cast-table-2 : tie.Need-cast-table-2
 cast-table-2 c =
@@ -37,8 +37,8 @@ cast-table-2 c =
 
 slice-write-table-2 : tie.Need-slice-write-table-2
 slice-write-table-2 c =
-    let place = c .before .before .before .before in
-    simp length-set (omega (arith, some place))
+    let start = c .before .before .before .before in
+    simp length-set (omega (arith, some start))
 
 add-rows : tie.Need-add-rows
 add-rows c = search needs
@@ -48,13 +48,13 @@ mul-fill c = search needs
 
 sub-fill : tie.Need-sub-fill
 sub-fill c =
-    let place = c .before .before .before .before .before in
-    simp length-set (omega (arith, some place))
+    let start = c .before .before .before .before .before in
+    simp length-set (omega (arith, some start))
 
 part-fill-start : tie.Need-part-fill-start
 part-fill-start c =
-    let place = c .before .before .before .before .before in
-    simp length-set (omega (arith, some place))
+    let start = c .before .before .before .before .before in
+    simp length-set (omega (arith, some start))
 
 part-fill-end : tie.Need-part-fill-end
 part-fill-end c = search needs

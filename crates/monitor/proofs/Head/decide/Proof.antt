@@ -75,8 +75,8 @@ enum-told-2 c = search needs
 
 has-room-requires : tie.Need-has-room-requires
 has-room-requires c κs =
-    let place = c .before .before .before .before .before .before .before .before .before .before in
-    omega (arith, facts place)
+    let start = c .before .before .before .before .before .before .before .before .before .before in
+    omega (arith, facts start)
 
 refused-requires-4 : tie.Need-refused-requires-4
 refused-requires-4 c κs = search needs

@@ -97,8 +97,8 @@ word-requires-2 c κs = search needs
 
 cast-rows : tie.Need-cast-rows Inv-loop μ-loop
 cast-rows c =
-    let place = c .before .before .before .before in
-    omega (arith, bounds place)
+    let start = c .before .before .before .before in
+    omega (arith, bounds start)
 
 mul-rows : tie.Need-mul-rows Inv-loop μ-loop
 mul-rows c =
