@@ -63,7 +63,9 @@ fn antt(text: &str) -> Definitions {
             inside = None;
         }
         let (rest, modified) = without_modifiers(trimmed);
-        let kind = ["record ", "data "].iter().find_map(|word| rest.strip_prefix(word));
+        let kind = ["record ", "data "]
+            .iter()
+            .find_map(|word| rest.strip_prefix(word));
         if let Some(rest) = kind {
             if indent == 0 || modified {
                 let (name, _) = first_word(rest);
@@ -113,13 +115,22 @@ fn code(text: &str) -> Definitions {
         }
         if let Some(rest) = line.strip_prefix("impl") {
             let rest = rest.split(" for ").last().unwrap_or(rest);
-            let rest = rest.rsplit('>').next().map_or(rest, |tail| if tail.trim() == "{" { rest } else { tail });
+            let rest =
+                rest.rsplit('>')
+                    .next()
+                    .map_or(rest, |tail| if tail.trim() == "{" { rest } else { tail });
             methods_of = identifier(rest.trim_start()).map(str::to_string);
         }
         let mut words = trimmed;
-        while let Some(next) = ["pub(crate) ", "pub ", "extern \"C\" ", "const fn ", "unsafe "]
-            .iter()
-            .find_map(|word| words.strip_prefix(word).map(|rest| (word, rest)))
+        while let Some(next) = [
+            "pub(crate) ",
+            "pub ",
+            "extern \"C\" ",
+            "const fn ",
+            "unsafe ",
+        ]
+        .iter()
+        .find_map(|word| words.strip_prefix(word).map(|rest| (word, rest)))
         {
             words = next.1;
             if *next.0 == "const fn " {
@@ -135,9 +146,11 @@ fn code(text: &str) -> Definitions {
             }
             continue;
         }
-        let kind = ["struct ", "enum ", "const ", "mod ", "type ", "trait ", "static "]
-            .iter()
-            .find_map(|word| words.strip_prefix(word));
+        let kind = [
+            "struct ", "enum ", "const ", "mod ", "type ", "trait ", "static ",
+        ]
+        .iter()
+        .find_map(|word| words.strip_prefix(word));
         if let Some(name) = kind.and_then(identifier) {
             found.named.insert(name.to_string());
             let opens = words.starts_with("struct ") || words.starts_with("enum ");
@@ -166,7 +179,8 @@ fn code(text: &str) -> Definitions {
             }
         }
         if let Some(rest) = words.strip_prefix('\'') {
-            if let Some(name) = identifier(rest).filter(|name| rest[name.len()..].starts_with(':')) {
+            if let Some(name) = identifier(rest).filter(|name| rest[name.len()..].starts_with(':'))
+            {
                 found.local.insert(name.to_string());
             }
         }
@@ -203,7 +217,13 @@ module _ (a : ℕ) where
 ";
         let found = Definitions::of("Promise.antt", text);
         for name in [
-            "Agrees", "Agrees.rewriter", "balance", "Right.Put", "Put", "over", "table-written",
+            "Agrees",
+            "Agrees.rewriter",
+            "balance",
+            "Right.Put",
+            "Put",
+            "over",
+            "table-written",
         ] {
             assert!(found.have(name), "{name}");
         }
@@ -233,7 +253,14 @@ impl Head {
 fn played() {}
 ";
         let found = Definitions::of("lib.rt", text);
-        for name in ["Checked::Refused", "Passed", "Head::offer", "offer", "promise", "played"] {
+        for name in [
+            "Checked::Refused",
+            "Passed",
+            "Head::offer",
+            "offer",
+            "promise",
+            "played",
+        ] {
             assert!(found.named.contains(name), "{name}");
         }
         for name in ["left", "tokens"] {

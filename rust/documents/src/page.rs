@@ -22,14 +22,55 @@ pub const LABELS: [(&str, &[&str]); 10] = [
 /// Words in backticks that look like names and are none of the repository's.
 const WORDS: [&str; 46] = [
     // Rattle, antt and Rust
-    "requires", "ensures", "refl", "use", "now", "entry", "exit", "self", "unsafe", "bool", "u8", "u16", "u32", "u64", "usize",
-    "pub", "mod", "impl", "if", "as", "match",
+    "requires",
+    "ensures",
+    "refl",
+    "use",
+    "now",
+    "entry",
+    "exit",
+    "self",
+    "unsafe",
+    "bool",
+    "u8",
+    "u16",
+    "u32",
+    "u64",
+    "usize",
+    "pub",
+    "mod",
+    "impl",
+    "if",
+    "as",
+    "match",
     // proofs of code: places, and what is known there
-    "start", "before", "take-off", "if1", "if2", "taken", "left", "args", "needs", "search", "Proof",
+    "start",
+    "before",
+    "take-off",
+    "if1",
+    "if2",
+    "taken",
+    "left",
+    "args",
+    "needs",
+    "search",
+    "Proof",
     // outside the repository
-    "libc::read", "libc::write", "io::read_full", "io::write_all", "read", "write", "paste", "cargo", "rt", "antt",
+    "libc::read",
+    "libc::write",
+    "io::read_full",
+    "io::write_all",
+    "read",
+    "write",
+    "paste",
+    "cargo",
+    "rt",
+    "antt",
     // what `watch` prints, and words of rule texts
-    "quiet", "spent", "refused", "fail",
+    "quiet",
+    "spent",
+    "refused",
+    "fail",
 ];
 
 /// What is wrong, and the line where its block begins.
@@ -62,7 +103,9 @@ impl Kind {
     /// The kind of a word.
     pub fn of(word: &str) -> Kind {
         let endings = [".antt", ".rt", ".rs", ".md", ".edit", ".toml", ".txt"];
-        let plain = word.chars().all(|c| c.is_ascii_alphanumeric() || "_./*+-".contains(c));
+        let plain = word
+            .chars()
+            .all(|c| c.is_ascii_alphanumeric() || "_./*+-".contains(c));
         let named = word.chars().any(|c| c.is_ascii_alphanumeric());
         if plain && named && (word.contains('/') || endings.iter().any(|end| word.ends_with(end))) {
             return Kind::Path;
@@ -71,7 +114,9 @@ impl Kind {
         let long = word.chars().count() > 1;
         let part_of_name = |part: &&str| {
             part.starts_with(|c: char| c.is_alphabetic() || c == '_')
-                && part.chars().all(|c| c.is_alphanumeric() || "_-′·".contains(c))
+                && part
+                    .chars()
+                    .all(|c| c.is_alphanumeric() || "_-′·".contains(c))
         };
         if long && parts.iter().all(part_of_name) {
             Kind::Name
@@ -197,7 +242,10 @@ impl Block {
     /// The label and the rest of an item.
     fn label(&self) -> Option<(&str, &str)> {
         let (label, rest) = self.text.split_once(':')?;
-        label.chars().all(|c| c.is_ascii_lowercase()).then_some((label, rest))
+        label
+            .chars()
+            .all(|c| c.is_ascii_lowercase())
+            .then_some((label, rest))
     }
 
     fn is_entry(&self) -> bool {
@@ -215,7 +263,10 @@ fn labelled(page: &str) -> Vec<(Block, Option<String>)> {
                 inside = block.is_entry();
                 return (block, None);
             }
-            let label = block.label().filter(|_| inside).map(|(label, _)| label.to_string());
+            let label = block
+                .label()
+                .filter(|_| inside)
+                .map(|(label, _)| label.to_string());
             (block, label)
         })
         .collect()
@@ -224,9 +275,13 @@ fn labelled(page: &str) -> Vec<(Block, Option<String>)> {
 /// The path of a page of proofs, from the root: below `crates/`, below `rust/`, or as it is. A `*` stands for any part of a name.
 fn found(tree: &Tree, path: &str) -> Option<String> {
     let path = path.trim_end_matches('/');
-    [format!("crates/{path}"), format!("rust/{path}"), path.to_string()]
-        .into_iter()
-        .find(|path| tree.has(path) || matches_some(tree, path))
+    [
+        format!("crates/{path}"),
+        format!("rust/{path}"),
+        path.to_string(),
+    ]
+    .into_iter()
+    .find(|path| tree.has(path) || matches_some(tree, path))
 }
 
 /// Whether a path with a `*` is that of some file.
@@ -242,7 +297,10 @@ fn matches(path: &str, other: &str) -> bool {
     let Some(behind) = other.strip_prefix(begin) else {
         return false;
     };
-    let ends = behind.char_indices().map(|(at, c)| (at, c == '/')).chain([(behind.len(), true)]);
+    let ends = behind
+        .char_indices()
+        .map(|(at, c)| (at, c == '/'))
+        .chain([(behind.len(), true)]);
     for (at, last) in ends {
         if matches(rest, &behind[at..]) {
             return true;
@@ -256,7 +314,10 @@ fn matches(path: &str, other: &str) -> bool {
 
 /// Whether the other path, or what is left of it without folders at its beginning, is this one.
 fn ends_with(path: &str, other: &str) -> bool {
-    matches(path, other) || other.match_indices('/').any(|(at, _)| matches(path, &other[at + 1..]))
+    matches(path, other)
+        || other
+            .match_indices('/')
+            .any(|(at, _)| matches(path, &other[at + 1..]))
 }
 
 /// Whether the name is defined in what the path leads to: in the file, in some file of the folder, or an edit there.
@@ -281,7 +342,9 @@ fn grouped(block: &Block, spans: &[Span], every: bool) -> Vec<(String, Option<St
         let between = waiting.last().map(|last| &block.text[last.to..span.from]);
         let joined = match Kind::of(&span.word) {
             Kind::Code => continue,
-            Kind::Name => between.is_some_and(|text| [", ", " and ", ", and ", " of ", ": "].contains(&text)),
+            Kind::Name => {
+                between.is_some_and(|text| [", ", " and ", ", and ", " of ", ": "].contains(&text))
+            }
             Kind::Path => between.is_some_and(|text| [" in ", ", in "].contains(&text)),
         };
         if !(joined || every) {
@@ -289,7 +352,11 @@ fn grouped(block: &Block, spans: &[Span], every: bool) -> Vec<(String, Option<St
         }
         if Kind::of(&span.word) == Kind::Path {
             let path = Some(span.word.clone());
-            groups.extend(waiting.drain(..).map(|name| (name.word.clone(), path.clone())));
+            groups.extend(
+                waiting
+                    .drain(..)
+                    .map(|name| (name.word.clone(), path.clone())),
+            );
         } else {
             waiting.push(span);
         }
@@ -316,7 +383,9 @@ pub fn names(tree: &Tree, page: &str) -> Vec<Fault> {
                         }
                     }
                 }
-                None if every => faults.push(block.fault(format!("`{name}` has no file behind it"))),
+                None if every => {
+                    faults.push(block.fault(format!("`{name}` has no file behind it")))
+                }
                 None if WORDS.contains(&name.as_str()) || tree.knows(&name) => {}
                 None => faults.push(block.fault(format!("`{name}` is defined nowhere"))),
             }
@@ -336,9 +405,13 @@ pub fn entries(tree: &Tree, page: &str) -> Vec<Fault> {
             entry = block.is_entry().then_some((block, 0, 0));
             continue;
         }
-        let Some((_, items, least)) = &mut entry else { continue };
+        let Some((_, items, least)) = &mut entry else {
+            continue;
+        };
         *items += 1;
-        let known = LABELS.iter().position(|(known, _)| label.as_deref() == Some(*known));
+        let known = LABELS
+            .iter()
+            .position(|(known, _)| label.as_deref() == Some(*known));
         let Some(at) = known else {
             faults.push(block.fault("an item of an entry without a label"));
             continue;
@@ -388,7 +461,8 @@ pub fn paths(tree: &Tree, page: &str, of_proofs: bool) -> Vec<Fault> {
                 continue;
             }
             let path = span.word.trim_end_matches('/');
-            let elsewhere = || path.starts_with("target/") || tree.all().any(|other| ends_with(path, other));
+            let elsewhere =
+                || path.starts_with("target/") || tree.all().any(|other| ends_with(path, other));
             if found(tree, path).is_none() && (of_proofs || !elsewhere()) {
                 faults.push(block.fault(format!("`{}` is not there", span.word)));
             }

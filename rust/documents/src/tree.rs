@@ -28,7 +28,8 @@ impl Tree {
     }
 
     fn read_folder(&mut self, folder: &Path, below: &str) {
-        let entries = fs::read_dir(folder).unwrap_or_else(|error| panic!("{}: {error}", folder.display()));
+        let entries =
+            fs::read_dir(folder).unwrap_or_else(|error| panic!("{}: {error}", folder.display()));
         for entry in entries {
             let entry = entry.expect("an entry of a folder");
             let name = entry.file_name().into_string().expect("a name in UTF-8");
@@ -40,7 +41,9 @@ impl Tree {
                 self.read_folder(&entry.path(), &format!("{path}/"));
                 continue;
             }
-            let looked_at = ["antt", "rt", "rs", "md"].iter().any(|end| name.ends_with(&format!(".{end}")));
+            let looked_at = ["antt", "rt", "rs", "md"]
+                .iter()
+                .any(|end| name.ends_with(&format!(".{end}")));
             let text = if looked_at {
                 fs::read_to_string(entry.path()).unwrap_or_else(|error| panic!("{path}: {error}"))
             } else {
@@ -57,7 +60,8 @@ impl Tree {
             self.folders.insert(above.to_string());
             folder = above;
         }
-        self.defined.insert(path.to_string(), Definitions::of(path, text));
+        self.defined
+            .insert(path.to_string(), Definitions::of(path, text));
         if path.ends_with(".md") {
             self.headings.insert(path.to_string(), headings(text));
         }
@@ -79,7 +83,9 @@ impl Tree {
 
     /// Whether the file defines the name.
     pub fn defines(&self, file: &str, name: &str) -> bool {
-        self.defined.get(file).is_some_and(|defined| defined.have(name))
+        self.defined
+            .get(file)
+            .is_some_and(|defined| defined.have(name))
     }
 
     /// Whether some file of `crates/` or `rust/` defines the name, outside functions; or, with a crate before it, one of that crate.
@@ -143,7 +149,11 @@ fn headings(text: &str) -> Vec<String> {
             .map(|c| if c == ' ' { '-' } else { c })
             .collect();
         let same = found.iter().filter(|other| **other == slug).count();
-        found.push(if same == 0 { slug } else { format!("{slug}-{same}") });
+        found.push(if same == 0 {
+            slug
+        } else {
+            format!("{slug}-{same}")
+        });
     }
     found
 }
@@ -157,7 +167,11 @@ mod tests {
         let page = "# Program `watch`\n\n## What is assumed, and why\n```\n# no heading\n```\n#no heading\n## What is assumed, and why\n";
         assert_eq!(
             headings(page),
-            ["program-watch", "what-is-assumed-and-why", "what-is-assumed-and-why-1"]
+            [
+                "program-watch",
+                "what-is-assumed-and-why",
+                "what-is-assumed-and-why-1"
+            ]
         );
     }
 }

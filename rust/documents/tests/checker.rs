@@ -14,7 +14,10 @@ fn tree() -> Tree {
     tree.add("crates/image/must-fail/symbols_33.edit", "");
     tree.add("crates/layout/must-fail/kinds_swapped.edit", "");
     tree.add("rust/watcher/src/raw.rs", "");
-    tree.add("rust/watcher/tests/images.rs", "#[test]\nfn every_header() {}\n");
+    tree.add(
+        "rust/watcher/tests/images.rs",
+        "#[test]\nfn every_header() {}\n",
+    );
     tree.add("docs/DECISIONS.md", "# Decisions\n\n## Design\n");
     tree.add("README.md", "# Argivolent\n");
     tree
@@ -68,13 +71,33 @@ fn a_right_page_passes() {
 
 #[test]
 fn wrong_names() {
-    found("`imageOf`", "`imagesOf`", "`imagesOf` is not in `layout/specs/Image.antt`");
-    found("`Rule.left`", "`Rule.right`", "`Rule.right` is not in `layout/specs/Image.antt`");
+    found(
+        "`imageOf`",
+        "`imagesOf`",
+        "`imagesOf` is not in `layout/specs/Image.antt`",
+    );
+    found(
+        "`Rule.left`",
+        "`Rule.right`",
+        "`Rule.right` is not in `layout/specs/Image.antt`",
+    );
     found("`answer`", "`area`", "`area` is not in `image/src/lib.rt`");
-    found("note: `is_valid`", "note: `is_right`", "`is_right` is defined nowhere");
-    found("note: `is_valid`", "note: `rules`", "`rules` is defined nowhere");
+    found(
+        "note: `is_valid`",
+        "note: `is_right`",
+        "`is_right` is defined nowhere",
+    );
+    found(
+        "note: `is_valid`",
+        "note: `rules`",
+        "`rules` is defined nowhere",
+    );
     found("of `image`", "of `images`", "`images` is defined nowhere");
-    found("`every_header`", "`no_header`", "`no_header` is not in `watcher/tests/images.rs`");
+    found(
+        "`every_header`",
+        "`no_header`",
+        "`no_header` is not in `watcher/tests/images.rs`",
+    );
 }
 
 #[test]
@@ -84,24 +107,64 @@ fn wrong_files() {
         "`valid-image` in `layout/specs/Image.antt`",
         "`valid-image` is not in `layout/specs/Image.antt`",
     );
-    found("`layout/specs`;", "`layout/spec`;", "`layout/spec` is not there");
-    found("`watcher/tests/*.rs`", "`watcher/tests/*.rt`", "`watcher/tests/*.rt` is not there");
-    found("`*/tests/im*es.rs`", "`tests/im*es.rs`", "`tests/im*es.rs` is not there");
-    found("`*/tests/im*es.rs`", "`*/im*es.rs`", "`*/im*es.rs` is not there");
-    found(" in `layout/proofs/Image.antt`", "", "`valid-image` has no file behind it");
+    found(
+        "`layout/specs`;",
+        "`layout/spec`;",
+        "`layout/spec` is not there",
+    );
+    found(
+        "`watcher/tests/*.rs`",
+        "`watcher/tests/*.rt`",
+        "`watcher/tests/*.rt` is not there",
+    );
+    found(
+        "`*/tests/im*es.rs`",
+        "`tests/im*es.rs`",
+        "`tests/im*es.rs` is not there",
+    );
+    found(
+        "`*/tests/im*es.rs`",
+        "`*/im*es.rs`",
+        "`*/im*es.rs` is not there",
+    );
+    found(
+        " in `layout/proofs/Image.antt`",
+        "",
+        "`valid-image` has no file behind it",
+    );
 }
 
 #[test]
 fn wrong_edits() {
-    found("`symbols_33`", "`symbols_34`", "`symbols_34` is not in `image/must-fail`");
-    found("`symbols_33` in `image/", "`symbols_33` in `layout/", "`symbols_33` is not in `layout/must-fail`");
+    found(
+        "`symbols_33`",
+        "`symbols_34`",
+        "`symbols_34` is not in `image/must-fail`",
+    );
+    found(
+        "`symbols_33` in `image/",
+        "`symbols_33` in `layout/",
+        "`symbols_33` is not in `layout/must-fail`",
+    );
 }
 
 #[test]
 fn broken_links() {
-    found("../DECISIONS.md#design", "../DECISION.md#design", "the link ../DECISION.md#design leads nowhere");
-    found("../DECISIONS.md#design", "../DECISIONS.md#designs", "the link ../DECISIONS.md#designs leads to no heading");
-    found("../DECISIONS.md#design", "../../../README.md", "the link ../../../README.md leads nowhere");
+    found(
+        "../DECISIONS.md#design",
+        "../DECISION.md#design",
+        "the link ../DECISION.md#design leads nowhere",
+    );
+    found(
+        "../DECISIONS.md#design",
+        "../DECISIONS.md#designs",
+        "the link ../DECISIONS.md#designs leads to no heading",
+    );
+    found(
+        "../DECISIONS.md#design",
+        "../../../README.md",
+        "the link ../../../README.md leads nowhere",
+    );
 }
 
 #[test]
@@ -112,15 +175,35 @@ fn wrong_entries() {
         "- computed: `imageOf` in `layout/specs/Image.antt`",
         "`layout/specs/Image.antt` behind `computed`",
     );
-    found("- note: `is_valid` of `image`", "- edits: the check", "`edits` is out of order");
-    found("- note: ", "**An entry.**\n\n- ", "an item of an entry without a label");
-    found("```\n`no_name`", "**An entry.**\n\n```\n`no_name`", "an entry without items");
-    found("bodies.\"**", "bodies.**", "a backtick or a quote is left open");
+    found(
+        "- note: `is_valid` of `image`",
+        "- edits: the check",
+        "`edits` is out of order",
+    );
+    found(
+        "- note: ",
+        "**An entry.**\n\n- ",
+        "an item of an entry without a label",
+    );
+    found(
+        "```\n`no_name`",
+        "**An entry.**\n\n```\n`no_name`",
+        "an entry without items",
+    );
+    found(
+        "bodies.\"**",
+        "bodies.**",
+        "a backtick or a quote is left open",
+    );
 }
 
 #[test]
 fn long_lines() {
-    found("Definitions ", &"Definitions ".repeat(12), "a line of 253 characters");
+    found(
+        "Definitions ",
+        &"Definitions ".repeat(12),
+        "a line of 253 characters",
+    );
     assert_eq!(width("| a row may be long |", 10), []);
 }
 
@@ -146,10 +229,28 @@ fn kinds_of_words() {
     for path in ["layout/specs/Image.antt", "lib.rt", ".ci/run", "crates/"] {
         assert_eq!(Kind::of(path), Kind::Path, "{path}");
     }
-    for name in ["imageOf", "valid-image", "Head::offer", "Agrees.rewriter", "image::wide::byte", "log′"] {
+    for name in [
+        "imageOf",
+        "valid-image",
+        "Head::offer",
+        "Agrees.rewriter",
+        "image::wide::byte",
+        "log′",
+    ] {
         assert_eq!(Kind::of(name), Kind::Name, "{name}");
     }
-    for code in ["->", "&input[at..]", "22", ".before", "a b", "b'%'", "#epsilon", ".", "r", "x ∷ xs"] {
+    for code in [
+        "->",
+        "&input[at..]",
+        "22",
+        ".before",
+        "a b",
+        "b'%'",
+        "#epsilon",
+        ".",
+        "r",
+        "x ∷ xs",
+    ] {
         assert_eq!(Kind::of(code), Kind::Code, "{code}");
     }
 }

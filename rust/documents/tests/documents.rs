@@ -15,7 +15,12 @@ const ENTRIES: usize = 140;
 /// Pages whose names are checked as those of the pages of proofs are, and that have no entries.
 const DESIGN: [&str; 2] = ["docs/DECISIONS.md", "docs/GLOSSARY.md"];
 /// Pages whose links and paths are checked.
-const OTHER: [&str; 4] = ["docs/PERFORMANCE.md", "docs/CHANGES.md", "README.md", "rust/README.md"];
+const OTHER: [&str; 4] = [
+    "docs/PERFORMANCE.md",
+    "docs/CHANGES.md",
+    "README.md",
+    "rust/README.md",
+];
 /// Of these, one that need not be there.
 const OPTIONAL: &str = "docs/CHANGES.md";
 
@@ -31,7 +36,13 @@ fn read(page: &str) -> String {
 fn pages_of_proofs() -> Vec<String> {
     let folder = fs::read_dir(root().join("docs/proofs")).expect("the folder docs/proofs");
     let mut pages: Vec<String> = folder
-        .map(|entry| entry.expect("an entry").file_name().into_string().expect("UTF-8"))
+        .map(|entry| {
+            entry
+                .expect("an entry")
+                .file_name()
+                .into_string()
+                .expect("UTF-8")
+        })
         .map(|name| format!("docs/proofs/{name}"))
         .collect();
     pages.sort();
@@ -47,7 +58,12 @@ fn expect_none(faults: &[(String, Vec<Fault>)]) {
         .iter()
         .flat_map(|(page, faults)| faults.iter().map(move |fault| format!("{page}, {fault}")))
         .collect();
-    assert!(told.is_empty(), "{} faults:\n{}", told.len(), told.join("\n"));
+    assert!(
+        told.is_empty(),
+        "{} faults:\n{}",
+        told.len(),
+        told.join("\n")
+    );
 }
 
 #[test]
@@ -113,17 +129,27 @@ fn every_edit_is_on_a_page() {
         .difference(&named)
         .map(|(folder, name)| format!("{folder}/{name}.edit"))
         .collect();
-    assert!(forgotten.is_empty(), "on no page:\n{}", forgotten.join("\n"));
+    assert!(
+        forgotten.is_empty(),
+        "on no page:\n{}",
+        forgotten.join("\n")
+    );
 }
 
 #[test]
 fn every_page_is_in_the_index() {
     let index = read("docs/PROOFS.md");
     for page in pages_of_proofs() {
-        let Some(link) = page.strip_prefix("docs/").filter(|link| link.starts_with("proofs/")) else {
+        let Some(link) = page
+            .strip_prefix("docs/")
+            .filter(|link| link.starts_with("proofs/"))
+        else {
             continue;
         };
-        assert!(index.contains(&format!("]({link})")), "{page} is not in docs/PROOFS.md");
+        assert!(
+            index.contains(&format!("]({link})")),
+            "{page} is not in docs/PROOFS.md"
+        );
     }
 }
 
@@ -131,7 +157,12 @@ fn every_page_is_in_the_index() {
 fn pages_have_their_entries() {
     let entries: usize = pages_of_proofs()
         .iter()
-        .map(|page| read(page).lines().filter(|line| line.starts_with("**")).count())
+        .map(|page| {
+            read(page)
+                .lines()
+                .filter(|line| line.starts_with("**"))
+                .count()
+        })
         .sum();
     assert!(entries >= ENTRIES, "{entries} entries");
 }
