@@ -30,7 +30,8 @@ pub struct Rewritten {
 
 // A rewrite that ends in a verdict: nothing is put back.
 fn closed(settled: usize, waiting: usize, verdict: u64, rule: usize) -> Rewritten
-    ensures { λ r. ⌜ r ≡ record { settled = settled; waiting = waiting; verdict = Standing.Verdict verdict; rule = rule; taken = true; rewrites = 1; put = 0 } ⌝ }
+    ensures { λ r. ⌜ r
+        ≡ record { settled = settled; waiting = waiting; verdict = Standing.Verdict verdict; rule = rule; taken = true; rewrites = 1; put = 0 } ⌝ }
 {
     Rewritten {
         settled: settled,

@@ -117,7 +117,8 @@ pub record Within (a e : ℕ) (c d : Counts) : Type 0 where
   pub rewrites : c .rewrites + d .rewrites ≤ 8589934591 * 65535
   pub put : c .put + d .put ≤ 8 * 8589934591 * 65535
 
-module _ {capacity : ℕ} {image table : List ℕ} {m : Monitor} {numbers : List ℕ} {n : Monitor} {a : ℕ} {c : Counts} {k : ℕ} (now : Playing capacity image table m numbers n a c k) where
+module _ {capacity : ℕ} {image table : List ℕ} {m : Monitor} {numbers : List ℕ} {n : Monitor} {a : ℕ} {c : Counts} {k : ℕ}
+    (now : Playing capacity image table m numbers n a c k) where
   -- All calls have been made.
   pub playing-all : length numbers ≤ k
       → record { refused = none; monitor = n; accepted = a; counts = c }

@@ -120,7 +120,8 @@ fn made_all(
 ) -> Played
     requires { ⌜ encodes (now numbers) ≡ true ⌝ }
     ensures { λ r. ⌜ playedFrom r (now (bytes .exit)) (now (words .exit))
-        ≡ logged (play documentCapacity (now (image .entry)) (now (table .entry)) (noCalls (lent begun (now (bytes .entry)) (now (words .entry)))) (decodedCalls (now (numbers .entry)))) ⌝ }
+        ≡ logged (play documentCapacity (now (image .entry)) (now (table .entry)) (noCalls (lent begun (now (bytes .entry)) (now (words .entry))))
+        (decodedCalls (now (numbers .entry)))) ⌝ }
 {
     let mut head = begun;
     let mut accepted: u64 = 0;
@@ -162,7 +163,8 @@ pub fn play(
     ensures outcome { λ r. ⌜ playedFrom r (now (bytes .exit)) (now (words .exit))
         ≡ playOf documentCapacity (now (image .entry)) (now (table .entry)) (now (bytes .entry)) (now (words .entry)) (now (numbers .entry)) ⌝ }
     ensures promise { λ r. ⌜ (refusedAs (r .refusal) ≡ none
-        → DemandThreeOf documentCapacity (now (image .entry)) (now (table .entry)) (now (bytes .entry)) (now (words .entry)) (decodedCalls (now (numbers .entry)))
+        → DemandThreeOf documentCapacity (now (image .entry)) (now (table .entry)) (now (bytes .entry)) (now (words .entry))
+        (decodedCalls (now (numbers .entry)))
         r (now (bytes .exit)) (now (words .exit))) ⌝ }
 {
     if !is_list(numbers) {

@@ -13,16 +13,72 @@ use Rattle.layout.specs.States.{isPrefix, state, next, matching, prefixes, know
 use Rattle.layout.specs.Table.{matchWord, row, tableOf}
 use Rattle.machine.specs.State.{empty, active, replace, settle, step}
 use Rattle.machine.specs.Run.{noCounts, plus, countsOf, ended, counted, fits, proceed, tests, run}
-use Rattle.machine.specs.Areas.{documentCapacity, headOf, areaOf, bytesOf, statesAfter, wordsOf, monitorOf, stateOf, noMatch, unmatched, closesWith, standsBy, holds, described}
-use Rattle.machine.specs.Calls.{sized, freshened, freshOf, fuelOf, lentChecks, isNone, fuelCheck, verdictCheck, callChecks, offered, outcome, decided, callOf, offerOf, refusedBy, answerNumber}
+use Rattle.machine.specs.Areas.{
+  documentCapacity,
+  headOf,
+  areaOf,
+  bytesOf,
+  statesAfter,
+  wordsOf,
+  monitorOf,
+  stateOf,
+  noMatch,
+  unmatched,
+  closesWith,
+  standsBy,
+  holds,
+  described,
+}
+use Rattle.machine.specs.Calls.{
+  sized,
+  freshened,
+  freshOf,
+  fuelOf,
+  lentChecks,
+  isNone,
+  fuelCheck,
+  verdictCheck,
+  callChecks,
+  offered,
+  outcome,
+  decided,
+  callOf,
+  offerOf,
+  refusedBy,
+  answerNumber,
+}
 use Rattle.machine.specs.Batch.{stopped, andThen, inTurn, offers, batchChecks, batched, batchOf}
 use Rattle.machine.specs.Play.{stringOf, noCalls, eventsOf, logged, play, offersOf}
 use Rattle.cases.specs.Cases.{Case, fresh, foundIn, find, worked, abcd, cases}
-use Rattle.cases.specs.Edges.{day, growing, tripling, edges, holding, closedAndFull, Answering, answering, onSample, undescribed, monitors, tiny, inOrder, BatchCase, findBatch, batch, batches, manyEvents}
+use Rattle.cases.specs.Edges.{
+  day,
+  growing,
+  tripling,
+  edges,
+  holding,
+  closedAndFull,
+  Answering,
+  answering,
+  onSample,
+  undescribed,
+  monitors,
+  tiny,
+  inOrder,
+  BatchCase,
+  findBatch,
+  batch,
+  batches,
+  manyEvents,
+}
 
 -- every definition that a computed case goes through
 computes : Unit {0}
-unfolding orElse flatMap rule rightInRange ruleInRange inRange lowest tie ending sample kind lengthOrVerdict symbolsOf contents body imageOf readRight readRule readRules read valid refusal isPrefix state next matching prefixes known numbered states number matchWord row tableOf empty active replace settle step noCounts plus countsOf ended counted fits proceed tests run headOf areaOf bytesOf statesAfter wordsOf monitorOf stateOf noMatch unmatched closesWith standsBy holds described sized freshened freshOf fuelOf lentChecks isNone fuelCheck verdictCheck callChecks offered outcome decided callOf refusedBy stringOf noCalls eventsOf logged play fresh foundIn find worked abcd
+unfolding
+    orElse flatMap rule rightInRange ruleInRange inRange lowest tie ending sample kind lengthOrVerdict symbolsOf contents body imageOf
+    readRight readRule readRules read valid refusal isPrefix state next matching prefixes known numbered states number matchWord row tableOf
+    empty active replace settle step noCounts plus countsOf ended counted fits proceed tests run headOf areaOf bytesOf statesAfter wordsOf
+    monitorOf stateOf noMatch unmatched closesWith standsBy holds described sized freshened freshOf fuelOf lentChecks isNone fuelCheck
+    verdictCheck callChecks offered outcome decided callOf refusedBy stringOf noCalls eventsOf logged play fresh foundIn find worked abcd
 computes = tt
 
 -- every value of the table of worked cases
@@ -61,7 +117,8 @@ unfolding computes batchChecks manyEvents
 many-events = (refl, refl)
 
 -- fresh refuses a byte too few and a word too many, and leaves the areas
-pub fresh-refuses : (freshOf 2 (7 ∷ []) (7 ∷ 7 ∷ []) ≡ record { refused = some 10; monitor = record { head = headOf empty; bytes = 7 ∷ []; words = 7 ∷ 7 ∷ [] } })
+pub fresh-refuses : (freshOf 2 (7 ∷ []) (7 ∷ 7 ∷ [])
+    ≡ record { refused = some 10; monitor = record { head = headOf empty; bytes = 7 ∷ []; words = 7 ∷ 7 ∷ [] } })
     × (freshOf 1 (7 ∷ []) (7 ∷ 7 ∷ []) .refused ≡ some 10)
 unfolding computes
 fresh-refuses = (refl, refl)

@@ -243,7 +243,14 @@ pub extern "C" fn watcher_batch(
     answers: &mut [u8],
     out: &mut [u64; 5],
 ) -> u32
-    ensures { λ r. ⌜ record { refusal = r; head = now (head .exit); bytes = now (bytes .exit); words = now (words .exit); answers = now (answers .exit); out = now (out .exit) }
+    ensures { λ r. ⌜ record {
+      refusal = r;
+      head = now (head .exit);
+      bytes = now (bytes .exit);
+      words = now (words .exit);
+      answers = now (answers .exit);
+      out = now (out .exit);
+    }
         ≡ batchMade (now (head .entry)) (batchOf documentCapacity (now (image .entry)) (now (table .entry))
         (lent (headFrom (now (head .entry))) (now (bytes .entry)) (now (words .entry))) (now (events .entry)) fuel (now (answers .entry))) ⌝ }
 {

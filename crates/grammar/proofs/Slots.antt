@@ -166,7 +166,8 @@ module _ {key : List ℕ} {n : ℕ} {area : List ℕ} {i : ℕ} (f : Finding key
       let n′ : 25 * i + 25 ≡ 25 * (i + 1) = omega arith in
       drop-drop 25 (25 * i) area ∙ ap (λ (k : ℕ). drop k area) n′
       in
-      let later : numberOr (n - i) (slotAt key (n - i) (drop (25 * i) area)) ≡ suc (numberOr (n - (i + 1)) (slotAt key (n - (i + 1)) (drop (25 * (i + 1)) area))) =
+      let later : numberOr (n - i) (slotAt key (n - i) (drop (25 * i) area))
+      ≡ suc (numberOr (n - (i + 1)) (slotAt key (n - (i + 1)) (drop (25 * (i + 1)) area))) =
       rw (one, ← at) (number-later key (drop (25 * i) area) (n - (i + 1)) e)
       in
       record { inside = f .inside; so-far = omega arith; on = omega (arith, f .on) }
@@ -202,7 +203,8 @@ unfolding slots
 slots-more n names x e named room =
     let used : List ℕ = flatMap slot names in
     let m : length used ≡ 25 * length names = length-used names e in
-    let before : take (25 * length names) (used ++ replicate (25 * (n - length names)) 0) ≡ used = take-at used (replicate (25 * (n - length names)) 0) (25 * length names) m in
+    let before : take (25 * length names) (used ++ replicate (25 * (n - length names)) 0)
+    ≡ used = take-at used (replicate (25 * (n - length names)) 0) (25 * length names) m in
     let new : take 25 (slot x) ≡ slot x = take-all 25 (slot x) (omega (arith, length-slot x (name-short x named))) in
     let at : 25 * length names + 25 ≡ length used + 25 = omega arith in
     let left : 25 * (n - length names) - 25 ≡ 25 * (n - length (names ++ x ∷ [])) = rw length-append (omega arith) in

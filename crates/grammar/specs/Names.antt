@@ -27,10 +27,23 @@ orNew most names x none =
 unfoldable pub numbered : ℕ → List (List ℕ) → List ℕ → Option Numbered
 numbered most names x = orNew most names x (numberOf names x)
 
+-- "48 slots of 25 bytes": 32 of symbols and 16 of verdicts
+abbrev pub slotSize : ℕ
+slotSize = 25
+
+abbrev pub symbolsSize : ℕ
+symbolsSize = 800
+
+abbrev pub wordsSize : ℕ
+wordsSize = 400
+
+abbrev pub namesSize : ℕ
+namesSize = 1200
+
 -- "slots of 25 bytes: length byte, name, zeros"
 unfoldable pub slot : List ℕ → List ℕ
 slot x = length x ∷ (x ++ replicate (24 - length x) 0)
 
 -- n slots, the first ones used; "an unused slot is all 0"
 unfoldable pub slots : ℕ → List (List ℕ) → List ℕ
-slots n names = flatMap slot names ++ replicate (25 * (n - length names)) 0
+slots n names = flatMap slot names ++ replicate (slotSize * (n - length names)) 0

@@ -7,12 +7,12 @@ use mathlib.Core.List.{List, [], _∷_, _++_, List·Memᴰ}
 use lib.Dec.{leb}
 use lib.ListN.{length, take, drop}
 use Rattle.rewriting.specs.Lists.{over}
-use Rattle.layout.specs.Image.{imageOf, read, valid}
+use Rattle.layout.specs.Image.{imageMost, imageOf, read, valid}
 use Rattle.layout.specs.Refusals.{Check, refusal}
 use Rattle.grammar.specs.declared.Read.{Read}
 use Rattle.grammar.specs.declared.Read.the-variants.{Image, Refused}
 use Rattle.grammar.specs.Tokens.{Run, tokenOf, runs}
-use Rattle.grammar.specs.Names.{slots}
+use Rattle.grammar.specs.Names.{namesSize, slots}
 use Rattle.grammar.specs.Grammar.{Reading, Taken, Goes, Breaks, begun, afterRun, complete, ruleSetOf}
 
 -- What a text is read as: what it says, or the refusal and its place.
@@ -48,10 +48,14 @@ pub record Outcome : Type 0 where
   pub image : List ℕ
   pub names : List ℕ
 
+-- "over 16,384 bytes"
+abbrev pub textMost : ℕ
+textMost = 16384
+
 -- "1, over 16,384 bytes; 2, image area under 1,284 or name area under 1,200"
 unfoldable pub readChecks : List ℕ → List ℕ → List ℕ → List Check
 readChecks text image names =
-    (leb (length text) 16384, 1) ∷ (leb 1284 (length image) && leb 1200 (length names), 2) ∷ []
+    (leb (length text) textMost, 1) ∷ (leb imageMost (length image) && leb namesSize (length names), 2) ∷ []
 
 -- "It returns the image's length; bytes beyond either stay."
 unfoldable pub written : Result → List ℕ → List ℕ → Outcome
@@ -99,7 +103,7 @@ pub record ReadRefused (text image names : List ℕ) (o : Outcome) (n : ℕ) : T
 -- A text that is taken.
 pub record ReadTaken (text image names : List ℕ) (o : Outcome) : Type 0 where
   -- it is short enough and good: this is what it says
-  pub short-text : length text ≤ 16384
+  pub short-text : length text ≤ textMost
   pub reading : Reading
   pub good-text : readText text ≡ Good reading
   -- the image of its rules is valid, and they are read back from it
@@ -107,13 +111,13 @@ pub record ReadTaken (text image names : List ℕ) (o : Outcome) : Type 0 where
   pub rules-back : read (imageOf (ruleSetOf reading)) ≡ ruleSetOf reading
   -- the image's length is answered, and at most 1,284
   pub image-told : imageLength (o .answer) ≡ length (imageOf (ruleSetOf reading))
-  pub image-short : imageLength (o .answer) ≤ 1284
+  pub image-short : imageLength (o .answer) ≤ imageMost
   -- the image stands at the beginning of its area, and the bytes beyond it are as they were
   pub image-there : take (imageLength (o .answer)) (o .image) ≡ imageOf (ruleSetOf reading)
   pub image-beyond : drop (imageLength (o .answer)) (o .image) ≡ drop (imageLength (o .answer)) image
   -- so it is with the 48 slots of names
-  pub names-there : take 1200 (o .names) ≡ namesOf reading
-  pub names-beyond : drop 1200 (o .names) ≡ drop 1200 names
+  pub names-there : take namesSize (o .names) ≡ namesOf reading
+  pub names-beyond : drop namesSize (o .names) ≡ drop namesSize names
 
 -- What is promised of the reader on whatever text and areas: `read-theorem` (proofs/ReadTheorem.antt).
 pub record ReadEnded (text image names : List ℕ) (o : Outcome) : Type 0 where

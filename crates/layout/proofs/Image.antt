@@ -15,18 +15,7 @@ use Rattle.rewriting.specs.Lists.{all, below, same}
 use Rattle.rewriting.specs.Rules.{Right, Put, Close, symbolsOf, Rule, RuleSet, rightInRange, ruleInRange, inRange}
 use Rattle.rewriting.proofs.Lists.{and-left, and-right, and-both, all-append, all-flatMap, below-weaken, same-eq, eq-same}
 use Rattle.rewriting.proofs.Ranges.{length-right, right-below, RuleRanges, rule-ranges, Ranges, ranges}
-use Rattle.layout.specs.Image.{
-  kind,
-  lengthOrVerdict,
-  contents,
-  body,
-  imageOf,
-  readRight,
-  readRule,
-  readRules,
-  read,
-  valid,
-}
+use Rattle.layout.specs.Image.{imageMost, kind, lengthOrVerdict, contents, body, imageOf, readRight, readRule, readRules, read, valid}
 
 -- a right side is read back from its kind, its length or verdict and its symbols, whatever follows them
 pub read-right : (x : Right) (b : List ℕ) → readRight (kind x) (lengthOrVerdict x) (symbolsOf x ++ b) ≡ x
@@ -148,7 +137,7 @@ length-bodies set (r ∷ rs) e =
     simp length-append (omega arith)
 
 -- A valid image has at most 1,284 bytes: 4, 4 a rule, and 16 a rule, with 64 rules.
-pub longest : (b : List ℕ) → valid b ≡ true → length b ≤ 1284
+pub longest : (b : List ℕ) → valid b ≡ true → length b ≤ imageMost
 longest b e =
     let set : RuleSet = read b in
     let h : Ranges set = ranges set (valid-in-range b e) in

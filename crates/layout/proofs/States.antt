@@ -15,7 +15,7 @@ use Rattle.rewriting.specs.Lists.{all, same, prefix}
 use Rattle.rewriting.specs.Rules.{Rule, RuleSet, ruleInRange, inRange}
 use Rattle.rewriting.proofs.Lists.{and-left, and-right, or-cases, or-left, or-right, same-eq, same-refl, prefix-rest}
 use Rattle.rewriting.proofs.Ranges.{rule-ranges, ranges}
-use Rattle.layout.specs.States.{isPrefix, state, next, prefixes, known, numbered, states, number}
+use Rattle.layout.specs.States.{statesMost, isPrefix, state, next, prefixes, known, numbered, states, number}
 use Rattle.layout.specs.Words.{text}
 use Rattle.layout.proofs.Matching.{state-is-prefix, next-child}
 
@@ -266,7 +266,7 @@ few-prefixes set (r ∷ rules) e =
     simp (length-append, length-prefixes) (omega arith)
 
 -- "N is at most 513": the empty string, and at most 64 left sides with at most 8 prefixes each
-pub few-states : (set : RuleSet) → inRange set ≡ true → length (states (set .rules)) ≤ 513
+pub few-states : (set : RuleSet) → inRange set ≡ true → length (states (set .rules)) ≤ statesMost
 unfolding states
 few-states set e =
     let h = ranges set e in

@@ -14,11 +14,23 @@ use borrow.Author.Tests.{lt-ltb}
 use Rattle.rewriting.specs.Lists.{prefix, below, upTo}
 use Rattle.rewriting.specs.Rules.{Rule, RuleSet, inRange}
 use Rattle.rewriting.specs.Occurrences.{ending}
-use Rattle.rewriting.proofs.Lists.{and-both, all-append, all-map, all-flatMap, all-true, length-upTo, getD-upTo, getD-map, length-flatMap, getD-flatMap, begins-at}
+use Rattle.rewriting.proofs.Lists.{
+  and-both,
+  all-append,
+  all-map,
+  all-flatMap,
+  all-true,
+  length-upTo,
+  getD-upTo,
+  getD-map,
+  length-flatMap,
+  getD-flatMap,
+  begins-at,
+}
 use Rattle.rewriting.proofs.Ranges.{ranges}
 use Rattle.rewriting.proofs.Scan.{ending-left}
 use Rattle.layout.specs.States.{next, matching, states, number}
-use Rattle.layout.specs.Table.{matchWord, row, tableOf}
+use Rattle.layout.specs.Table.{tableMost, matchWord, row, tableOf}
 use Rattle.layout.specs.Words.{text, transition}
 use Rattle.layout.proofs.States.{next-below, few-states}
 use Rattle.layout.proofs.RowPlaces.{word-within, place-parts}
@@ -35,7 +47,7 @@ length-table set =
     rw (length-append, length-map, length-flatMap (row set) (set .symbols) (length-row set)) (omega arith)
 
 -- "at most 16,931"
-pub table-length : (set : RuleSet) → inRange set ≡ true → length (tableOf set) ≤ 16931
+pub table-length : (set : RuleSet) → inRange set ≡ true → length (tableOf set) ≤ tableMost
 table-length set e =
     let few = few-states set e in
     let product = mul-le-mul few (ranges set e .few-symbols) in

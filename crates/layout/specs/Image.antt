@@ -31,8 +31,12 @@ contents r = length (r .left) ∷ kind (r .right) ∷ lengthOrVerdict (r .right)
 unfoldable pub body : Rule → List ℕ
 body r = r .left ++ symbolsOf (r .right)
 
--- "Contents first, then bodies. Bytes 0..3: S, number of rules R, V, E. .. Nothing follows. Longest: 1,284 bytes."
--- (`longest`, proofs/Image.antt)
+-- "Longest: 1,284 bytes."
+abbrev pub imageMost : ℕ
+imageMost = 1284
+
+-- "Contents first, then bodies. Bytes 0..3: S, number of rules R, V, E. .. Nothing follows." It has at most
+-- `imageMost` bytes (`longest`, proofs/Image.antt).
 unfoldable pub imageOf : RuleSet → List ℕ
 imageOf set =
     set .symbols ∷ length (set .rules) ∷ set .verdicts ∷ set .events

@@ -39,6 +39,10 @@ unfoldable pub numbered : List (List ℕ) → List (List ℕ) → List (List ℕ
 numbered states [] = states
 numbered states (v ∷ vs) = numbered (cond (known states v) states (states ++ v ∷ [])) vs
 
+-- "N is at most 513"
+abbrev pub statesMost : ℕ
+statesMost = 513
+
 -- The states in order of their numbers: "State 0 is the empty string. Rules are walked in order, and each prefix of a
 -- left side, short before long, gets the next number when new; N is at most 513." (`few-states`, proofs/States.antt)
 unfoldable pub states : List Rule → List (List ℕ)

@@ -21,6 +21,10 @@ matchWord (some i) = suc i
 unfoldable pub row : RuleSet → List ℕ → List ℕ
 row set q = map (λ a. number (states (set .rules)) (next (set .rules) q a)) (upTo (set .symbols))
 
+-- "at most 16,931"
+abbrev pub tableMost : ℕ
+tableMost = 16931
+
 -- "Word 0 is the number of states N, word 1 is S, then N match words, then N rows of S next states." That each word has
 -- 16 bits is `words-fit`; "2 + N + N × S, at most 16,931" are `length-table` and `table-length` (proofs/Table.antt).
 unfoldable pub tableOf : RuleSet → List ℕ

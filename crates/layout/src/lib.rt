@@ -1,5 +1,10 @@
 // The types that the definitions of specs/ share with the code above. It has no functions.
 
+// Document 01's longest image, and its longest table.
+pub const IMAGE_BYTES: usize = 1284;
+
+pub const TABLE_WORDS: usize = 16931;
+
 // A right side: the number of its symbols, or its verdict.
 pub enum RightSide {
     Put(usize),

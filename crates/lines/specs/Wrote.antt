@@ -8,6 +8,7 @@ use Rattle.rewriting.specs.Lists.{below, over}
 use Rattle.machine.specs.declared.Answer.{Answer}
 use Rattle.machine.specs.Calls.{Outcome}
 use Rattle.machine.specs.Play.{stringOf}
+use Rattle.machine.specs.Areas.{documentCapacity}
 
 -- the area begins with v, which ends at the place `at`, and is behind it as it was
 pub record Wrote (area v line : List ℕ) (at : ℕ) : Type 0 where
@@ -30,5 +31,5 @@ HasSlot (Answer.Refused n) = Unit {0}
 pub record Small (o : Outcome) : Type 0 where
   pub steps : o .counts .steps ≤ 1000
   pub rewrites : o .counts .rewrites ≤ 1000
-  pub string : o .monitor .head .settled + o .monitor .head .waiting ≤ 2048
+  pub string : o .monitor .head .settled + o .monitor .head .waiting ≤ documentCapacity
   pub slots : below 48 (stringOf (o .monitor)) ≡ true

@@ -12,7 +12,11 @@ ghost use Rattle.monitor.specs.Lent.{outcomeFrom};
 ghost use Rattle.printing.specs.Lines.{space, comma, newline, refusedWord, decimal, nameIn, joined, answerWord, counted, told, refusedLine};
 ghost use Rattle.printing.specs.Turns.{lineMost};
 ghost use Rattle.lines.specs.Wrote.{Writes, HasSlot, Small};
+ghost use Rattle.grammar.specs.Names.{slotSize, namesSize};
+ghost use Rattle.machine.specs.Areas.{documentCapacity};
+use grammar::SLOT_BYTES;
 use machine::Answer;
+use machine::CAPACITY;
 use monitor::Returned;
 
 // One byte.
@@ -50,12 +54,12 @@ fn put_decimal(line: &mut [u8], at: usize, n: u64) -> usize
 // The name in a slot.
 fn put_name(line: &mut [u8], at: usize, names: &[u8], slot: usize) -> usize
     requires slot { ⌜ slot < 48 ⌝ }
-    requires names { ⌜ length (now names) ≡ 1200 ⌝ }
+    requires names { ⌜ length (now names) ≡ namesSize ⌝ }
     requires room { ⌜ at + 24 ≤ length (now line) ⌝ }
     ensures { λ r. ⌜ Writes (nameIn (now (names .entry)) slot) (now (line .entry)) at (now (line .exit)) r ⌝ }
 {
-    let start = 25 * slot + 1;
-    let size = names[25 * slot];
+    let start = SLOT_BYTES * slot + 1;
+    let size = names[SLOT_BYTES * slot];
     if 24 < size {
         return put(line, at, &names[start..start + 24]);
     }
@@ -65,8 +69,8 @@ fn put_name(line: &mut [u8], at: usize, names: &[u8], slot: usize) -> usize
 // The word for an answer.
 fn put_answer(line: &mut [u8], at: usize, names: &[u8], answer: Answer) -> usize
     requires slot { ⌜ HasSlot answer ⌝ }
-    requires names { ⌜ length (now names) ≡ 1200 ⌝ }
-    requires room { ⌜ at + 25 ≤ length (now line) ⌝ }
+    requires names { ⌜ length (now names) ≡ namesSize ⌝ }
+    requires room { ⌜ at + slotSize ≤ length (now line) ⌝ }
     ensures { λ r. ⌜ Writes (answerWord (now (names .entry)) answer) (now (line .entry)) at (now (line .exit)) r ⌝ }
 {
     match answer {
@@ -84,8 +88,8 @@ fn put_answer(line: &mut [u8], at: usize, names: &[u8], answer: Answer) -> usize
 // The names of symbols, a comma before each.
 fn put_symbols(line: &mut [u8], at: usize, names: &[u8], symbols: &[u8]) -> usize
     requires slots { ⌜ below 48 (now symbols) ≡ true ⌝ }
-    requires names { ⌜ length (now names) ≡ 1200 ⌝ }
-    requires room { ⌜ at + 25 * length (now symbols) ≤ length (now line) ⌝ }
+    requires names { ⌜ length (now names) ≡ namesSize ⌝ }
+    requires room { ⌜ at + slotSize * length (now symbols) ≤ length (now line) ⌝ }
     ensures { λ r. ⌜ Writes (flatMap (λ b. comma ∷ nameIn (now (names .entry)) b) (now (symbols .entry))) (now (line .entry)) at (now (line .exit)) r ⌝ }
 {
     let mut end = at;
@@ -99,8 +103,8 @@ fn put_symbols(line: &mut [u8], at: usize, names: &[u8], symbols: &[u8]) -> usiz
 // A space, and the names of the string whose first symbols are settled and whose last ones wait, joined by commas; or `-`.
 fn put_string(line: &mut [u8], at: usize, names: &[u8], settled: &[u8], waiting: &[u8]) -> usize
     requires slots { ⌜ below 48 (now settled ++ now waiting) ≡ true ⌝ }
-    requires names { ⌜ length (now names) ≡ 1200 ⌝ }
-    requires room { ⌜ (at + 2 ≤ length (now line)) × (at + (25 * length (now settled) + 25 * length (now waiting)) ≤ length (now line)) ⌝ }
+    requires names { ⌜ length (now names) ≡ namesSize ⌝ }
+    requires room { ⌜ (at + 2 ≤ length (now line)) × (at + (slotSize * length (now settled) + slotSize * length (now waiting)) ≤ length (now line)) ⌝ }
     ensures { λ r. ⌜ Writes (space ∷ joined (now (names .entry)) (now (settled .entry) ++ now (waiting .entry))) (now (line .entry)) at (now (line .exit)) r ⌝ }
 {
     let first = put_symbols(line, at, names, settled);
@@ -126,15 +130,15 @@ fn put_counts(line: &mut [u8], at: usize, steps: u64, rewrites: u64) -> usize
 // The counts, the string and the line's end.
 fn put_counted(line: &mut [u8], at: usize, names: &[u8], called: Returned, bytes: &[u8]) -> usize
     requires small { ⌜ Small (outcomeFrom called (now bytes) []) ⌝ }
-    requires names { ⌜ length (now names) ≡ 1200 ⌝ }
-    requires bytes { ⌜ length (now bytes) ≡ 2048 ⌝ }
-    requires room { ⌜ at + (10 + 2048 * 25) ≤ length (now line) ⌝ }
+    requires names { ⌜ length (now names) ≡ namesSize ⌝ }
+    requires bytes { ⌜ length (now bytes) ≡ documentCapacity ⌝ }
+    requires room { ⌜ at + (10 + documentCapacity * slotSize) ≤ length (now line) ⌝ }
     ensures { λ r. ⌜ Writes (counted (now (names .entry)) (outcomeFrom called (now (bytes .entry)) []) ++ newline ∷ [])
         (now (line .entry)) at (now (line .exit)) r ⌝ }
 {
     let mut end = put_counts(line, at, called.counts.steps, called.counts.rewrites);
     let settled = called.head.settled;
-    let waiting = 2048 - called.head.waiting;
+    let waiting = CAPACITY - called.head.waiting;
     end = put_string(line, end, names, &bytes[..settled], &bytes[waiting..]);
     put_byte(line, end, b'\n')
 }
@@ -143,9 +147,9 @@ fn put_counted(line: &mut [u8], at: usize, names: &[u8], called: Returned, bytes
 fn put_accepted(line: &mut [u8], at: usize, names: &[u8], called: Returned, bytes: &[u8]) -> usize
     requires slot { ⌜ HasSlot (called .answer) ⌝ }
     requires small { ⌜ Small (outcomeFrom called (now bytes) []) ⌝ }
-    requires names { ⌜ length (now names) ≡ 1200 ⌝ }
-    requires bytes { ⌜ length (now bytes) ≡ 2048 ⌝ }
-    requires room { ⌜ (at ≤ 25) × (lineMost ≤ length (now line)) ⌝ }
+    requires names { ⌜ length (now names) ≡ namesSize ⌝ }
+    requires bytes { ⌜ length (now bytes) ≡ documentCapacity ⌝ }
+    requires room { ⌜ (at ≤ slotSize) × (lineMost ≤ length (now line)) ⌝ }
     ensures { λ r. ⌜ Writes (answerWord (now (names .entry)) (called .answer)
         ++ space ∷ (counted (now (names .entry)) (outcomeFrom called (now (bytes .entry)) []) ++ newline ∷ []))
         (now (line .entry)) at (now (line .exit)) r ⌝ }
@@ -170,9 +174,9 @@ pub fn put_refused(line: &mut [u8], at: usize, n: u32) -> usize
 pub fn put_told(line: &mut [u8], at: usize, names: &[u8], called: Returned, bytes: &[u8]) -> usize
     requires slot { ⌜ HasSlot (called .answer) ⌝ }
     requires small { ⌜ (refusedBy (called .answer) ≡ none → Small (outcomeFrom called (now bytes) [])) ⌝ }
-    requires names { ⌜ length (now names) ≡ 1200 ⌝ }
-    requires bytes { ⌜ length (now bytes) ≡ 2048 ⌝ }
-    requires room { ⌜ (at ≤ 25) × (lineMost ≤ length (now line)) ⌝ }
+    requires names { ⌜ length (now names) ≡ namesSize ⌝ }
+    requires bytes { ⌜ length (now bytes) ≡ documentCapacity ⌝ }
+    requires room { ⌜ (at ≤ slotSize) × (lineMost ≤ length (now line)) ⌝ }
     ensures { λ r. ⌜ Writes (answerWord (now (names .entry)) (called .answer)
         ++ space ∷ (told (now (names .entry)) (outcomeFrom called (now (bytes .entry)) []) (called .answer) ++ newline ∷ []))
         (now (line .entry)) at (now (line .exit)) r ⌝ }

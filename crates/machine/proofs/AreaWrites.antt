@@ -87,7 +87,12 @@ area-cut capacity s q k n e short h =
     let total : capacity - (length (take k s) + length q) ≡ (n - k) + (capacity - (length s + length q)) = rw front (omega arith) in
     ap (λ (l : List ℕ). paste l k (replicate (n - k) 0) (n - k)) whole
     ∙ paste-at (take k s) (drop k s) (zeros ++ q) (replicate (n - k) 0) k (n - k) front back
-    ∙ rw (take-all {A = ℕ} (n - k) (replicate (n - k) 0) (rw (length-replicate {A = ℕ}) (omega arith)), total, zeros-add (n - k) (capacity - (length s + length q)), append-assoc (replicate (n - k) 0) zeros q)
+    ∙ rw (
+      take-all {A = ℕ} (n - k) (replicate (n - k) 0) (rw (length-replicate {A = ℕ}) (omega arith)),
+      total,
+      zeros-add (n - k) (capacity - (length s + length q)),
+      append-assoc (replicate (n - k) 0) zeros q,
+    )
 
 -- an area that ends with v ++ q, from its parts
 area-parts : (capacity : ℕ) (s v q : List ℕ) (k : ℕ) → k ≡ capacity - (length s + (length v + length q))

@@ -21,7 +21,25 @@ use Rattle.layout.specs.Table.{tableOf}
 use Rattle.machine.specs.Areas.{Head, Monitor, stateOf}
 use Rattle.machine.specs.declared.Counts.{Counts}
 use Rattle.machine.specs.Run.{Run, noCounts, plus, run}
-use Rattle.machine.specs.Calls.{Call, Offer, Outcome, lentChecks, isNone, fuelCheck, verdictCheck, callChecks, fuelOf, offered, outcome, decided, refusalOf, callOf, offerOf, refusedBy, answerNumber}
+use Rattle.machine.specs.Calls.{
+  Call,
+  Offer,
+  Outcome,
+  lentChecks,
+  isNone,
+  fuelCheck,
+  verdictCheck,
+  callChecks,
+  fuelOf,
+  offered,
+  outcome,
+  decided,
+  refusalOf,
+  callOf,
+  offerOf,
+  refusedBy,
+  answerNumber,
+}
 use Rattle.machine.specs.Batch.{Offers, stopped, andThen, inTurn, offers, batchChecks, batched, batchOf}
 use Rattle.machine.specs.Play.{noCalls, eventsOf, logged, play, offersOf}
 use Rattle.machine.specs.Promise.{Ended, BatchEnded, BatchIsOffers}

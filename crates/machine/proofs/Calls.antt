@@ -23,7 +23,22 @@ use Rattle.machine.specs.declared.Answer.{Answer}
 use Rattle.machine.specs.State.{State}
 use Rattle.machine.specs.Run.{Run, fits, run}
 use Rattle.machine.specs.Areas.{Monitor, headOf, monitorOf, stateOf}
-use Rattle.machine.specs.Calls.{Call, Offer, GoOn, Outcome, fuelOf, lentChecks, fuelCheck, verdictCheck, callChecks, offered, outcome, decided, callOf, refusedBy}
+use Rattle.machine.specs.Calls.{
+  Call,
+  Offer,
+  GoOn,
+  Outcome,
+  fuelOf,
+  lentChecks,
+  fuelCheck,
+  verdictCheck,
+  callChecks,
+  offered,
+  outcome,
+  decided,
+  callOf,
+  refusedBy,
+}
 use Rattle.machine.specs.Play.{eventsOf}
 use Rattle.machine.proofs.Machine.{Reaches, Stay, more}
 use Rattle.machine.proofs.Runs.{Ran, ran, stopped-accepted, stopped-quiet}
@@ -134,7 +149,12 @@ module _ (capacity : ℕ) (image table : List ℕ) (good : valid image ≡ true)
   unfolding lentChecks refusal
   holding-passes m h =
       rw (h .written)
-      (rw (good, right, sized-written (read image .rules) capacity (h .state) (h .room), described-written (read image) capacity (h .state) (h .room) (h .legal)))
+      (rw (
+        good,
+        right,
+        sized-written (read image .rules) capacity (h .state) (h .room),
+        described-written (read image) capacity (h .state) (h .room) (h .legal),
+      ))
 
   -- So a call is decided by the checks of its own alone.
   pub replies : (m : Monitor) → Holding (read image) capacity m → (c : Call)

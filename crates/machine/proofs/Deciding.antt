@@ -21,7 +21,25 @@ use Rattle.machine.specs.declared.Standing.{Standing}
 use Rattle.machine.specs.Areas.{Head, Monitor, headOf, monitorOf, stateOf}
 use Rattle.machine.specs.State.{State, empty}
 use Rattle.machine.specs.Run.{fits, run}
-use Rattle.machine.specs.Calls.{sized, freshOf, freshened, lentChecks, callOf, Call, Offer, Outcome, fuelCheck, verdictCheck, isNone, callChecks, fuelOf, offered, refusalOf, outcome, decided}
+use Rattle.machine.specs.Calls.{
+  sized,
+  freshOf,
+  freshened,
+  lentChecks,
+  callOf,
+  Call,
+  Offer,
+  Outcome,
+  fuelCheck,
+  verdictCheck,
+  isNone,
+  callChecks,
+  fuelOf,
+  offered,
+  refusalOf,
+  outcome,
+  decided,
+}
 use Rattle.machine.specs.Play.{eventsOf}
 use Rattle.machine.specs.Lent.{monitorIn, Passed, appended, oneMore, offerOrGoOn}
 use Rattle.machine.proofs.Legal.{legal-more}
@@ -96,12 +114,14 @@ module _ (capacity : ℕ) (image table : List ℕ) (m : Monitor) (ok : Passed ca
   is-offered =
       let s : State = stateOf m in
       holds-state (read image .rules) capacity (s .settled) (s .waiting ++ event ∷ []) Standing.None (m .head .rule) (m .head .settled) (m .head .waiting + 1)
-      (appended capacity event from (m .bytes)) (m .words) (facts .settled-count) (rw (length-append (s .waiting) (event ∷ [])) (omega (arith, facts .waiting-count)))
+      (appended capacity event from (m .bytes)) (m .words) (facts .settled-count)
+      (rw (length-append (s .waiting) (event ∷ [])) (omega (arith, facts .waiting-count)))
       (ap (appended capacity event from) (facts .bytes-are)
       ∙ area-append capacity (s .settled) (s .waiting) event from (capacity - 1) (omega (arith, place, facts .waiting-count)) refl
       (omega (arith, room, facts .room, facts .settled-count, facts .waiting-count)))
       (facts .words-are)
-      ∙ ap (λ (x : Standing). monitorOf (read image .rules) capacity (record { settled = s .settled; waiting = s .waiting ++ event ∷ []; verdict = x; rule = s .rule })) (sym v)
+      ∙ ap (λ (x : Standing). monitorOf (read image .rules) capacity
+      (record { settled = s .settled; waiting = s .waiting ++ event ∷ []; verdict = x; rule = s .rule })) (sym v)
 
   pub offered-state : stateOf (monitorIn (oneMore (m .head)) (appended capacity event from (m .bytes)) (m .words))
       ≡ offered (stateOf m) (Offer event fuel)
@@ -135,7 +155,8 @@ module _ (capacity : ℕ) (image table : List ℕ) (m : Monitor) (ok : Passed ca
 module _ (capacity : ℕ) (image table : List ℕ) (m : Monitor) (ok : Passed capacity image table m) (event fuel : ℕ) (v : m .head .verdict ≡ Standing.None) where
   pub call-state : (offering : Bool) → (offering ≡ true → m .head .settled + m .head .waiting ≡ capacity → ⊥)
       → stateOf
-      (monitorIn (cond offering (oneMore (m .head)) (m .head)) (cond offering (appended capacity event (capacity - m .head .waiting) (m .bytes)) (m .bytes)) (m .words))
+      (monitorIn (cond offering (oneMore (m .head)) (m .head))
+      (cond offering (appended capacity event (capacity - m .head .waiting) (m .bytes)) (m .bytes)) (m .words))
       ≡ offered (stateOf m) (offerOrGoOn offering event fuel)
   unfolding offerOrGoOn offered
   call-state true room = offered-state capacity image table m ok event fuel (capacity - m .head .waiting) v (room refl) refl
@@ -144,7 +165,8 @@ module _ (capacity : ℕ) (image table : List ℕ) (m : Monitor) (ok : Passed ca
   pub call-passes : (offering : Bool) → (offering ≡ true → m .head .settled + m .head .waiting ≡ capacity → ⊥)
       → refusal (callChecks (read image) capacity (m .head) (offerOrGoOn offering event fuel)) ≡ none
       → Passed capacity image table
-      (monitorIn (cond offering (oneMore (m .head)) (m .head)) (cond offering (appended capacity event (capacity - m .head .waiting) (m .bytes)) (m .bytes)) (m .words))
+      (monitorIn (cond offering (oneMore (m .head)) (m .head))
+      (cond offering (appended capacity event (capacity - m .head .waiting) (m .bytes)) (m .bytes)) (m .words))
   unfolding offerOrGoOn
   call-passes true room e = offered-passes capacity image table m ok event fuel (capacity - m .head .waiting) v (room refl) refl e
   call-passes false room e = ok

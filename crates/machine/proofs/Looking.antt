@@ -76,8 +76,12 @@ module _ (capacity : ℕ) (image table : List ℕ) (m : Monitor) (ok : Passed ca
   module _ (n : ℕ) (is-next : n ≡ number (states (read image .rules)) (next (read image .rules) (state (read image .rules) (stateOf m .settled)) a)) where
     pub next-small : n < 65536
     next-small =
-        omega
-        (arith, is-next, next-below (read image .rules) (state (read image .rules) (stateOf m .settled)) a, few-states (read image) (valid-in-range image (passed-valid capacity image table m ok)))
+        omega (
+          arith,
+          is-next,
+          next-below (read image .rules) (state (read image .rules) (stateOf m .settled)) a,
+          few-states (read image) (valid-in-range image (passed-valid capacity image table m ok)),
+        )
 
     pub match-asks : 2 + n < length table
     match-asks =

@@ -78,7 +78,8 @@ passed-next capacity image table m c p =
     (next capacity image table (l .good) (l .right) m (l .holding) c .after)
 
 -- k calls on m have been made and accepted: the monitor is n now, the answer bytes are b, the sums c.
-pub record Offering (capacity : ℕ) (image table : List ℕ) (m : Monitor) (calls : List Call) (answers : List ℕ) (n : Monitor) (b : List ℕ) (c : Counts) (k : ℕ) : Type 0 where
+pub record Offering (capacity : ℕ) (image table : List ℕ) (m : Monitor) (calls : List Call) (answers : List ℕ) (n : Monitor)
+    (b : List ℕ) (c : Counts) (k : ℕ) : Type 0 where
   pub few : k ≤ length calls
   pub passed : Passed capacity image table n
   pub bytes : length (n .bytes) ≡ capacity
@@ -116,7 +117,8 @@ pub record Within (c d : Counts) : Type 0 where
   pub rewrites : c .rewrites + d .rewrites ≤ 65536 * 4294967295
   pub put : c .put + d .put ≤ 8 * 65536 * 4294967295
 
-module _ {capacity : ℕ} {image table : List ℕ} {m : Monitor} {calls : List Call} {answers : List ℕ} {n : Monitor} {b : List ℕ} {c : Counts} {k : ℕ} (now : Offering capacity image table m calls answers n b c k) where
+module _ {capacity : ℕ} {image table : List ℕ} {m : Monitor} {calls : List Call} {answers : List ℕ} {n : Monitor} {b : List ℕ} {c : Counts} {k : ℕ}
+    (now : Offering capacity image table m calls answers n b c k) where
   -- The checks have passed, with the capacity read off the bytes.
   pub offering-passed : Passed (length (n .bytes)) image table n
   offering-passed = rw (now .bytes) (now .passed)
@@ -143,7 +145,9 @@ module _ {capacity : ℕ} {image table : List ℕ} {m : Monitor} {calls : List C
         rw same (offering-end 0 (rw (drop-of-length-le calls h)))
 
     -- The next call is made, with the outcome o.
-    module _ {o : Outcome} (more : k < length calls) (made : o ≡ decided (read image) (length (n .bytes)) n (callChecks (read image) (length (n .bytes)) (n .head) (getD calls k (GoOn 0))) (getD calls k (GoOn 0))) where
+    module _ {o : Outcome} (more : k < length calls)
+        (made : o ≡ decided (read image) (length (n .bytes)) n (callChecks (read image) (length (n .bytes)) (n .head) (getD calls k (GoOn 0)))
+        (getD calls k (GoOn 0))) where
       is : o ≡ callOf capacity image table n (getD calls k (GoOn 0))
       is =
           passed-call capacity image table n (getD calls k (GoOn 0)) o (now .passed)

@@ -172,7 +172,8 @@ module _ {image table bytes₀ words₀ : List ℕ} {fuel : ℕ} {head₀ : Head
       empty (x ∷ l) p = absurd (omega arith)
 
   pub spent-ends : head .verdict ≡ Standing.None → (head .waiting ≡ 0 → ⊥) → left ≡ 0
-      → _≡_ {A = Outcome} (record { answer = Answer.Spent; counts = record { steps = fuel; rewrites = rewrites; put = put }; monitor = monitorIn head bytes words })
+      → _≡_ {A = Outcome}
+      (record { answer = Answer.Spent; counts = record { steps = fuel; rewrites = rewrites; put = put }; monitor = monitorIn head bytes words })
       (outcome (read image) (length bytes₀) (monitorIn head₀ bytes₀ words₀) none
       (run (read image .rules) (length bytes₀) fuel (stateOf (monitorIn head₀ bytes₀ words₀))))
   unfolding stateOf
@@ -186,7 +187,11 @@ module _ {image table bytes₀ words₀ : List ℕ} {fuel : ℕ} {head₀ : Head
   -- A step is tried. It does not fit, ..
   pub full-ends : head .verdict ≡ Standing.None → (head .waiting ≡ 0 → ⊥) → (left ≡ 0 → ⊥) → (to : Tried) → to .taken ≡ false
       → to ≡ tried (read image .rules) (length bytes) (monitorIn head bytes words) (stepOf (read image .rules) (stateOf (monitorIn head bytes words)))
-      → _≡_ {A = Outcome} (record { answer = Answer.Full; counts = soFar fuel left rewrites put; monitor = monitorIn head (to .monitor .bytes) (to .monitor .words) })
+      → _≡_ {A = Outcome} (record {
+        answer = Answer.Full;
+        counts = soFar fuel left rewrites put;
+        monitor = monitorIn head (to .monitor .bytes) (to .monitor .words);
+      })
       (outcome (read image) (length bytes₀) (monitorIn head₀ bytes₀ words₀) none
       (run (read image .rules) (length bytes₀) fuel (stateOf (monitorIn head₀ bytes₀ words₀))))
   unfolding stateOf proceed
@@ -194,7 +199,8 @@ module _ {image table bytes₀ words₀ : List ℕ} {fuel : ℕ} {head₀ : Head
       let s : State = stateOf (monitorIn head bytes words) in
       let w = waits (read image) (length bytes₀) (monitorIn head bytes words) facts (omega (arith, z)) in
       let n : left ≡ suc (left - 1) = omega (arith, l) in
-      let u = tried-no (read image .rules) (length bytes₀) (monitorIn head bytes words) (stepOf (read image .rules) s) to untaken (t ∙ ap (λ (n : ℕ). tried (read image .rules) n (monitorIn head bytes words) (stepOf (read image .rules) s)) (k .bytes-kept)) in
+      let u = tried-no (read image .rules) (length bytes₀) (monitorIn head bytes words) (stepOf (read image .rules) s) to untaken
+      (t ∙ ap (λ (n : ℕ). tried (read image .rules) n (monitorIn head bytes words) (stepOf (read image .rules) s)) (k .bytes-kept)) in
       let here : run (read image .rules) (length bytes₀) left s ≡ ended Answer.Full s =
       ap (λ (f : ℕ). run (read image .rules) (length bytes₀) f s) n
       ∙ run-step (read image .rules) (length bytes₀) (left - 1) s (w .0) (w .1) e (w .2)
@@ -236,7 +242,8 @@ module _ {image table bytes₀ words₀ : List ℕ} {fuel : ℕ} {head₀ : Head
       w = waits (read image) (length bytes₀) (monitorIn head bytes words) facts (omega (arith, z))
 
       u : Taken rules (length bytes₀) t′ to
-      u = tried-yes rules (length bytes₀) (monitorIn head bytes words) t′ to taken (t ∙ ap (λ (n : ℕ). tried rules n (monitorIn head bytes words) t′) (k .bytes-kept))
+      u = tried-yes rules (length bytes₀) (monitorIn head bytes words) t′ to taken
+          (t ∙ ap (λ (n : ℕ). tried rules n (monitorIn head bytes words) t′) (k .bytes-kept))
 
       good : valid image ≡ true
       good = passed-valid (length bytes₀) image table (monitorIn head bytes words) (k .passed)
@@ -266,7 +273,12 @@ module _ {image table bytes₀ words₀ : List ℕ} {fuel : ℕ} {head₀ : Head
           ≡ ahead (soFar fuel (left - 1) (rewrites + to .rewrites) (put + to .put)) (run rules (length bytes₀) (left - 1) (stateOf (to .monitor)))
       on =
           ap (ahead c) (ap (λ (f : ℕ). run rules (length bytes₀) f s) n ∙ run-step rules (length bytes₀) (left - 1) s (w .0) (w .1) e (w .2) ∙ rw (u .fit))
-          ∙ (λ i. record { answer = r .answer; counts = (sym (plus-assoc c (countsOf t′) (r .counts)) ∙ ap (λ (d : Counts). plus d (r .counts)) sum) i; state = r .state })
+          ∙ (λ i. record {
+            answer = r .answer;
+            counts =
+                (sym (plus-assoc c (countsOf t′) (r .counts)) ∙ ap (λ (d : Counts). plus d (r .counts)) sum) i;
+            state = r .state;
+          })
           ∙ ap (λ (x : State). ahead c′ (run rules (length bytes₀) (left - 1) x)) (sym back)
         where
           n : left ≡ suc (left - 1)

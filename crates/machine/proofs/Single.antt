@@ -39,7 +39,13 @@ answer-back Answer.Spent e = refl
 answer-back Answer.Full e = refl
 answer-back (Answer.Verdict v) e =
     let n : 16 + v - 16 ≡ v = omega arith in
-    rw (ne-eqb (16 + v) 0 (λ (p : 16 + v ≡ 0). absurd (omega arith)), ne-eqb (16 + v) 1 (λ (p : 16 + v ≡ 1). absurd (omega arith)), ne-eqb (16 + v) 2 (λ (p : 16 + v ≡ 2). absurd (omega arith)), le-ltb (16 + v) 16 (omega arith), n)
+    rw (
+      ne-eqb (16 + v) 0 (λ (p : 16 + v ≡ 0). absurd (omega arith)),
+      ne-eqb (16 + v) 1 (λ (p : 16 + v ≡ 1). absurd (omega arith)),
+      ne-eqb (16 + v) 2 (λ (p : 16 + v ≡ 2). absurd (omega arith)),
+      le-ltb (16 + v) 16 (omega arith),
+      n,
+    )
 answer-back (Answer.Refused n) e = let z : _≡_ {A = ℕ} 0 1 = cc in absurd (omega arith)
 
 module _ (capacity : ℕ) (image table : List ℕ) (m : Monitor) (c : Call) (b : Batched)
@@ -79,11 +85,19 @@ module _ (capacity : ℕ) (image table : List ℕ) (m : Monitor) (c : Call) (b :
 
   -- the call is refused
   pub single-refused : (b .stop ≡ 0 → ⊥)
-      → _≡_ {A = Outcome} (record { answer = Answer.Refused (b .stop); counts = noCounts; monitor = monitorIn (m .head) (b .monitor .bytes) (b .monitor .words) }) (callOf capacity image table m c)
+      → _≡_ {A = Outcome} (record {
+        answer = Answer.Refused (b .stop);
+        counts = noCounts;
+        monitor = monitorIn (m .head) (b .monitor .bytes) (b .monitor .words);
+      }) (callOf capacity image table m c)
   single-refused z = go (refusedBy (o .answer)) refl
     where
       go : (x : Option ℕ) → refusedBy (o .answer) ≡ x
-          → _≡_ {A = Outcome} (record { answer = Answer.Refused (b .stop); counts = noCounts; monitor = monitorIn (m .head) (b .monitor .bytes) (b .monitor .words) }) o
+          → _≡_ {A = Outcome} (record {
+            answer = Answer.Refused (b .stop);
+            counts = noCounts;
+            monitor = monitorIn (m .head) (b .monitor .bytes) (b .monitor .words);
+          }) o
       go none r = absurd (z (is-accepted r .stop))
       go (some n) r =
           let k = is-stopped n r in

@@ -117,7 +117,8 @@ word-before set capacity m h = go (m .head .settled) refl
 pub words-snoc : (rules : List Rule) (s : List ℕ) (a : ℕ)
     → wordsAfter rules (s ++ a ∷ []) ≡ wordsAfter rules s ++ number (states rules) (next rules (state rules s) a) ∷ []
 unfolding wordsAfter state
-words-snoc rules s a = ap (map (number (states rules))) (states-after-snoc rules [] s a) ∙ map-append (number (states rules)) (statesAfter rules [] s) (next rules (state rules s) a ∷ [])
+words-snoc rules s a = ap (map (number (states rules))) (states-after-snoc rules [] s a) ∙ map-append (number (states rules))
+    (statesAfter rules [] s) (next rules (state rules s) a ∷ [])
 
 -- cut
 pub words-cut : (rules : List Rule) (s : List ℕ) (k : ℕ) → take k (wordsAfter rules s) ≡ wordsAfter rules (take k s)

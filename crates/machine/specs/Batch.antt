@@ -49,12 +49,16 @@ inTurn capacity image table m (c ∷ calls) =
 unfoldable pub offers : ℕ → List ℕ → List ℕ → Monitor → List ℕ → ℕ → Offers
 offers capacity image table m events fuel = inTurn capacity image table m (offersOf events fuel)
 
+-- "more than 65,535 events"
+abbrev pub eventsMost : ℕ
+eventsMost = 65535
+
 -- "Batch .. refuses, in order: 7, 9, 10, 11, 13; 16, more than 65,535 events, or fewer answer bytes than events."
 unfoldable pub batchChecks : ℕ → List ℕ → List ℕ → Monitor → List ℕ → ℕ → List ℕ → List Check
 batchChecks capacity image table m events fuel answers =
     lentChecks capacity image table m
     ++ fuelCheck fuel
-    ∷ (leb (length events) 65535 && leb (length events) (length answers), 16)
+    ∷ (leb (length events) eventsMost && leb (length events) (length answers), 16)
     ∷ []
 
 -- The refusal of the batch; or "that number or 0 (a stop by 12, 14 or 15 is a result and no refusal of the batch ..), the

@@ -59,8 +59,11 @@ lentChecks capacity image table m =
     ∷ []
 
 -- "13, fuel above 65,535"
+abbrev pub fuelMost : ℕ
+fuelMost = 65535
+
 unfoldable pub fuelCheck : ℕ → Check
-fuelCheck fuel = (leb fuel 65535, 13)
+fuelCheck fuel = (leb fuel fuelMost, 13)
 
 -- "14, a verdict stands"
 unfoldable pub isNone : Standing → Bool

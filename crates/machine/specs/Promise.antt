@@ -21,7 +21,22 @@ use Rattle.machine.specs.declared.Counts.{Counts}
 use Rattle.machine.specs.State.{State, empty, step}
 use Rattle.machine.specs.Run.{noCounts, fits}
 use Rattle.machine.specs.Areas.{Monitor, headOf, monitorOf, stateOf}
-use Rattle.machine.specs.Calls.{Fresh, freshOf, Call, Offer, GoOn, fuelOf, lentChecks, callChecks, Outcome, refusalOf, decided, callOf, refusedBy, answerNumber}
+use Rattle.machine.specs.Calls.{
+  Fresh,
+  freshOf,
+  Call,
+  Offer,
+  GoOn,
+  fuelOf,
+  lentChecks,
+  callChecks,
+  Outcome,
+  refusalOf,
+  decided,
+  callOf,
+  refusedBy,
+  answerNumber,
+}
 use Rattle.machine.specs.Batch.{Batched, batchOf}
 use Rattle.machine.specs.Play.{stringOf, verdictOf, Log, noCalls, play, offersOf}
 

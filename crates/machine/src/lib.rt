@@ -1,6 +1,14 @@
 // The types that the definitions of specs/ share with the code. It has no functions: the head has methods, so it stands with
 // them, in the crate monitor.
 
+// Document 01's 2,048: the number of bytes and of words of a monitor.
+pub const CAPACITY: usize = 2048;
+
+// The most fuel for a call, and the most events of a batch.
+pub const FUEL_MOST: u32 = 65535;
+
+pub const EVENTS_MOST: usize = 65535;
+
 // Whether a verdict stands, and which.
 pub enum Standing {
     None,

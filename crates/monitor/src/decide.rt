@@ -9,7 +9,7 @@ ghost use lib.ListN.{length};
 ghost use Rattle.layout.specs.Image.{read, valid};
 ghost use Rattle.layout.specs.declared.Checked.{Checked};
 ghost use Rattle.machine.specs.Calls.{callChecks, callOf, decided, answerNumber};
-ghost use Rattle.machine.specs.Batch.{inTurn, batched};
+ghost use Rattle.machine.specs.Batch.{eventsMost, inTurn, batched};
 ghost use Rattle.machine.specs.Lent.{Passed, Starts, rowsIn, widthIn, appended, oneMore, offerOrGoOn, offersOrGoesOn, answerFrom};
 ghost use Rattle.monitor.specs.Lent.{headIn, lent, outcomeFrom, batchFrom};
 use crate::BatchReturned;
@@ -20,6 +20,7 @@ use image::wide;
 use layout::Checked;
 use machine::Answer;
 use machine::Counts;
+use machine::FUEL_MOST;
 use machine::Standing;
 
 // An answer as a byte.
@@ -105,7 +106,8 @@ impl Head {
         requires room { ⌜ (offering ≡ true → self .waiting < length (now bytes)) ⌝ }
         ensures head { λ r. ⌜ headIn r ≡ cond offering (oneMore (headIn self)) (headIn self) ⌝ }
         ensures bytes { λ r. ⌜ now (bytes .exit)
-            ≡ cond offering (appended (length (now (bytes .entry))) event (length (now (bytes .entry)) - self .waiting) (now (bytes .entry))) (now (bytes .entry)) ⌝ }
+            ≡ cond offering (appended (length (now (bytes .entry))) event (length (now (bytes .entry)) - self .waiting) (now (bytes .entry)))
+            (now (bytes .entry)) ⌝ }
     {
         if !offering {
             return self;
@@ -141,12 +143,13 @@ impl Head {
         requires width { ⌜ width ≡ widthIn (now table) ⌝ }
         ensures { λ r. ⌜ outcomeFrom r (now (bytes .exit)) (now (words .exit))
             ≡ decided (read (now (image .entry))) (length (now (bytes .entry))) (lent self (now (bytes .entry)) (now (words .entry)))
-            (callChecks (read (now (image .entry))) (length (now (bytes .entry))) (headIn self) (offerOrGoOn offering event fuel)) (offerOrGoOn offering event fuel) ⌝ }
+            (callChecks (read (now (image .entry))) (length (now (bytes .entry))) (headIn self) (offerOrGoOn offering event fuel))
+            (offerOrGoOn offering event fuel) ⌝ }
     {
         if !allowed(image, offering, event) {
             return self.refused(12);
         }
-        if 65535 < fuel {
+        if FUEL_MOST < fuel {
             return self.refused(13);
         }
         let verdict = self.verdict;
@@ -172,7 +175,13 @@ impl Head {
         put: u64,
     ) -> BatchReturned
         ensures { λ r. ⌜ r
-            ≡ record { head = self; refusal = Checked.Passed; stop = stop; accepted = accepted; counts = record { steps = steps; rewrites = rewrites; put = put } } ⌝ }
+            ≡ record {
+              head = self;
+              refusal = Checked.Passed;
+              stop = stop;
+              accepted = accepted;
+              counts = record { steps = steps; rewrites = rewrites; put = put };
+            } ⌝ }
     {
         BatchReturned {
             head: self,
@@ -202,11 +211,12 @@ impl Head {
     ) -> BatchReturned
         requires lent { ⌜ Passed (length (now bytes)) (now image) (now table) (lent self (now bytes) (now words)) ⌝ }
         requires starts { ⌜ Starts (now image) (now starts) ⌝ }
-        requires few { ⌜ length (now events) ≤ 65535 ⌝ }
+        requires few { ⌜ length (now events) ≤ eventsMost ⌝ }
         requires room { ⌜ length (now events) ≤ length (now answers) ⌝ }
         ensures { λ r. ⌜ batchFrom r (now (bytes .exit)) (now (words .exit)) (now (answers .exit))
             ≡ batched none (lent self (now (bytes .entry)) (now (words .entry))) (now (answers .entry))
-            (inTurn (length (now (bytes .entry))) (now (image .entry)) (now (table .entry)) (lent self (now (bytes .entry)) (now (words .entry))) (offersOrGoesOn offering (now (events .entry)) fuel)) ⌝ }
+            (inTurn (length (now (bytes .entry))) (now (image .entry)) (now (table .entry)) (lent self (now (bytes .entry)) (now (words .entry)))
+            (offersOrGoesOn offering (now (events .entry)) fuel)) ⌝ }
     {
         let rows = 2 + wide::word(table[0]);
         let width = wide::word(table[1]);
@@ -259,7 +269,8 @@ impl Head {
         requires lent { ⌜ Passed (length (now bytes)) (now image) (now table) (lent self (now bytes) (now words)) ⌝ }
         requires starts { ⌜ Starts (now image) (now starts) ⌝ }
         ensures { λ r. ⌜ outcomeFrom r (now (bytes .exit)) (now (words .exit))
-            ≡ callOf (length (now (bytes .entry))) (now (image .entry)) (now (table .entry)) (lent self (now (bytes .entry)) (now (words .entry))) (offerOrGoOn offering event fuel) ⌝ }
+            ≡ callOf (length (now (bytes .entry))) (now (image .entry)) (now (table .entry)) (lent self (now (bytes .entry)) (now (words .entry)))
+            (offerOrGoOn offering event fuel) ⌝ }
     {
         let events = [event];
         let mut answers = [0u8; 1];

@@ -14,14 +14,14 @@ use areas::described;
 use areas::held;
 use layout::Checked;
 pub use machine::Answer;
+use machine::CAPACITY;
 pub use machine::Counts;
+use machine::EVENTS_MOST;
+use machine::FUEL_MOST;
 pub use machine::Standing;
 
 mod decide;
 mod steps;
-
-// Document 01's 2,048: the number of bytes and of words.
-const CAPACITY: usize = 2048;
 
 // The monitor's head: how many symbols are settled, how many wait, the verdict or none, and that verdict's rule (0 with none).
 pub struct Head {
@@ -228,10 +228,10 @@ impl Head {
             }
             Checked::Passed => {}
         }
-        if 65535 < fuel {
+        if FUEL_MOST < fuel {
             return self.batch_refused(13);
         }
-        if 65535 < events.len() {
+        if EVENTS_MOST < events.len() {
             return self.batch_refused(16);
         }
         if answers.len() < events.len() {

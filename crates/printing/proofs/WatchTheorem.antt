@@ -33,7 +33,24 @@ use Rattle.printing.specs.Watch.{
   reported,
   printed,
 }
-use Rattle.printing.specs.Turns.{Next, nothing, offering, named, firstNamed, nextOf, Areas, message, eventsAt, started, beginRead, beginOf, thenRest, linesFrom, writtenBy, WatchPrints}
+use Rattle.printing.specs.Turns.{
+  Next,
+  nothing,
+  offering,
+  named,
+  firstNamed,
+  nextOf,
+  Areas,
+  message,
+  eventsAt,
+  started,
+  beginRead,
+  beginOf,
+  thenRest,
+  linesFrom,
+  writtenBy,
+  WatchPrints,
+}
 use Rattle.printing.proofs.Split.{drop-events}
 use Rattle.printing.proofs.Starting.{rule-text-good}
 

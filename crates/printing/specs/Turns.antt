@@ -8,19 +8,20 @@ use lib.ListN.{length, take, drop}
 use Rattle.rewriting.specs.Lists.{over}
 use Rattle.layout.specs.Image.{imageOf}
 use Rattle.layout.specs.Table.{tableOf}
-use Rattle.machine.specs.Areas.{Head, Monitor}
+use Rattle.machine.specs.Areas.{documentCapacity, Head, Monitor}
 use Rattle.machine.specs.Lent.{monitorIn}
 use Rattle.grammar.specs.Tokens.{unbroken}
 use Rattle.grammar.specs.FirstRun.{gap}
 use Rattle.grammar.specs.Grammar.{Reading, ruleSetOf}
 use Rattle.grammar.specs.Read.{Result, Good, Bad, namesOf}
 use Rattle.printing.specs.Lines.{refusedLine, tooLongLine}
-use Rattle.printing.specs.Watch.{rulePart, eventPart, Watch, holding, freshMonitor, offeredName, lineFor, ruleTextRead, printed}
+use Rattle.printing.specs.Watch.{inputMost, rulePart, eventPart, Watch, holding, freshMonitor, offeredName, lineFor, ruleTextRead, printed}
+use Rattle.grammar.specs.Names.{namesSize}
 
 -- The most bytes that a line has: a name of 24 bytes, `#` and 24 bytes, two numbers of four digits, each with a space behind
 -- it, and 2,048 names of 24 bytes, each with a comma or the line's end behind it.
 abbrev pub lineMost : ℕ
-lineMost = 25 + 26 + 5 + 5 + 2048 * 25
+lineMost = 25 + 26 + 5 + 5 + documentCapacity * 25
 
 -- a line, where the next name is looked for in the input, and the monitor then
 pub record Next : Type 0 where
@@ -47,7 +48,7 @@ firstNamed w at part =
 
 -- The next line of whatever input, from whatever place. An input that is too long has no names.
 unfoldable pub nextOf : Watch → List ℕ → ℕ → Next
-nextOf w input at = cond (leb (length input) 20480) (firstNamed w at (drop at input)) (nothing w at)
+nextOf w input at = cond (leb (length input) inputMost) (firstNamed w at (drop at input)) (nothing w at)
 
 -- The walk over the event names: the monitor's head, where in the input the next name is looked for, and how long the image and
 -- the table are.
@@ -164,7 +165,7 @@ beginRead (Good s) at l = started s at l
 
 unfoldable pub beginOf : List ℕ → Areas → Begins
 beginOf input l =
-    cond (leb (length input) 20480) (beginRead (ruleTextRead (rulePart input)) (eventsAt input) l) (message tooLongLine l)
+    cond (leb (length input) inputMost) (beginRead (ruleTextRead (rulePart input)) (eventsAt input) l) (message tooLongLine l)
 
 -- a line and then the rest, unless it is empty
 unfoldable pub thenRest : (Next → List ℕ) → Next → List ℕ → List ℕ
@@ -187,5 +188,5 @@ writtenBy k input (Events walk) l =
 -- held: `watch-theorem` (proofs/WatchTheorem.antt). The names have just their 48 slots.
 abbrev pub WatchPrints : Type 0
 WatchPrints =
-    (input : List ℕ) (l : Areas) → length (l .names) ≡ 1200 → (k : ℕ) → length input < k
+    (input : List ℕ) (l : Areas) → length (l .names) ≡ namesSize → (k : ℕ) → length input < k
     → writtenBy k input (beginOf input l .answer) (beginOf input l .areas) ≡ printed input

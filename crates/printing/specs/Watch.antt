@@ -13,7 +13,7 @@ use Rattle.machine.specs.Areas.{Monitor, documentCapacity, headOf}
 use Rattle.machine.specs.Calls.{Outcome, refusalOf, offerOf}
 use Rattle.grammar.specs.Tokens.{Run, runs}
 use Rattle.grammar.specs.Grammar.{Reading, ruleSetOf}
-use Rattle.grammar.specs.Read.{Result, Good, Bad, readText, namesOf, unless}
+use Rattle.grammar.specs.Read.{textMost, Result, Good, Bad, readText, namesOf, unless}
 use Rattle.grammar.specs.Lookup.{symbolNamed}
 use Rattle.printing.specs.Lines.{eventLine, refusedLine, tooLongLine}
 
@@ -80,13 +80,17 @@ eventLines w (r ∷ names) = lineFor w (r .bytes) ++ eventLines (holding w (offe
 
 -- what the rule text is read as; "1, over 16,384 bytes"
 unfoldable pub ruleTextRead : List ℕ → Result
-ruleTextRead text = unless (refusal ((leb (length text) 16384, 1) ∷ [])) (readText text)
+ruleTextRead text = unless (refusal ((leb (length text) textMost, 1) ∷ [])) (readText text)
 
 -- "A refused text prints `rules refused`, number, place. Then each name is offered"
 unfoldable pub reported : Result → List ℕ → List ℕ
 reported (Bad n place) events = refusedLine n place
 reported (Good s) events = eventLines (begun s) (runs events)
 
+-- "at most 20,480 bytes of standard input"
+abbrev pub inputMost : ℕ
+inputMost = 20480
+
 -- "It reads at most 20,480 bytes of standard input, else prints `input too long`."
 unfoldable pub printed : List ℕ → List ℕ
-printed input = cond (leb (length input) 20480) (reported (ruleTextRead (rulePart input)) (eventPart input)) tooLongLine
+printed input = cond (leb (length input) inputMost) (reported (ruleTextRead (rulePart input)) (eventPart input)) tooLongLine

@@ -129,7 +129,8 @@ unfolding lineFor eventLine offeredName offered
 line-offered w x a r bytes words e p = rw (e, ← p, told-words (w .names) r bytes words (r .answer))
 
 -- what the code's offer gave back
-module _ (image table : List ℕ) (m : Monitor) (a : ℕ) (r : Returned) (bytes words : List ℕ) (made : outcomeFrom r bytes words ≡ offerOf documentCapacity image table m a 1000) where
+module _ (image table : List ℕ) (m : Monitor) (a : ℕ) (r : Returned) (bytes words : List ℕ)
+    (made : outcomeFrom r bytes words ≡ offerOf documentCapacity image table m a 1000) where
   pub made-slot : HasSlot (r .answer)
   unfolding offerOf
   made-slot = rw (ap (λ (o : Outcome). o .answer) made) (offer-slot image table m a)

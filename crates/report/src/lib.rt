@@ -6,12 +6,16 @@ ghost use lib.ListN.{length};
 ghost use Rattle.rewriting.specs.Lists.{over};
 ghost use Rattle.layout.specs.Image.{read, valid};
 ghost use Rattle.layout.specs.Table.{tableOf};
-ghost use Rattle.printing.specs.Watch.{rulePart, freshMonitor};
+ghost use Rattle.printing.specs.Watch.{inputMost, rulePart, freshMonitor};
 ghost use Rattle.printing.specs.Turns.{lineMost, Events, offering, nextOf, turnOf, watchWith, watchIn, eventsAt, areas, beginOf, beginsFrom, Inside};
 ghost use Rattle.report.specs.Lent.{walkIn, begunIn, turnFrom};
 use grammar::Found;
+use grammar::NAMES_BYTES;
 use grammar::Read;
 use layout::Compiled;
+use layout::IMAGE_BYTES;
+use layout::TABLE_WORDS;
+use machine::CAPACITY;
 use monitor::Head;
 
 // Document 01's 20,480 bytes of input, and fuel 1,000 for each name.
@@ -19,16 +23,7 @@ pub const INPUT_BYTES: usize = 20480;
 
 const FUEL: u32 = 1000;
 
-// What an image, the names' slots and a table need at most, and what a monitor holds.
-pub const IMAGE_BYTES: usize = 1284;
-
-pub const NAMES_BYTES: usize = 1200;
-
-pub const TABLE_WORDS: usize = 16931;
-
-pub const CAPACITY: usize = 2048;
-
-// The most bytes that a line has: `lineMost`, specs/Turns.antt.
+// The most bytes that a line has: `lineMost`, printing/specs/Turns.antt.
 pub const LINE_BYTES: usize = 51261;
 
 // The walk over the event names: the monitor's head, where in the input the next name is looked for, and how long the image and
@@ -96,7 +91,8 @@ fn make_ready(
     words: &mut [u16; CAPACITY],
 ) -> Begun
     requires { ⌜ valid (now image) ≡ true ⌝ }
-    ensures answer { λ r. ⌜ begunIn r ≡ Events (record { head = freshMonitor .head; at = at; image = length (now (image .entry)); table = length (tableOf (read (now (image .entry)))) }) ⌝ }
+    ensures answer { λ r. ⌜ begunIn r
+        ≡ Events (record { head = freshMonitor .head; at = at; image = length (now (image .entry)); table = length (tableOf (read (now (image .entry)))) }) ⌝ }
     ensures table { λ r. ⌜ now (table .exit) ≡ over (tableOf (read (now (image .entry)))) (now (table .entry)) ⌝ }
     ensures bytes { λ r. ⌜ now (bytes .exit) ≡ freshMonitor .bytes ⌝ }
     ensures words { λ r. ⌜ now (words .exit) ≡ freshMonitor .words ⌝ }
@@ -127,8 +123,10 @@ pub fn begin(
     words: &mut [u16; CAPACITY],
     line: &mut [u8; LINE_BYTES],
 ) -> Begun
-    ensures outcome { λ r. ⌜ beginsFrom (begunIn r) (areas (now (image .exit)) (now (names .exit)) (now (table .exit)) (now (bytes .exit)) (now (words .exit)) (now (line .exit)))
-        ≡ beginOf (now (input .entry)) (areas (now (image .entry)) (now (names .entry)) (now (table .entry)) (now (bytes .entry)) (now (words .entry)) (now (line .entry))) ⌝ }
+    ensures outcome { λ r. ⌜ beginsFrom (begunIn r)
+        (areas (now (image .exit)) (now (names .exit)) (now (table .exit)) (now (bytes .exit)) (now (words .exit)) (now (line .exit)))
+        ≡ beginOf (now (input .entry)) (areas (now (image .entry)) (now (names .entry)) (now (table .entry)) (now (bytes .entry))
+        (now (words .entry)) (now (line .entry))) ⌝ }
     ensures inside { λ r. ⌜ Inside (begunIn r) ⌝ }
 {
     if INPUT_BYTES < input.len() {
@@ -180,9 +178,10 @@ impl Walk {
         words: &mut [u16; CAPACITY],
         line: &mut [u8; LINE_BYTES],
     ) -> Line
-        requires { ⌜ length (now x) ≤ 20480 ⌝ }
+        requires { ⌜ length (now x) ≤ inputMost ⌝ }
         ensures { λ r. ⌜ turnFrom r (now (bytes .exit)) (now (words .exit)) (now (line .exit))
-            ≡ turnOf (walkIn self) (offering (watchWith (walkIn self) (now (image .entry)) (now (table .entry)) (now (names .entry)) (now (bytes .entry)) (now (words .entry)))
+            ≡ turnOf (walkIn self) (offering (watchWith (walkIn self) (now (image .entry)) (now (table .entry)) (now (names .entry))
+            (now (bytes .entry)) (now (words .entry)))
             end (now (x .entry))) (now (line .entry)) ⌝ }
         ensures { λ r. ⌜ r .length ≤ lineMost ⌝ }
     {
@@ -221,7 +220,8 @@ impl Walk {
         line: &mut [u8; LINE_BYTES],
     ) -> Line
         ensures turn { λ r. ⌜ turnFrom r (now (bytes .exit)) (now (words .exit)) (now (line .exit))
-            ≡ turnOf (walkIn self) (nextOf (watchWith (walkIn self) (now (image .entry)) (now (table .entry)) (now (names .entry)) (now (bytes .entry)) (now (words .entry)))
+            ≡ turnOf (walkIn self) (nextOf (watchWith (walkIn self) (now (image .entry)) (now (table .entry)) (now (names .entry))
+            (now (bytes .entry)) (now (words .entry)))
             (now (input .entry)) (self .at)) (now (line .entry)) ⌝ }
         ensures fits { λ r. ⌜ r .length ≤ lineMost ⌝ }
         ensures onward { λ r. ⌜ ((r .length ≡ 0 → ⊥) → (self .at < r .walk .at) × (r .walk .at ≤ length (now (input .entry)))) ⌝ }
@@ -263,7 +263,8 @@ impl Walk {
         line: &mut [u8; LINE_BYTES],
     ) -> Line
         ensures turn { λ r. ⌜ turnFrom r (now (bytes .exit)) (now (words .exit)) (now (line .exit))
-            ≡ turnOf (walkIn self) (nextOf (watchIn (walkIn self) (now (image .entry)) (now (table .entry)) (now (names .entry)) (now (bytes .entry)) (now (words .entry)))
+            ≡ turnOf (walkIn self) (nextOf (watchIn (walkIn self) (now (image .entry)) (now (table .entry)) (now (names .entry))
+            (now (bytes .entry)) (now (words .entry)))
             (now (input .entry)) (self .at)) (now (line .entry)) ⌝ }
         ensures fits { λ r. ⌜ r .length ≤ lineMost ⌝ }
         ensures onward { λ r. ⌜ ((r .length ≡ 0 → ⊥) → (self .at < r .walk .at) × (r .walk .at ≤ length (now (input .entry)))) ⌝ }

@@ -165,7 +165,8 @@ module _ (rules : RuleSet) (matches rows : List ℕ) {t : List ℕ} {n s : ℕ} 
 
   pub wrong-root : (b : Bool) → not b ≡ true → Decides b (RootPassed t matches rows s) → RightTable (rules .rules) (rules .symbols) matches rows → ⊥
   wrong-root b e root right =
-      denied b (not-true b e) root (right-root (rules .rules) s t matches rows root-trie (subst (λ (x : ℕ). RightTable (rules .rules) x matches rows) (sym width) right))
+      denied b (not-true b e) root (right-root (rules .rules) s t matches rows root-trie
+      (subst (λ (x : ℕ). RightTable (rules .rules) x matches rows) (sym width) right))
 
 module _ {rules : RuleSet} {t matches rows : List ℕ} {n s q : ℕ} (k : Checking rules t matches rows n s q) where
   narrowed : RightTable (rules .rules) (rules .symbols) matches rows → RightTable (rules .rules) s matches rows

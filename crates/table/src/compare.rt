@@ -9,10 +9,15 @@ ghost use Rattle.layout.specs.Image.{read, valid};
 ghost use Rattle.layout.specs.ImageCheck.{Decides};
 ghost use Rattle.rewriting.specs.Lists.{prefix};
 ghost use Rattle.layout.specs.Table.{tableOf};
-ghost use Rattle.trie.specs.Nodes.{parent, symbol, matched, failure, Built};
+ghost use Rattle.trie.specs.Nodes.{childrenAt, failureAt, symbolAt, parent, symbol, matched, failure, Built};
 ghost use Rattle.layout.specs.Words.{transition, ownOr};
 ghost use Rattle.table.specs.Consistent.{differing, leaving, Passes, RootPassed, RightTable};
 use image::wide;
+use trie::CHILDREN;
+use trie::FAILURE;
+use trie::MATCH;
+use trie::NODE;
+use trie::SYMBOL;
 use trie::failure_of;
 
 // How many words of the rows of q and f differ. It counts to the end, so that the loop compares many words at once.
@@ -48,33 +53,33 @@ fn transitions(rows: &[u16], s: usize) -> u16
 
 // The state that the parent of node q leads to by q's symbol.
 fn led_to(trie: &[u16], rows: &[u16], s: usize, q: usize) -> usize
-    requires node { ⌜ 8 * q + 1 < length (now trie) ⌝ }
+    requires node { ⌜ symbolAt q < length (now trie) ⌝ }
     requires row { ⌜ parent (now trie) q * s + symbol (now trie) q < length (now rows) ⌝ }
     ensures { λ r. ⌜ r ≡ transition (now (rows .entry)) s (parent (now (trie .entry)) q) (symbol (now (trie .entry)) q) ⌝ }
 {
-    let p = wide::word(trie[8 * q]);
-    let a = wide::word(trie[8 * q + 1]);
+    let p = wide::word(trie[NODE * q]);
+    let a = wide::word(trie[NODE * q + SYMBOL]);
     wide::word(rows[p * s + a])
 }
 
 // The match word that node q should have: its own, or else its failure state's.
 fn inherited(trie: &[u16], matches: &[u16], q: usize) -> u16
-    requires node { ⌜ 8 * q + 7 < length (now trie) ⌝ }
+    requires node { ⌜ failureAt q < length (now trie) ⌝ }
     requires word { ⌜ failure (now trie) q < length (now matches) ⌝ }
     ensures { λ r. ⌜ r ≡ ownOr (matched (now (trie .entry)) q) (getD (now (matches .entry)) (failure (now (trie .entry)) q) 0) ⌝ }
 {
-    let own = trie[8 * q + 6];
+    let own = trie[NODE * q + MATCH];
     if own != 0 {
         return own;
     }
-    let f = wide::word(trie[8 * q + 7]);
+    let f = wide::word(trie[NODE * q + FAILURE]);
     matches[f]
 }
 
 // The tests of the root.
 fn root_holds(trie: &[u16], matches: &[u16], rows: &[u16], s: usize) -> bool
     requires few { ⌜ s ≤ 32 ⌝ }
-    requires node { ⌜ 5 < length (now trie) ⌝ }
+    requires node { ⌜ childrenAt 0 < length (now trie) ⌝ }
     requires word { ⌜ 0 < length (now matches) ⌝ }
     requires row { ⌜ s ≤ length (now rows) ⌝ }
     ensures { λ r. ⌜ Decides r (RootPassed (now (trie .entry)) (now (matches .entry)) (now (rows .entry)) s) ⌝ }
@@ -83,7 +88,7 @@ fn root_holds(trie: &[u16], matches: &[u16], rows: &[u16], s: usize) -> bool
         return false;
     }
     let n = transitions(rows, s);
-    if n != trie[5] {
+    if n != trie[CHILDREN] {
         return false;
     }
     true
@@ -92,7 +97,7 @@ fn root_holds(trie: &[u16], matches: &[u16], rows: &[u16], s: usize) -> bool
 // The tests of state q, whose failure state its node holds.
 fn state_holds(trie: &[u16], matches: &[u16], rows: &[u16], s: usize, q: usize) -> bool
     requires few { ⌜ s ≤ 32 ⌝ }
-    requires node { ⌜ 8 * q + 7 < length (now trie) ⌝ }
+    requires node { ⌜ failureAt q < length (now trie) ⌝ }
     requires up { ⌜ parent (now trie) q * s + symbol (now trie) q < length (now rows) ⌝ }
     requires words { ⌜ (q < length (now matches)) × (failure (now trie) q < length (now matches)) ⌝ }
     requires own { ⌜ q * s + s ≤ length (now rows) ⌝ }
@@ -107,9 +112,9 @@ fn state_holds(trie: &[u16], matches: &[u16], rows: &[u16], s: usize, q: usize) 
     if m != matches[q] {
         return false;
     }
-    let f = wide::word(trie[8 * q + 7]);
+    let f = wide::word(trie[NODE * q + FAILURE]);
     let n = differences(rows, s, q, f);
-    if n != trie[8 * q + 5] {
+    if n != trie[NODE * q + CHILDREN] {
         return false;
     }
     true
@@ -133,7 +138,7 @@ fn states_hold(image: &[u8], trie: &mut [u16], n: usize, matches: &[u16], rows: 
         if f >= n {
             return false;
         }
-        trie[8 * q + 7] = f as u16;
+        trie[NODE * q + FAILURE] = f as u16;
         if !state_holds(trie, matches, rows, s, q) {
             return false;
         }

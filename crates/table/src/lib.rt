@@ -10,6 +10,9 @@ ghost use Rattle.layout.specs.TableCheck.{checkOf};
 ghost use Rattle.trie.specs.Nodes.{Roomy, Built};
 use layout::Checked;
 use layout::Compiled;
+use trie::FEW_WORDS;
+use trie::WORDS;
+use trie::rows;
 
 mod compare;
 
@@ -53,10 +56,10 @@ pub fn compile(image: &[u8], table: &mut [u16]) -> Compiled
 {
     if image::is_valid(image) {
         if image::bodies_length(image) < 64 {
-            let mut few = [0u16; 512];
+            let mut few = [0u16; FEW_WORDS];
             return compile_with(image, &mut few, table);
         }
-        let mut nodes = [0u16; 4104];
+        let mut nodes = [0u16; WORDS];
         return compile_with(image, &mut nodes, table);
     }
     Compiled::Refused(7)
@@ -78,10 +81,10 @@ fn begins_with_table(image: &[u8], table: &[u16]) -> bool
     ensures { λ r. ⌜ r ≡ prefix (tableOf (read (now (image .entry)))) (now (table .entry)) ⌝ }
 {
     if image::bodies_length(image) < 64 {
-        let mut few = [0u16; 512];
+        let mut few = [0u16; FEW_WORDS];
         return begins_by(image, &mut few, table);
     }
-    let mut nodes = [0u16; 4104];
+    let mut nodes = [0u16; WORDS];
     begins_by(image, &mut nodes, table)
 }
 

@@ -13,17 +13,17 @@ use Rattle.rewriting.specs.Rules.{symbolsOf}
 use Rattle.layout.specs.Image.{contents, body, imageOf}
 use Rattle.layout.specs.Refusals.{refusal}
 use Rattle.layout.proofs.Image.{length-contents, length-image}
-use Rattle.text.specs.declared.Reader.{Reader}
+use Rattle.parser.specs.declared.Reader.{Reader}
 use Rattle.grammar.specs.declared.Read.the-variants as read
-use Rattle.text.specs.declared.Finished as finished-as
-use Rattle.text.specs.declared.Finished.the-variants as finished
+use Rattle.parser.specs.declared.Finished as finished-as
+use Rattle.parser.specs.declared.Finished.the-variants as finished
 use Rattle.grammar.specs.declared.Read.{Read}
 use Rattle.grammar.specs.Grammar.{Place, Between, Reading, ruleSetOf}
 use Rattle.grammar.specs.Read.{Result, Good, Bad, readText, namesOf, Outcome, readChecks, written, unless, readOf}
 use Rattle.grammar.specs.Sound.{EventsKnown, Sound}
-use Rattle.text.specs.Held.{ruleAt, bodiesOf, Keeps, FinishedIs, Small}
+use Rattle.parser.specs.Held.{ruleAt, bodiesOf, Keeps, FinishedIs, Small}
 use Rattle.grammar.proofs.Sound.{place-sound}
-use Rattle.text.proofs.Keeping.{
+use Rattle.parser.proofs.Keeping.{
   prefix-take,
   symbols-number,
   words-number,
@@ -31,7 +31,7 @@ use Rattle.text.proofs.Keeping.{
   rules-number,
   bodies-number,
 }
-use Rattle.text.proofs.Room.{old-bodies}
+use Rattle.parser.proofs.Room.{old-bodies}
 
 -- One more piece behind what is written over the beginning of an area.
 pub over-paste : (p area s : List ℕ) (at n : ℕ) → at ≡ length p → n ≤ length s

@@ -22,7 +22,8 @@ use Rattle.tokens.proofs.TokenOf.{nameOf, told}
 
 -- the byte at a place, and a space behind the last
 pub byte-here : (t : List ℕ) (i : ℕ) → i < length t → getD t i 0 ≡ getD t i 32
-byte-here t i h = let e : getD t i 0 ∷ drop (suc i) t ≡ getD t i 32 ∷ drop (suc i) t = sym (drop-cons t i 0 h) ∙ drop-cons t i 32 h in ap (λ (l : List ℕ). getD l 0 0) e
+byte-here t i h = let e : getD t i 0 ∷ drop (suc i) t ≡ getD t i 32 ∷ drop (suc i) t = sym (drop-cons t i 0 h) ∙ drop-cons t i 32 h in
+    ap (λ (l : List ℕ). getD l 0 0) e
 
 -- A separator ends a run; any other byte is in it.
 module _ (text : List ℕ) (i : ℕ) where

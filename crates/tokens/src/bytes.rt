@@ -7,6 +7,7 @@ ghost use Rattle.grammar.specs.Tokens.{separator, letter, nameByte, unbroken};
 ghost use Rattle.grammar.specs.FirstRun.{gap};
 ghost use Rattle.tokens.specs.Scanned.{lead, namedAs, kindOf};
 use crate::Kind;
+use grammar::NAME_BYTES;
 
 // Space, tab, CR or LF.
 pub fn is_separator(b: u8) -> bool
@@ -124,7 +125,7 @@ fn named(run: &[u8], at: usize, kind: Kind) -> Kind
     if n < 1 {
         return Kind::None;
     }
-    if 24 < n {
+    if NAME_BYTES < n {
         return Kind::None;
     }
     if is_letter(run[at]) {

@@ -3,7 +3,10 @@ ghost use mathlib.Core.Path.{_≡_};
 ghost use Rattle.grammar.specs.FirstRun.{firstRun};
 ghost use Rattle.grammar.specs.Lookup.{symbolNamed, foundAs};
 use grammar::Found;
+use grammar::NAME_BYTES;
 use grammar::Run;
+use grammar::SLOT_BYTES;
+use grammar::SYMBOLS_BYTES;
 
 pub mod bytes;
 pub mod names;
@@ -42,13 +45,13 @@ pub fn symbol(names: &[u8], x: &[u8]) -> Found
     if x.len() < 1 {
         return Found::None;
     }
-    if 24 < x.len() {
+    if NAME_BYTES < x.len() {
         return Found::None;
     }
-    if names.len() < 800 {
+    if names.len() < SYMBOLS_BYTES {
         return Found::None;
     }
-    let mut key: [u8; 25] = [0; 25];
+    let mut key: [u8; SLOT_BYTES] = [0; SLOT_BYTES];
     names::make_slot(&mut key, x);
     let i = names::find(names, 32, &key, x.len());
     if i < 32 {

@@ -35,7 +35,20 @@ use Rattle.trie.specs.Nodes.{
 }
 use Rattle.layout.proofs.States.{snoc-parts, snoc-some, known-append, known-at, number-at, once-new}
 use Rattle.trie.proofs.Tally.{tally-agree, tally-none, tally-more}
-use Rattle.trie.proofs.Nodes.{added-size, added-other, added-parent, added-symbol, added-depth, added-children, parent-old, symbol-old, depth-old, matched-old, children-old, linked-added}
+use Rattle.trie.proofs.Nodes.{
+  added-size,
+  added-other,
+  added-parent,
+  added-symbol,
+  added-depth,
+  added-children,
+  parent-old,
+  symbol-old,
+  depth-old,
+  matched-old,
+  children-old,
+  linked-added,
+}
 
 module _ (s : List (List ℕ)) (symbols : ℕ) (t : List ℕ) (h : Trie s symbols t) where
   -- no two nodes hold one state

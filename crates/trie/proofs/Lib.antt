@@ -7,3 +7,9 @@ pub mod Walking
 pub mod Building
 -- A state's failure state, found from its parent's.
 pub mod Failure
+-- The rows that are filled from the trie, each state's from its failure state's.
+pub mod RowWords
+pub mod Laying
+pub mod Filling
+pub mod Turns
+pub mod Filled

@@ -23,30 +23,59 @@ use Rattle.layout.specs.States.{known, number, states}
 use Rattle.layout.specs.Table.{matchWord}
 use Rattle.layout.specs.Words.{text, failureState, transition}
 
+-- a node has eight words, and its fields stand at these places
+abbrev pub nodeWords : ℕ
+nodeWords = 8
+
+module _ (c : ℕ) where
+  abbrev pub parentAt : ℕ
+  parentAt = 8 * c
+
+  abbrev pub symbolAt : ℕ
+  symbolAt = 8 * c + 1
+
+  abbrev pub depthAt : ℕ
+  depthAt = 8 * c + 2
+
+  abbrev pub youngestAt : ℕ
+  youngestAt = 8 * c + 3
+
+  abbrev pub olderAt : ℕ
+  olderAt = 8 * c + 4
+
+  abbrev pub childrenAt : ℕ
+  childrenAt = 8 * c + 5
+
+  abbrev pub matchAt : ℕ
+  matchAt = 8 * c + 6
+
+  abbrev pub failureAt : ℕ
+  failureAt = 8 * c + 7
+
 module _ (t : List ℕ) (c : ℕ) where
   abbrev pub parent : ℕ
-  parent = getD t (8 * c) 0
+  parent = getD t (parentAt c) 0
 
   abbrev pub symbol : ℕ
-  symbol = getD t (8 * c + 1) 0
+  symbol = getD t (symbolAt c) 0
 
   abbrev pub depth : ℕ
-  depth = getD t (8 * c + 2) 0
+  depth = getD t (depthAt c) 0
 
   abbrev pub youngest : ℕ
-  youngest = getD t (8 * c + 3) 0
+  youngest = getD t (youngestAt c) 0
 
   abbrev pub older : ℕ
-  older = getD t (8 * c + 4) 0
+  older = getD t (olderAt c) 0
 
   abbrev pub children : ℕ
-  children = getD t (8 * c + 5) 0
+  children = getD t (childrenAt c) 0
 
   abbrev pub matched : ℕ
-  matched = getD t (8 * c + 6) 0
+  matched = getD t (matchAt c) 0
 
   abbrev pub failure : ℕ
-  failure = getD t (8 * c + 7) 0
+  failure = getD t (failureAt c) 0
 
 -- how many of 0, 1, .., n - 1 pass the test
 unfoldable pub tally : (ℕ → Bool) → ℕ → ℕ
@@ -56,7 +85,7 @@ tally test (suc n) = tally test n + cond (test n) 1 0
 -- The links of n nodes: a parent comes before its children, and the youngest child and then the next older one, again and
 -- again, meet every child of a node.
 pub record Linked (t : List ℕ) (n : ℕ) : Type 0 where
-  pub size : 8 * n ≤ length t
+  pub size : nodeWords * n ≤ length t
   pub up : (c : ℕ) → 0 < c → c < n → parent t c < c
   pub young : (q : ℕ) → q < n → youngest t q < n
   pub young-of : (q : ℕ) → q < n → 0 < youngest t q → parent t (youngest t q) ≡ q
@@ -75,7 +104,7 @@ pub record Trie (s : List (List ℕ)) (symbols : ℕ) (t : List ℕ) : Type 0 wh
   pub small : (c : ℕ) → 0 < c → c < length s → symbol t c < symbols
   pub deep : (c : ℕ) → c < length s → depth t c ≡ length (getD s c [])
   pub counted : (c : ℕ) → c < length s → children t c ≡ tally (λ a. known s (getD s c [] ++ a ∷ [])) symbols
-  pub clear : (k : ℕ) → 8 * length s ≤ k → getD t k 0 ≡ 0
+  pub clear : (k : ℕ) → nodeWords * length s ≤ k → getD t k 0 ≡ 0
 
 -- each node's match word is that of the lowest rule whose left side is the state itself
 abbrev pub Owned : List Rule → List (List ℕ) → List ℕ → Type 0
@@ -105,9 +134,9 @@ ChildOr t n q a r = IsChild t n q a r ⊎ ((r ≡ n) × ((c : ℕ) → IsChild t
 unfoldable pub added : List ℕ → ℕ → ℕ → ℕ → List ℕ
 added t n q a =
     set
-    (set (set (set (set (set t (8 * n) q) (8 * n + 1) a) (8 * n + 2) (depth t q + 1)) (8 * n + 4) (youngest t q))
-    (8 * q + 3) n)
-    (8 * q + 5) (children t q + 1)
+    (set (set (set (set (set t (parentAt n) q) (symbolAt n) a) (depthAt n) (depth t q + 1)) (olderAt n) (youngest t q))
+    (youngestAt q) n)
+    (childrenAt q) (children t q + 1)
 
 -- A symbol was followed from node q: to a child that was there, or to a node that was added.
 pub record Found (t : List ℕ) (n q a : ℕ) (w : Walked) (t′ : List ℕ) : Type 0 where
@@ -126,7 +155,7 @@ Followed t n q a w t′ = Found t n q a w t′ ⊎ New t n q a w t′
 
 -- t with rule i as the rule of node q, unless a lower rule has it already
 unfoldable pub marked : List ℕ → ℕ → ℕ → List ℕ
-marked t q i = cond (eqb (matched t q) 0) (set t (8 * q + 6) (i + 1)) t
+marked t q i = cond (eqb (matched t q) 0) (set t (matchAt q) (i + 1)) t
 
 -- t holds the trie of the first i rules, with the rules that their left sides end in
 pub record Grown (set : RuleSet) (i : ℕ) (t : List ℕ) : Type 0 where
@@ -143,7 +172,7 @@ pub record FollowedRule (set : RuleSet) (i : ℕ) (w : Walked) (t : List ℕ) : 
 
 -- k words have room for a node for the root and one for each symbol of a left side
 abbrev pub Roomy : RuleSet → ℕ → Type 0
-Roomy set k = 8 * suc (length (flatMap (λ r. r .left) (set .rules))) ≤ k
+Roomy set k = nodeWords * suc (length (flatMap (λ r. r .left) (set .rules))) ≤ k
 
 -- t holds the trie of all rules, which has n nodes
 pub record Built (set : RuleSet) (n : ℕ) (t : List ℕ) : Type 0 where

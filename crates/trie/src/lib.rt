@@ -1,14 +1,56 @@
 // The trie of the left sides, one node of eight words for each state. specs/Nodes.antt has the layout.
-// The module is private: what its functions ask, compile and check have shown.
+// What its functions ask, compile and check of the crate table have shown: it is the only one that calls them.
 ghost use Prim.Native.Nat.{_+_, _*_, _<_};
 ghost use mathlib.Core.Path.{_≡_};
 ghost use mathlib.Core.Bool.{true};
 ghost use lib.ListN.{length, take, replicate};
 ghost use Rattle.layout.specs.Image.{read, valid};
 ghost use Rattle.layout.specs.Places.{leftAt};
-ghost use Rattle.layout.specs.States.{states};
-ghost use Rattle.trie.specs.Nodes.{parent, symbol, depth, children, failure, failureBy, Linked, ChildOr, added, Followed, marked, Grown, FollowedRule, Roomy, Built};
+ghost use Rattle.layout.specs.States.{statesMost, states};
+ghost use Rattle.trie.specs.Nodes.{
+  failureAt,
+  symbolAt,
+  parent,
+  symbol,
+  depth,
+  children,
+  failure,
+  failureBy,
+  Linked,
+  ChildOr,
+  added,
+  Followed,
+  marked,
+  Grown,
+  FollowedRule,
+  Roomy,
+  Built,
+};
 use image::wide;
+
+pub mod rows;
+
+// A node has eight words: its parent, then these. specs/Nodes.antt says what they are.
+pub const NODE: usize = 8;
+
+pub const SYMBOL: usize = 1;
+
+pub const DEPTH: usize = 2;
+
+pub const YOUNGEST: usize = 3;
+
+pub const OLDER: usize = 4;
+
+pub const CHILDREN: usize = 5;
+
+pub const MATCH: usize = 6;
+
+pub const FAILURE: usize = 7;
+
+// The words of 513 nodes, document 01's bound on the number of states, and of 64, for a small rule set.
+pub const WORDS: usize = 4104;
+
+pub const FEW_WORDS: usize = 512;
 
 // Where a walk has come to, and the number of nodes.
 pub struct Walked {
@@ -25,17 +67,17 @@ fn word(x: u8) -> u16
 
 // The failure state of node q, by the failure state of its parent and the row of that: state 0 for a child of the root.
 pub fn failure_of(trie: &[u16], rows: &[u16], s: usize, q: usize) -> usize
-    requires node { ⌜ 8 * q + 1 < length (now trie) ⌝ }
-    requires up { ⌜ 8 * parent (now trie) q + 7 < length (now trie) ⌝ }
+    requires node { ⌜ symbolAt q < length (now trie) ⌝ }
+    requires up { ⌜ failureAt (parent (now trie) q) < length (now trie) ⌝ }
     requires row { ⌜ (0 < parent (now trie) q → failure (now trie) (parent (now trie) q) * s + symbol (now trie) q < length (now rows)) ⌝ }
     ensures { λ r. ⌜ r ≡ failureBy (now (trie .entry)) (now (rows .entry)) s q ⌝ }
 {
-    let p = wide::word(trie[8 * q]);
+    let p = wide::word(trie[NODE * q]);
     if p == 0 {
         return 0;
     }
-    let a = wide::word(trie[8 * q + 1]);
-    let f = wide::word(trie[8 * p + 7]);
+    let a = wide::word(trie[NODE * q + SYMBOL]);
+    let f = wide::word(trie[NODE * p + FAILURE]);
     wide::word(rows[f * s + a])
 }
 
@@ -45,40 +87,40 @@ fn child(trie: &[u16], n: usize, q: usize, a: u16) -> usize
     requires node { ⌜ q < n ⌝ }
     ensures { λ r. ⌜ ChildOr (now (trie .entry)) n q a r ⌝ }
 {
-    let mut c = wide::word(trie[8 * q + 3]);
+    let mut c = wide::word(trie[NODE * q + YOUNGEST]);
     while 0 < c {
-        if trie[8 * c + 1] == a {
+        if trie[NODE * c + SYMBOL] == a {
             return c;
         }
-        c = wide::word(trie[8 * c + 4]);
+        c = wide::word(trie[NODE * c + OLDER]);
     }
     n
 }
 
 // Node n becomes a child of q by symbol a.
 fn add(trie: &mut [u16], n: usize, q: usize, a: u16)
-    requires node { ⌜ (q < n) × (n < 513) ⌝ }
-    requires room { ⌜ 8 * n + 7 < length (now trie) ⌝ }
-    requires counts { ⌜ (depth (now trie) q < 513) × (children (now trie) q < 513) ⌝ }
+    requires node { ⌜ (q < n) × (n < statesMost) ⌝ }
+    requires room { ⌜ failureAt n < length (now trie) ⌝ }
+    requires counts { ⌜ (depth (now trie) q < statesMost) × (children (now trie) q < statesMost) ⌝ }
     ensures { λ _. ⌜ now (trie .exit) ≡ added (now (trie .entry)) n q a ⌝ }
 {
-    let depth = trie[8 * q + 2];
-    let youngest = trie[8 * q + 3];
-    let children = trie[8 * q + 5];
-    trie[8 * n] = q as u16;
-    trie[8 * n + 1] = a;
-    trie[8 * n + 2] = depth + 1;
-    trie[8 * n + 4] = youngest;
-    trie[8 * q + 3] = n as u16;
-    trie[8 * q + 5] = children + 1;
+    let depth = trie[NODE * q + DEPTH];
+    let youngest = trie[NODE * q + YOUNGEST];
+    let children = trie[NODE * q + CHILDREN];
+    trie[NODE * n] = q as u16;
+    trie[NODE * n + SYMBOL] = a;
+    trie[NODE * n + DEPTH] = depth + 1;
+    trie[NODE * n + OLDER] = youngest;
+    trie[NODE * q + YOUNGEST] = n as u16;
+    trie[NODE * q + CHILDREN] = children + 1;
 }
 
 // The child of node q by symbol a, added where there is none.
 fn follow(trie: &mut [u16], n: usize, q: usize, a: u16) -> Walked
     requires links { ⌜ Linked (now trie) n ⌝ }
-    requires node { ⌜ (q < n) × (n < 513) ⌝ }
-    requires room { ⌜ 8 * n + 7 < length (now trie) ⌝ }
-    requires counts { ⌜ (depth (now trie) q < 513) × (children (now trie) q < 513) ⌝ }
+    requires node { ⌜ (q < n) × (n < statesMost) ⌝ }
+    requires room { ⌜ failureAt n < length (now trie) ⌝ }
+    requires counts { ⌜ (depth (now trie) q < statesMost) × (children (now trie) q < statesMost) ⌝ }
     ensures { λ r. ⌜ Followed (now (trie .entry)) n q a r (now (trie .exit)) ⌝ }
 {
     let c = child(trie, n, q, a);
@@ -94,12 +136,12 @@ fn follow(trie: &mut [u16], n: usize, q: usize, a: u16) -> Walked
 
 // Rule i becomes the rule of node q, unless a lower rule has it already.
 fn mark(trie: &mut [u16], q: usize, i: usize)
-    requires node { ⌜ 8 * q + 7 < length (now trie) ⌝ }
+    requires node { ⌜ failureAt q < length (now trie) ⌝ }
     requires rule { ⌜ i < 64 ⌝ }
     ensures { λ _. ⌜ now (trie .exit) ≡ marked (now (trie .entry)) q i ⌝ }
 {
-    if trie[8 * q + 6] == 0 {
-        trie[8 * q + 6] = (i + 1) as u16;
+    if trie[NODE * q + MATCH] == 0 {
+        trie[NODE * q + MATCH] = (i + 1) as u16;
     }
 }
 

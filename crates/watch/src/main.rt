@@ -2,15 +2,15 @@
 // writes comes from `report`; reading and writing are left here.
 ghost use Prim.Native.Nat.{_≤_};
 ghost use Rattle.printing.specs.Turns.{lineMost};
+use grammar::NAMES_BYTES;
+use layout::IMAGE_BYTES;
+use layout::TABLE_WORDS;
 use libc::STDIN_FILENO;
 use libc::STDOUT_FILENO;
+use machine::CAPACITY;
 use report::Begun;
-use report::CAPACITY;
-use report::IMAGE_BYTES;
 use report::INPUT_BYTES;
 use report::LINE_BYTES;
-use report::NAMES_BYTES;
-use report::TABLE_WORDS;
 use report::Walk;
 
 // Writes the first n bytes of the line.

@@ -103,7 +103,8 @@ returns-4 c =
     rw (c .batch-refused4 .ensures)
     (batch-room-refused documentCapacity (start .args .image .now) (start .args .table .now) (given start) (start .args .events .now) (start .args .fuel)
     (start .args .answers .now)
-    (lent-none documentCapacity (start .args .image .now) (start .args .table .now) (given start) (check-lent .check-lent .ensures) (enum-told .enum-told .given .1))
+    (lent-none documentCapacity (start .args .image .now) (start .args .table .now) (given start) (check-lent .check-lent .ensures)
+    (enum-told .enum-told .given .1))
     (c .before .before .before .if1 .left) (c .before .before .if2 .left) (c .before .if3 .taken))
 
 slice-aggregate-index : tie.Need-slice-aggregate-index
@@ -115,7 +116,8 @@ index-requires c κs =
     let check-lent = enum-told .before .before in
     let start = check-lent .before .before .before .before .before .before .before .before .before in
     passed-image documentCapacity (start .args .image .now) (start .args .table .now) (given start)
-    (lent-none documentCapacity (start .args .image .now) (start .args .table .now) (given start) (check-lent .check-lent .ensures) (enum-told .enum-told .given .1))
+    (lent-none documentCapacity (start .args .image .now) (start .args .table .now) (given start) (check-lent .check-lent .ensures)
+    (enum-told .enum-told .given .1))
 
 slice-aggregate-in-turn : tie.Need-slice-aggregate-in-turn
 slice-aggregate-in-turn c = search needs
@@ -160,9 +162,11 @@ returns-5 c =
     let table = start .args .table .now in
     rw
     (passed-sizes documentCapacity image table (given start)
-    (lent-none documentCapacity image table (given start) (check-lent .check-lent .ensures) (enum-told .enum-told .given .1)) .0) at (in-turn .in-turn .ensures) ∙ batch-taken
+    (lent-none documentCapacity image table (given start) (check-lent .check-lent .ensures) (enum-told .enum-told .given .1)) .0) at
+    (in-turn .in-turn .ensures) ∙ batch-taken
     documentCapacity image table (given start) (start .args .events .now) (start .args .fuel) (start .args .answers .now)
-    (lent-none documentCapacity image table (given start) (check-lent .check-lent .ensures) (enum-told .enum-told .given .1)) (if1 .if1 .left) (if2 .if2 .left) (if3 .if3 .left)
+    (lent-none documentCapacity image table (given start) (check-lent .check-lent .ensures) (enum-told .enum-told .given .1))
+    (if1 .if1 .left) (if2 .if2 .left) (if3 .if3 .left)
 
 pub batch-spec : {M : Type 1} → statement M
 batch-spec =

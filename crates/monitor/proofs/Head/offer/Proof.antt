@@ -50,7 +50,8 @@ index-requires : tie.Need-index-requires
 index-requires c κs =
     let start = c .before .before .before .before .before .before .before .before .before .before in
     passed-image documentCapacity (start .args .image .now) (start .args .table .now) (given start)
-    (lent-none documentCapacity (start .args .image .now) (start .args .table .now) (given start) (c .before .before .before .check-lent .ensures) (c .before .enum-told .given .1))
+    (lent-none documentCapacity (start .args .image .now) (start .args .table .now) (given start) (c .before .before .before .check-lent .ensures)
+    (c .before .enum-told .given .1))
 
 slice-aggregate-once : tie.Need-slice-aggregate-once
 slice-aggregate-once c = search needs
@@ -85,7 +86,8 @@ returns-2 c =
     let start = check-lent .before .before .before .before .before .before .before in
     rw
     (passed-sizes documentCapacity (start .args .image .now) (start .args .table .now) (given start)
-    (lent-none documentCapacity (start .args .image .now) (start .args .table .now) (given start) (check-lent .check-lent .ensures) (enum-told .enum-told .given .1)) .0) at
+    (lent-none documentCapacity (start .args .image .now) (start .args .table .now) (given start) (check-lent .check-lent .ensures)
+    (enum-told .enum-told .given .1)) .0) at
     (once .once .ensures)
 
 pub offer-spec : {M : Type 1} → statement M

@@ -35,7 +35,8 @@ returns c =
     let start = in-turn .before .before .before .before .before .before .before .before .before .before in
     rw (c .refused .ensures)
     (single-refused (length (start .args .bytes .now)) (start .args .image .now) (start .args .table .now)
-    (lent (start .args .self) (start .args .bytes .now) (start .args .words .now)) (offerOrGoOn (start .args .offering) (start .args .event) (start .args .fuel)) _
+    (lent (start .args .self) (start .args .bytes .now) (start .args .words .now))
+    (offerOrGoOn (start .args .offering) (start .args .event) (start .args .fuel)) _
     (in-turn .in-turn .ensures) (c .before .if1 .taken))
 
 array-read-answer-from : tie.Need-array-read-answer-from
@@ -56,7 +57,8 @@ returns-2 c =
     let start = in-turn .before .before .before .before .before .before .before .before .before .before in
     rw (c .answer-from .ensures)
     (single-taken (length (start .args .bytes .now)) (start .args .image .now) (start .args .table .now)
-    (lent (start .args .self) (start .args .bytes .now) (start .args .words .now)) (offerOrGoOn (start .args .offering) (start .args .event) (start .args .fuel)) _
+    (lent (start .args .self) (start .args .bytes .now) (start .args .words .now))
+    (offerOrGoOn (start .args .offering) (start .args .event) (start .args .fuel)) _
     (in-turn .in-turn .ensures) (c .before .before .before .if1 .left))
 
 pub once-spec : {M : Type 1} → statement M

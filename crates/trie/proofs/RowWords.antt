@@ -1,0 +1,65 @@
+-- What the stores to rows and nodes leave there: rows merged, a failure state and a match word noted.
+-- Assumes nothing.
+use Prim.Native.Nat.{ℕ, _+_, _*_, _≤_, _<_}
+use mathlib.Core.Path.{_≡_, refl, _∙_}
+use mathlib.Core.Bool.{Bool, true, false}
+use mathlib.Core.Logic.{⊎-elim}
+use mathlib.Core.List.{List}
+use native.Mathlib.Omega.{arith}
+use native.Mathlib.Nat.{not-suc-le-zero}
+use lib.Dec.{eqb}
+use lib.ListN.{length, getD, set, length-set}
+use lib.Seq.{getD-set-same, getD-set-other}
+use borrow.Author.Tests.{eqb-true, eqb-false}
+use Rattle.layout.specs.Words.{transition, ownOr}
+use Rattle.trie.specs.Nodes.{matched}
+use Rattle.trie.specs.Rows.{Merged, Noted}
+use Rattle.layout.proofs.RowPlaces.{row-order}
+
+-- before the first word is merged
+pub merged-none : (rows : List ℕ) (s q f : ℕ) → Merged rows rows s q f 0
+merged-none rows s q f =
+    record { size = refl; own = λ a h. absurd (not-suc-le-zero h); before = λ k h. refl; behind = λ k h. refl }
+
+-- one more word of row q is merged
+pub merged-more : (rows rows′ : List ℕ) (s q f a : ℕ) → q * s + s ≤ length rows → a < s → Merged rows rows′ s q f a → (v : ℕ)
+    → v ≡ ownOr (transition rows′ s q a) (transition rows′ s f a)
+    → Merged rows (set rows′ (q * s + a) v) s q f (a + 1)
+merged-more rows rows′ s q f a fits h m v e =
+    record {
+      size = length-set rows′ (q * s + a) v ∙ m .size;
+      own = λ b k. own b k (eqb b a) refl;
+      before = λ k l. getD-set-other rows′ (q * s + a) k v 0 (λ p. omega arith) ∙ m .before k l;
+      behind = λ k l. getD-set-other rows′ (q * s + a) k v 0 (λ p. omega arith) ∙ m .behind k (omega arith);
+    }
+  where
+    here : getD rows′ (q * s + a) 0 ≡ getD rows (q * s + a) 0
+    here = m .behind (q * s + a) (omega arith)
+
+    there : getD rows′ (f * s + a) 0 ≡ getD rows (f * s + a) 0
+    there =
+        ⊎-elim (λ (l : f * s + s ≤ q * s). m .before (f * s + a) (omega arith))
+        (λ (l : q * s ≤ f * s). m .behind (f * s + a) (omega arith)) (row-order s q f)
+
+    own : (b : ℕ) → b < a + 1 → (t : Bool) → eqb b a ≡ t
+        → transition (set rows′ (q * s + a) v) s q b ≡ ownOr (transition rows s q b) (transition rows s f b)
+    own b k true p =
+        let same : b ≡ a = eqb-true b a p in
+        let size = m .size in
+        rw (same, getD-set-same rows′ (q * s + a) v 0 (omega arith), ← here, ← there) e
+    own b k false p =
+        let differs = eqb-false b a p in
+        getD-set-other rows′ (q * s + a) (q * s + b) v 0 (λ x. differs (omega arith)) ∙ m .own b (omega arith)
+
+-- the failure state and the match word of a node are stored
+pub noted : (t : List ℕ) (q f m : ℕ) → 8 * q + 7 < length t → m ≡ ownOr (matched t q) (matched t f)
+    → Noted t (set (set t (8 * q + 7) f) (8 * q + 6) m) q f
+noted t q f m h e =
+    record {
+      size = length-set (set t (8 * q + 7) f) (8 * q + 6) m ∙ length-set t (8 * q + 7) f;
+      own-failure =
+          getD-set-other (set t (8 * q + 7) f) (8 * q + 6) (8 * q + 7) m 0 (λ p. omega arith)
+          ∙ getD-set-same t (8 * q + 7) f 0 h;
+      own-match = getD-set-same (set t (8 * q + 7) f) (8 * q + 6) m 0 (rw length-set (omega arith)) ∙ e;
+      rest = λ k d₆ d₇. getD-set-other (set t (8 * q + 7) f) (8 * q + 6) k m 0 d₆ ∙ getD-set-other t (8 * q + 7) k f 0 d₇;
+    }
