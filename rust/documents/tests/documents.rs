@@ -166,3 +166,39 @@ fn pages_have_their_entries() {
         .sum();
     assert!(entries >= ENTRIES, "{entries} entries");
 }
+
+/// The numbers of the items `- **R1. ` or `- **R1**` of a page, in their order.
+fn numbers(page: &str, letter: char) -> Vec<usize> {
+    let begin = format!("- **{letter}");
+    page.lines()
+        .filter_map(|line| line.strip_prefix(&begin))
+        .filter_map(|rest| rest.split(['.', '*']).next()?.parse().ok())
+        .collect()
+}
+
+#[test]
+fn decisions_and_measurements_are_numbered() {
+    let decisions = read("docs/DECISIONS.md");
+    let performance = read("docs/PERFORMANCE.md");
+    for (page, letter, least) in [
+        (&decisions, 'R', 21),
+        (&decisions, 'D', 80),
+        (&performance, 'M', 8),
+    ] {
+        let found = numbers(page, letter);
+        let expected: Vec<usize> = (1..=found.len()).collect();
+        assert_eq!(found, expected, "{letter}");
+        assert!(found.len() >= least, "{letter}: {}", found.len());
+    }
+    // A measurement is linked from its decision, and the decision from the measurement.
+    for number in numbers(&performance, 'M') {
+        let link = format!("[M{number}](PERFORMANCE.md#measured-for-decisions)");
+        let items: Vec<&str> = decisions.split("\n- **D").collect();
+        let Some(item) = items.iter().find(|item| item.contains(&link)) else {
+            panic!("M{number} is not in docs/DECISIONS.md");
+        };
+        let decision = item.split('.').next().expect("its number");
+        let back = format!("**M{number}**, for [D{decision}](DECISIONS.md#");
+        assert!(performance.contains(&back), "{back}");
+    }
+}
