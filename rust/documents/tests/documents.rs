@@ -154,6 +154,24 @@ fn every_page_is_in_the_index() {
 }
 
 #[test]
+fn every_crate_is_in_the_index() {
+    let index = read("docs/PROOFS.md");
+    let rows: Vec<&str> = index.lines().filter(|line| line.starts_with('|')).collect();
+    for entry in fs::read_dir(root().join("crates")).expect("the folder crates") {
+        let name = entry
+            .expect("an entry")
+            .file_name()
+            .into_string()
+            .expect("UTF-8");
+        let word = format!("`{name}`");
+        assert!(
+            rows.iter().any(|row| row.contains(&word)),
+            "{name} has no page in docs/PROOFS.md"
+        );
+    }
+}
+
+#[test]
 fn pages_have_their_entries() {
     let entries: usize = pages_of_proofs()
         .iter()
