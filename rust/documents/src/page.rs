@@ -20,57 +20,26 @@ pub const LABELS: [(&str, &[&str]); 10] = [
 ];
 
 /// Words in backticks that look like names and are none of the repository's.
-const WORDS: [&str; 46] = [
-    // Rattle, antt and Rust
+const WORDS: [&str; 16] = [
+    // Rattle and antt
     "requires",
     "ensures",
     "refl",
-    "use",
-    "now",
-    "entry",
-    "exit",
     "self",
-    "unsafe",
-    "bool",
-    "u8",
-    "u16",
+    "pub",
+    "if",
     "u32",
     "u64",
     "usize",
-    "pub",
-    "mod",
-    "impl",
-    "if",
-    "as",
-    "match",
-    // proofs of code: places, and what is known there
-    "start",
-    "before",
-    "take-off",
+    // places in a proof of code
     "if1",
-    "if2",
-    "taken",
-    "left",
-    "args",
-    "needs",
-    "search",
-    "Proof",
+    "take-off",
     // outside the repository
     "libc::read",
     "libc::write",
     "io::read_full",
     "io::write_all",
-    "read",
-    "write",
     "paste",
-    "cargo",
-    "rt",
-    "antt",
-    // what `watch` prints, and words of rule texts
-    "quiet",
-    "spent",
-    "refused",
-    "fail",
 ];
 
 /// What is wrong, and the line where its block begins.
