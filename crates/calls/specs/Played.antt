@@ -7,7 +7,7 @@ use mathlib.Core.List.{List, [], _∷_}
 use lib.ListN.{length}
 use Rattle.rewriting.specs.Lists.{prefix}
 use Rattle.layout.specs.Image.{read, valid}
-use Rattle.layout.specs.Refusals.{Check, refusal}
+use Rattle.layout.specs.Refusals.{Check, refusal, refusedAs}
 use Rattle.layout.specs.Table.{tableOf}
 use Rattle.machine.specs.declared.Counts.{Counts}
 use Rattle.machine.specs.State.{empty}
@@ -16,7 +16,6 @@ use Rattle.machine.specs.Areas.{Monitor, headOf}
 use Rattle.machine.specs.Calls.{Call, sized, freshOf}
 use Rattle.machine.specs.Lent.{monitorIn}
 use Rattle.monitor.specs.Lent.{lent}
-use Rattle.layout.specs.Refusals.{refusedAs}
 use Rattle.machine.specs.Play.{Log, noCalls, play}
 use Rattle.machine.specs.Promise.{Agrees, Promise}
 use Rattle.calls.specs.declared.Played.{Played}

@@ -39,7 +39,7 @@ day =
 unfoldable pub tripling : RuleSet
 tripling = abcd ((0 ∷ [] ⇒ Put (0 ∷ 0 ∷ 0 ∷ [])) ∷ [])
 
--- the edges ("64 rules are read, 65 refused.": `sixty-four-valid`, `sixty-five-refused`, image/proofs/Computed.antt)
+-- the edges ("64 rules are read, 65 refused.": `sixty-four-valid`, `sixty-five-refused`, layout/proofs/ImageComputed.antt)
 unfoldable pub edges : List Case
 edges =
     -- "a → a a with fuel 2,047 is Spent,"

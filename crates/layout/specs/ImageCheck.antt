@@ -1,6 +1,6 @@
 -- What the code checks of an image: the header, then the contents, which announce how many symbols follow them.
 -- The contracts of the code's parts cite these; that together with the symbols' range they are `valid` is proved
--- (`checked`, proofs/Check.antt).
+-- (`checked`, proofs/ImageCheck.antt).
 use Prim.Native.Nat.{ℕ, zero, suc, _+_, _*_, _-_, _≤_}
 use mathlib.Core.Bool.{Bool, true, false, cond, _&&_}
 use mathlib.Core.List.{List}

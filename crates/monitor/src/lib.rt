@@ -1,5 +1,5 @@
-// The monitor: fresh, offer, go on and batch. Each is what specs/ defines, for everything that may be lent to it; the
-// promise about every list of calls is proved of those definitions in proofs/ListTheorem.antt.
+// The monitor: fresh, offer, go on and batch. Each is what the crate machine defines, for everything that may be lent
+// to it; the promise about every list of calls is proved of those definitions in machine/proofs/ListTheorem.antt.
 ghost use mathlib.Core.Path.{_≡_};
 ghost use Rattle.layout.specs.Refusals.{refusal, answered};
 ghost use Rattle.machine.specs.declared.Answer.{Answer};

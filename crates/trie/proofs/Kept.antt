@@ -1,5 +1,5 @@
 -- The trie stays the trie where only match words and failure states change: where a rule is marked, where a filled state's
--- failure state and match word are noted (table/proofs/Filling.antt), and where a check keeps a failure state.
+-- failure state and match word are noted (Filling.antt), and where a check keeps a failure state.
 -- Assumes nothing.
 use Prim.Native.Nat.{ℕ, _+_, _*_, _<_}
 use mathlib.Core.Path.{_≡_, refl, sym, _∙_}

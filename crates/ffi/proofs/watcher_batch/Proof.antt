@@ -1,8 +1,7 @@
 -- `watcher_batch` meets its contract.
 -- Assumes nothing.
 use mathlib.Core.Path.{ap}
-use Rattle.layout.specs.Refusals.{refusalNumber}
-use Rattle.layout.specs.Refusals.{refusedAs}
+use Rattle.layout.specs.Refusals.{refusalNumber, refusedAs}
 use Rattle.ffi.specs.Heads.{headAfter}
 use Rattle.ffi.proofs.Made.{batch-word, batch-made}
 use borrow.Author.Needs.{needs}

@@ -1,7 +1,6 @@
 -- `watcher_fresh` meets its contract.
 -- Assumes nothing.
-use Rattle.layout.specs.Refusals.{refusalNumber}
-use Rattle.layout.specs.Refusals.{refusedAs}
+use Rattle.layout.specs.Refusals.{refusalNumber, refusedAs}
 use Rattle.ffi.proofs.Made.{fresh-word, fresh-made}
 use borrow.Author.Needs.{needs}
 use Rattle.ffi.proofs.watcher_fresh.Statement.{statement}

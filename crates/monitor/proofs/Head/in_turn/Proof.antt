@@ -1,4 +1,4 @@
--- `monitor::Head::in_turn` meets its contract: the invariant is `Offering` (proofs/Offering.antt).
+-- `monitor::Head::in_turn` meets its contract: the invariant is `Offering` (machine/proofs/Offering.antt).
 -- Assumes nothing.
 use Prim.Native.Nat.{ℕ, _+_, _-_}
 use mathlib.Core.Path.{ap, _∙_}
