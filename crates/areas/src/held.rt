@@ -9,7 +9,7 @@ ghost use Rattle.machine.specs.Lent.{nextIn, matchIn, wordBefore, Starts};
 use image::wide;
 
 // The next state of q on symbol a.
-pub fn next_state(table: &[u16], q: usize, a: usize) -> usize
+pub(crate) fn next_state(table: &[u16], q: usize, a: usize) -> usize
     requires header { ⌜ 2 ≤ length (now table) ⌝ }
     requires inside { ⌜ 2 + getD (now table) 0 0 + q * getD (now table) 1 0 + a < length (now table) ⌝ }
     ensures { λ r. ⌜ r ≡ nextIn (now (table .entry)) q a ⌝ }
@@ -61,7 +61,7 @@ pub fn clear(bytes: &mut [u8], words: &mut [u16], from: usize, to: usize)
 }
 
 // Takes off the first waiting symbol and the symbols settled behind the first `kept`.
-pub fn take_off(bytes: &mut [u8], words: &mut [u16], first: usize, kept: usize, settled: usize)
+pub(crate) fn take_off(bytes: &mut [u8], words: &mut [u16], first: usize, kept: usize, settled: usize)
     requires first { ⌜ first < length (now bytes) ⌝ }
     requires order { ⌜ kept ≤ settled ⌝ }
     requires bytes { ⌜ settled ≤ length (now bytes) ⌝ }
@@ -75,7 +75,7 @@ pub fn take_off(bytes: &mut [u8], words: &mut [u16], first: usize, kept: usize, 
 }
 
 // Copies n symbols of the image, from `start` on, into the bytes from `to` on.
-pub fn put_back(image: &[u8], start: usize, n: usize, bytes: &mut [u8], to: usize)
+pub(crate) fn put_back(image: &[u8], start: usize, n: usize, bytes: &mut [u8], to: usize)
     requires source { ⌜ start + n ≤ length (now image) ⌝ }
     requires target { ⌜ to + n ≤ length (now bytes) ⌝ }
     ensures { λ _. ⌜ now (bytes .exit) ≡ paste (now (bytes .entry)) to (drop start (now (image .entry))) n ⌝ }

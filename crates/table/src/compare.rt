@@ -148,7 +148,7 @@ fn states_hold(image: &[u8], trie: &mut [u16], n: usize, matches: &[u16], rows: 
 
 // Whether the table begins with the words that compile gives for the image, by the trie of its n states: N, S, and every
 // state's tests. Keeps each state's failure state in its node of the trie.
-pub fn holds(image: &[u8], trie: &mut [u16], n: usize, table: &[u16]) -> bool
+pub(crate) fn holds(image: &[u8], trie: &mut [u16], n: usize, table: &[u16]) -> bool
     requires { ⌜ valid (now image) ≡ true ⌝ }
     requires { ⌜ Built (read (now image)) n (now trie) ⌝ }
     ensures { λ r. ⌜ r ≡ prefix (tableOf (read (now (image .entry)))) (now (table .entry)) ⌝ }

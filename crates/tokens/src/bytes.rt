@@ -73,7 +73,7 @@ pub fn gap_of(part: &[u8]) -> usize
 }
 
 // How many bytes stand before its first separator.
-pub fn unbroken_length(part: &[u8]) -> usize
+pub(crate) fn unbroken_length(part: &[u8]) -> usize
     ensures { λ r. ⌜ r ≡ length (unbroken (now (part .entry))) ⌝ }
 {
     let mut i: usize = 0;

@@ -53,7 +53,7 @@ fn is_slot(area: &[u8], at: usize, key: &[u8], last: usize) -> bool
 }
 
 // The first of n slots that is the one given, by its byte `last` first; n where none is.
-pub fn find(area: &[u8], n: usize, key: &[u8], last: usize) -> usize
+pub(crate) fn find(area: &[u8], n: usize, key: &[u8], last: usize) -> usize
     requires size { ⌜ length (now key) ≡ slotSize ⌝ }
     requires slots { ⌜ slotSize * n ≤ length (now area) ⌝ }
     requires last { ⌜ last < slotSize ⌝ }
