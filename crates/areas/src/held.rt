@@ -61,7 +61,13 @@ pub fn clear(bytes: &mut [u8], words: &mut [u16], from: usize, to: usize)
 }
 
 // Takes off the first waiting symbol and the symbols settled behind the first `kept`.
-pub(crate) fn take_off(bytes: &mut [u8], words: &mut [u16], first: usize, kept: usize, settled: usize)
+pub(crate) fn take_off(
+    bytes: &mut [u8],
+    words: &mut [u16],
+    first: usize,
+    kept: usize,
+    settled: usize,
+)
     requires first { ⌜ first < length (now bytes) ⌝ }
     requires order { ⌜ kept ≤ settled ⌝ }
     requires bytes { ⌜ settled ≤ length (now bytes) ⌝ }
