@@ -1,4 +1,5 @@
-// Writes into the two areas, and the looks into a table that a step needs.
+// Writes into the two areas, and the looks into a table that a step needs. They ask that their places are inside, which the checks of
+// a call have shown: a test in each would cost at every step.
 ghost use Prim.Native.Nat.{_+_, _*_, _-_, _≤_, _<_};
 ghost use mathlib.Core.Path.{_≡_};
 ghost use mathlib.Core.Bool.{true};

@@ -1,4 +1,4 @@
-// Name slots: 25 bytes each, a length byte, the name, zeros.
+// Name slots: 25 bytes each, a length byte, the name, zeros. What these functions ask, `symbol` and the parser have shown.
 ghost use Prim.Native.Nat.{ℕ, _+_, _*_, _≤_, _<_};
 ghost use mathlib.Core.Path.{_≡_};
 ghost use mathlib.Core.List.{List};
