@@ -61,33 +61,51 @@ pub fn clear(bytes: &mut [u8], words: &mut [u16], from: usize, to: usize)
     }
 }
 
-// Takes off the first waiting symbol and the symbols settled behind the first `kept`.
+// Takes a left side of `size` symbols off: the first waiting symbol, which completes it, and the settled ones before it. Gives back how
+// many stay settled. What a step finds next waits for that number: the loop counts down to it by tests, which a processor foresees, and
+// its constant bound makes them a few instructions in a row.
 pub(crate) fn take_off(
     bytes: &mut [u8],
     words: &mut [u16],
     first: usize,
-    kept: usize,
     settled: usize,
-)
+    size: usize,
+) -> usize
     requires first { ⌜ first < length (now bytes) ⌝ }
-    requires order { ⌜ kept ≤ settled ⌝ }
+    requires some { ⌜ 1 ≤ size ⌝ }
+    requires few { ⌜ size ≤ 8 ⌝ }
+    requires order { ⌜ size ≤ settled + 1 ⌝ }
     requires bytes { ⌜ settled ≤ length (now bytes) ⌝ }
     requires words { ⌜ settled ≤ length (now words) ⌝ }
-    ensures bytes { λ _. ⌜ now (bytes .exit)
-        ≡ paste (set (now (bytes .entry)) first 0) kept (replicate (settled - kept) 0) (settled - kept) ⌝ }
-    ensures words { λ _. ⌜ now (words .exit) ≡ paste (now (words .entry)) kept (replicate (settled - kept) 0) (settled - kept) ⌝ }
+    ensures kept { λ r. ⌜ r ≡ settled + 1 - size ⌝ }
+    ensures bytes { λ r. ⌜ now (bytes .exit) ≡ paste (set (now (bytes .entry)) first 0) r (replicate (settled - r) 0) (settled - r) ⌝ }
+    ensures words { λ r. ⌜ now (words .exit) ≡ paste (now (words .entry)) r (replicate (settled - r) 0) (settled - r) ⌝ }
 {
     bytes[first] = 0;
-    clear(bytes, words, kept, settled);
+    let mut at = settled;
+    for k in 1..8 {
+        if size <= k {
+            break;
+        }
+        at -= 1;
+        bytes[at] = 0;
+        words[at] = 0;
+    }
+    at
 }
 
-// Copies n symbols of the image, from `start` on, into the bytes from `to` on.
+// Copies n symbols of the image, from `start` on, into the bytes from `to` on. A right side has at most 8: with that bound the loop
+// becomes a few instructions in a row.
 pub(crate) fn put_back(image: &[u8], start: usize, n: usize, bytes: &mut [u8], to: usize)
+    requires few { ⌜ n ≤ 8 ⌝ }
     requires source { ⌜ start + n ≤ length (now image) ⌝ }
     requires target { ⌜ to + n ≤ length (now bytes) ⌝ }
     ensures { λ _. ⌜ now (bytes .exit) ≡ paste (now (bytes .entry)) to (drop start (now (image .entry))) n ⌝ }
 {
-    for k in 0..n {
+    for k in 0..8 {
+        if n <= k {
+            break;
+        }
         bytes[to + k] = image[start + k];
     }
 }

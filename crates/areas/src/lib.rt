@@ -12,44 +12,27 @@ ghost use Rattle.machine.specs.Lent.{monitorWith, Passed, Starts, Matches, step
 ghost use Rattle.areas.specs.Rewritten.{rewrittenFrom};
 use image::wide;
 use layout::RightSide;
-use machine::Standing;
+use machine::FULL;
+use machine::VERDICT;
 
 pub mod described;
 pub mod held;
 
-// A rewrite that was tried: whether it was made, the head's fields after it, its rewrites (0 or 1) and the symbols that it put back.
+// A rewrite that was tried: the head's numbers after it, its rewrites (0 or 1) and the symbols that it put back. The answer is 16 + the
+// verdict that it set, 2 (Full) where it does not fit and was not made, else 0. A struct without unused bytes stays in registers.
 pub struct Rewritten {
     pub settled: usize,
     pub waiting: usize,
-    pub verdict: Standing,
+    pub answer: u64,
     pub rule: usize,
-    pub taken: bool,
     pub rewrites: u64,
     pub put: u64,
-}
-
-// A rewrite that ends in a verdict: nothing is put back.
-fn closed(settled: usize, waiting: usize, verdict: u64, rule: usize) -> Rewritten
-    ensures { λ r. ⌜ r
-        ≡ record { settled = settled; waiting = waiting; verdict = Standing.Verdict verdict; rule = rule; taken = true; rewrites = 1; put = 0 } ⌝ }
-{
-    Rewritten {
-        settled: settled,
-        waiting: waiting,
-        verdict: Standing::Verdict(verdict),
-        rule: rule,
-        taken: true,
-        rewrites: 1,
-        put: 0,
-    }
 }
 
 // The first waiting symbol completes rule i's left side: that is taken off, and the right side put back or the verdict set.
 pub fn rewrite(
     settled: usize,
     waiting: usize,
-    verdict: Standing,
-    rule: usize,
     image: &[u8],
     table: &[u16],
     starts: &[u16],
@@ -57,46 +40,50 @@ pub fn rewrite(
     words: &mut [u16],
     i: usize,
 ) -> Rewritten
-    requires lent { ⌜ Passed (length (now bytes)) (now image) (now table) (monitorWith settled waiting verdict rule (now bytes) (now words)) ⌝ }
+    requires lent { ⌜ Passed (length (now bytes)) (now image) (now table) (monitorWith settled waiting Standing.None 0 (now bytes) (now words)) ⌝ }
     requires starts { ⌜ Starts (now image) (now starts) ⌝ }
-    requires next { ⌜ Matches (read (now image) .rules) (stateOf (monitorWith settled waiting verdict rule (now bytes) (now words))) (some i) ⌝ }
+    requires next { ⌜ Matches (read (now image) .rules) (stateOf (monitorWith settled waiting Standing.None 0 (now bytes) (now words))) (some i) ⌝ }
     ensures { λ r. ⌜ rewrittenFrom r (now (bytes .exit)) (now (words .exit))
         ≡ tried (read (now (image .entry)) .rules) (length (now (bytes .entry)))
-        (monitorWith settled waiting verdict rule (now (bytes .entry)) (now (words .entry)))
-        (stepOf (read (now (image .entry)) .rules) (stateOf (monitorWith settled waiting verdict rule (now (bytes .entry)) (now (words .entry))))) ⌝ }
+        (monitorWith settled waiting Standing.None 0 (now (bytes .entry)) (now (words .entry)))
+        (stepOf (read (now (image .entry)) .rules) (stateOf (monitorWith settled waiting Standing.None 0 (now (bytes .entry)) (now (words .entry))))) ⌝ }
 {
     let first = bytes.len() - waiting;
-    let kept = settled + 1 - image::left_length(image, i);
+    let size = image::left_length(image, i);
     let behind = first + 1;
     match image::right_side(image, i) {
         RightSide::Put(n) => {
-            let end = kept + n;
-            if behind < end {
+            if behind + size < settled + 1 + n {
                 return Rewritten {
                     settled: settled,
                     waiting: waiting,
-                    verdict: verdict,
-                    rule: rule,
-                    taken: false,
+                    answer: FULL,
+                    rule: 0,
                     rewrites: 0,
                     put: 0,
                 };
             }
-            held::take_off(bytes, words, first, kept, settled);
+            let kept = held::take_off(bytes, words, first, settled, size);
             held::put_back(image, wide::word(starts[i]), n, bytes, behind - n);
             Rewritten {
                 settled: kept,
                 waiting: waiting - 1 + n,
-                verdict: Standing::None,
+                answer: 0,
                 rule: 0,
-                taken: true,
                 rewrites: 1,
                 put: n as u64,
             }
         }
         RightSide::Close(v) => {
-            held::take_off(bytes, words, first, kept, settled);
-            closed(kept, waiting - 1, v, i)
+            let kept = held::take_off(bytes, words, first, settled, size);
+            Rewritten {
+                settled: kept,
+                waiting: waiting - 1,
+                answer: VERDICT + v,
+                rule: i,
+                rewrites: 1,
+                put: 0,
+            }
         }
     }
 }

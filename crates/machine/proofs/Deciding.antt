@@ -1,7 +1,7 @@
 -- A call where what is lent has passed its checks: the refusals of its own, in their order, and the state that it runs from.
 -- Assumes nothing.
 use Prim.Native.Nat.{ℕ, _+_, _-_, _≤_, _<_}
-use mathlib.Core.Path.{_≡_, refl, sym, ap, _∙_}
+use mathlib.Core.Path.{_≡_, refl, sym, ap, _∙_, subst}
 use mathlib.Core.Bool.{Bool, true, false, not, cond, _||_}
 use mathlib.Core.Option.{none, some}
 use mathlib.Core.List.{List, [], _∷_, _++_, append-nil}
@@ -16,8 +16,9 @@ use Rattle.rewriting.proofs.Ranges.{ranges}
 use Rattle.layout.specs.Image.{read, valid}
 use Rattle.layout.specs.Refusals.{Check, refusal}
 use Rattle.layout.proofs.Image.{valid-in-range}
-use Rattle.layout.proofs.Refusals.{refusal-append-some}
+use Rattle.layout.proofs.Refusals.{refusal-passed, refusal-rest, refusal-append-some}
 use Rattle.machine.specs.declared.Standing.{Standing}
+use Rattle.machine.specs.declared.Counts.{Counts}
 use Rattle.machine.specs.Areas.{Head, Monitor, headOf, monitorOf, stateOf}
 use Rattle.machine.specs.State.{State, empty}
 use Rattle.machine.specs.Run.{fits, run}
@@ -41,12 +42,12 @@ use Rattle.machine.specs.Calls.{
   decided,
 }
 use Rattle.machine.specs.Play.{eventsOf}
-use Rattle.machine.specs.Lent.{monitorIn, Passed, appended, oneMore, offerOrGoOn}
+use Rattle.machine.specs.Lent.{monitorIn, Passed, appended, taken, upon, offerOrGoOn}
 use Rattle.machine.proofs.Legal.{legal-more}
 use Rattle.machine.proofs.Areas.{state-back}
 use Rattle.machine.proofs.AreaWrites.{area-append}
 use Rattle.machine.proofs.Calls.{accepted-event, offered-more, holding-passes}
-use Rattle.machine.proofs.Stepping.{Held, held, passed-valid, passed-table, passed-written, holds-state}
+use Rattle.machine.proofs.Stepping.{Held, held, passed-valid, passed-table, passed-written, zero-rule, holds-state}
 
 -- refused by its checks
 pub is-refused : (set : RuleSet) (capacity : ℕ) (m : Monitor) (c : Call) (checks : List Check) (n : ℕ) → refusal checks ≡ some n
@@ -89,17 +90,33 @@ module _ (set : RuleSet) (capacity : ℕ) (head : Head) (event fuel : ℕ) where
     refuses-none true h v r = rw (h, le-leb fuel 65535 taken, v, r)
     refuses-none false h v r = rw (le-leb fuel 65535 taken, v)
 
--- there is room for the event of an offer
-pub room-left : (offering : Bool) (capacity n : ℕ) → (not offering || not (eqb n capacity)) ≡ true → offering ≡ true → n ≡ capacity → ⊥
-room-left true capacity n h e = eqb-false n capacity (not-true (eqb n capacity) h)
-room-left false capacity n h e = let z : _≡_ {A = ℕ} 0 1 = cc in absurd (omega arith)
+-- What a call that its checks do not refuse tells: no verdict stands, and there is room for the event of an offer.
+is-none : (v : Standing) → isNone v ≡ true → v ≡ Standing.None
+unfolding isNone
+is-none Standing.None e = refl
+is-none (Standing.Verdict v) e = let z : _≡_ {A = ℕ} 0 1 = cc in absurd (omega arith)
 
--- the call runs
-pub is-run : (set : RuleSet) (capacity : ℕ) (m m′ : Monitor) (c : Call) (checks : List Check) (s : State) (o : Outcome)
-    → refusal checks ≡ none → s ≡ offered (stateOf m) c → o ≡ outcome set capacity m′ none (run (set .rules) capacity (fuelOf c) s)
-    → o ≡ decided set capacity m checks c
+module _ (set : RuleSet) (capacity : ℕ) (head : Head) (event fuel : ℕ) where
+  pub accepted-none : (offering : Bool) → refusal (callChecks set capacity head (offerOrGoOn offering event fuel)) ≡ none → head .verdict ≡ Standing.None
+  unfolding callChecks fuelCheck verdictCheck offerOrGoOn
+  accepted-none true e = is-none (head .verdict) (refusal-passed _ _ _ (refusal-rest _ _ _ (refusal-rest _ _ _ e)))
+  accepted-none false e = is-none (head .verdict) (refusal-passed _ _ _ (refusal-rest _ _ _ e))
+
+  pub accepted-room : (offering : Bool) → refusal (callChecks set capacity head (offerOrGoOn offering event fuel)) ≡ none
+      → offering ≡ true → head .settled + head .waiting ≡ capacity → ⊥
+  unfolding callChecks fuelCheck verdictCheck offerOrGoOn
+  accepted-room true e t =
+      eqb-false (head .settled + head .waiting) capacity
+      (not-true (eqb (head .settled + head .waiting) capacity)
+      (refusal-passed _ _ _ (refusal-rest _ _ _ (refusal-rest _ _ _ (refusal-rest _ _ _ e)))))
+  accepted-room false e t = let z : _≡_ {A = ℕ} 0 1 = cc in absurd (omega arith)
+
+-- the call runs, behind others with the counts before
+pub is-run : (set : RuleSet) (capacity : ℕ) (m m′ : Monitor) (c : Call) (checks : List Check) (s : State) (before : Counts) (o : Outcome)
+    → refusal checks ≡ none → s ≡ offered (stateOf m) c → o ≡ upon before (outcome set capacity m′ none (run (set .rules) capacity (fuelOf c) s))
+    → o ≡ upon before (decided set capacity m checks c)
 unfolding decided outcome
-is-run set capacity m m′ c checks s o e f g = rw e (g ∙ rw f)
+is-run set capacity m m′ c checks s before o e f g = rw e (g ∙ rw f)
 
 -- "the event becomes the last waiting symbol"
 module _ (capacity : ℕ) (image table : List ℕ) (m : Monitor) (ok : Passed capacity image table m) (event fuel from : ℕ)
@@ -108,28 +125,28 @@ module _ (capacity : ℕ) (image table : List ℕ) (m : Monitor) (ok : Passed ca
   facts = held capacity image table m ok
 
   -- the areas then hold the offered state, ..
-  is-offered : monitorIn (oneMore (m .head)) (appended capacity event from (m .bytes)) (m .words)
+  is-offered : monitorIn (taken true (m .head)) (appended capacity event from (m .bytes)) (m .words)
       ≡ monitorOf (read image .rules) capacity (offered (stateOf m) (Offer event fuel))
   unfolding offered stateOf
   is-offered =
       let s : State = stateOf m in
-      holds-state (read image .rules) capacity (s .settled) (s .waiting ++ event ∷ []) Standing.None (m .head .rule) (m .head .settled) (m .head .waiting + 1)
+      holds-state (read image .rules) capacity (s .settled) (s .waiting ++ event ∷ []) Standing.None 0 (m .head .settled) (m .head .waiting + 1)
       (appended capacity event from (m .bytes)) (m .words) (facts .settled-count)
       (rw (length-append (s .waiting) (event ∷ [])) (omega (arith, facts .waiting-count)))
       (ap (appended capacity event from) (facts .bytes-are)
       ∙ area-append capacity (s .settled) (s .waiting) event from (capacity - 1) (omega (arith, place, facts .waiting-count)) refl
       (omega (arith, room, facts .room, facts .settled-count, facts .waiting-count)))
       (facts .words-are)
-      ∙ ap (λ (x : Standing). monitorOf (read image .rules) capacity
-      (record { settled = s .settled; waiting = s .waiting ++ event ∷ []; verdict = x; rule = s .rule })) (sym v)
+      ∙ (λ i. monitorOf (read image .rules) capacity
+      (record { settled = s .settled; waiting = s .waiting ++ event ∷ []; verdict = sym v i; rule = sym (zero-rule capacity image table m ok v) i }))
 
-  pub offered-state : stateOf (monitorIn (oneMore (m .head)) (appended capacity event from (m .bytes)) (m .words))
+  pub offered-state : stateOf (monitorIn (taken true (m .head)) (appended capacity event from (m .bytes)) (m .words))
       ≡ offered (stateOf m) (Offer event fuel)
   offered-state = rw is-offered (state-back (read image .rules) capacity (offered (stateOf m) (Offer event fuel)))
 
   -- .. and pass their checks
   pub offered-passes : refusal (callChecks (read image) capacity (m .head) (Offer event fuel)) ≡ none
-      → Passed capacity image table (monitorIn (oneMore (m .head)) (appended capacity event from (m .bytes)) (m .words))
+      → Passed capacity image table (monitorIn (taken true (m .head)) (appended capacity event from (m .bytes)) (m .words))
   unfolding monitorOf fits
   offered-passes e =
       holding-passes capacity image table good (passed-table capacity image table m ok) _
@@ -152,24 +169,46 @@ module _ (capacity : ℕ) (image table : List ℕ) (m : Monitor) (ok : Passed ca
           (rw head e) (le-leb _ _ (facts .room))
 
 -- The same of a call that is an offer or a go-on.
-module _ (capacity : ℕ) (image table : List ℕ) (m : Monitor) (ok : Passed capacity image table m) (event fuel : ℕ) (v : m .head .verdict ≡ Standing.None) where
-  pub call-state : (offering : Bool) → (offering ≡ true → m .head .settled + m .head .waiting ≡ capacity → ⊥)
-      → stateOf
-      (monitorIn (cond offering (oneMore (m .head)) (m .head))
-      (cond offering (appended capacity event (capacity - m .head .waiting) (m .bytes)) (m .bytes)) (m .words))
-      ≡ offered (stateOf m) (offerOrGoOn offering event fuel)
-  unfolding offerOrGoOn offered
-  call-state true room = offered-state capacity image table m ok event fuel (capacity - m .head .waiting) v (room refl) refl
-  call-state false room = refl
+module _ (capacity : ℕ) (image table : List ℕ) (head : Head) (bytes words : List ℕ) (ok : Passed capacity image table (monitorIn head bytes words))
+    (event fuel : ℕ) (offering : Bool)
+    (accepted : refusal (callChecks (read image) capacity head (offerOrGoOn offering event fuel)) ≡ none) where
+  none-stands : head .verdict ≡ Standing.None
+  none-stands = accepted-none (read image) capacity head event fuel offering accepted
 
-  pub call-passes : (offering : Bool) → (offering ≡ true → m .head .settled + m .head .waiting ≡ capacity → ⊥)
-      → refusal (callChecks (read image) capacity (m .head) (offerOrGoOn offering event fuel)) ≡ none
-      → Passed capacity image table
-      (monitorIn (cond offering (oneMore (m .head)) (m .head))
-      (cond offering (appended capacity event (capacity - m .head .waiting) (m .bytes)) (m .bytes)) (m .words))
+  -- a go-on takes the head as it is
+  as-is : taken false head ≡ head
+  as-is =
+      λ i.
+      record {
+        settled = head .settled;
+        waiting = head .waiting;
+        verdict = sym none-stands i;
+        rule = sym (zero-rule capacity image table (monitorIn head bytes words) ok none-stands) i;
+      }
+
+  pub call-state : stateOf
+      (monitorIn (taken offering head) (cond offering (appended capacity event (capacity - head .waiting) bytes) bytes) words)
+      ≡ offered (stateOf (monitorIn head bytes words)) (offerOrGoOn offering event fuel)
+  unfolding offerOrGoOn offered
+  call-state = go offering (accepted-room (read image) capacity head event fuel offering accepted)
+    where
+      go : (o : Bool) → (o ≡ true → head .settled + head .waiting ≡ capacity → ⊥)
+          → stateOf (monitorIn (taken o head) (cond o (appended capacity event (capacity - head .waiting) bytes) bytes) words)
+          ≡ offered (stateOf (monitorIn head bytes words)) (offerOrGoOn o event fuel)
+      go true room = offered-state capacity image table (monitorIn head bytes words) ok event fuel (capacity - head .waiting) none-stands (room refl) refl
+      go false room = ap (λ (h : Head). stateOf (monitorIn h bytes words)) as-is
+
+  pub call-passes : Passed capacity image table
+      (monitorIn (taken offering head) (cond offering (appended capacity event (capacity - head .waiting) bytes) bytes) words)
   unfolding offerOrGoOn
-  call-passes true room e = offered-passes capacity image table m ok event fuel (capacity - m .head .waiting) v (room refl) refl e
-  call-passes false room e = ok
+  call-passes = go offering (accepted-room (read image) capacity head event fuel offering accepted) accepted
+    where
+      go : (o : Bool) → (o ≡ true → head .settled + head .waiting ≡ capacity → ⊥)
+          → refusal (callChecks (read image) capacity head (offerOrGoOn o event fuel)) ≡ none
+          → Passed capacity image table (monitorIn (taken o head) (cond o (appended capacity event (capacity - head .waiting) bytes) bytes) words)
+      go true room e =
+          offered-passes capacity image table (monitorIn head bytes words) ok event fuel (capacity - head .waiting) none-stands (room refl) refl e
+      go false room e = subst (λ (h : Head). Passed capacity image table (monitorIn h bytes words)) (sym as-is) ok
 
 -- A call that what is lent refuses.
 pub lent-refused : (capacity : ℕ) (image table : List ℕ) (m : Monitor) (c : Call) (n : ℕ) → refusal (lentChecks capacity image table m) ≡ some n

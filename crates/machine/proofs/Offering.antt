@@ -1,9 +1,9 @@
 -- Calls one by one: what is so after k of them, and what they come to where they end.
 -- Assumes nothing.
 use Prim.Native.Nat.{ℕ, suc, _+_, _*_, _≤_, _<_}
-use mathlib.Core.Path.{_≡_, refl, sym, ap, _∙_}
+use mathlib.Core.Path.{_≡_, refl, sym, ap, _∙_, subst}
 use mathlib.Core.Bool.{Bool, true, false}
-use mathlib.Core.Option.{none}
+use mathlib.Core.Option.{none, some}
 use mathlib.Core.List.{List, [], _∷_, _++_, append-nil}
 use native.Mathlib.Omega.{arith}
 use native.Mathlib.Nat.{suc-mul, mul-le-mul}
@@ -15,18 +15,19 @@ use borrow.Author.Tests.{eqb-true}
 use Rattle.rewriting.specs.Lists.{over}
 use Rattle.rewriting.proofs.Lists.{and-left, and-right, getD-map}
 use Rattle.layout.specs.Image.{read}
-use Rattle.machine.specs.declared.Answer.{Answer}
+use Rattle.layout.specs.Refusals.{refusal}
 use Rattle.machine.specs.declared.Counts.{Counts}
 use Rattle.machine.specs.Run.{noCounts, plus}
 use Rattle.machine.specs.Areas.{Monitor}
-use Rattle.machine.specs.Calls.{Call, GoOn, Outcome, sized, callChecks, decided, fuelOf, callOf, refusedBy, answerNumber}
+use Rattle.machine.specs.Calls.{Call, GoOn, Outcome, sized, callChecks, decided, fuelOf, callOf, refusedBy, refusalOf, answerNumber}
 use Rattle.machine.specs.Batch.{Offers, stopped, andThen, inTurn, batched}
-use Rattle.machine.specs.Lent.{monitorIn, Passed, offerOrGoOn, offersOrGoesOn}
+use Rattle.machine.specs.Lent.{Passed, upon, offerOrGoOn, offersOrGoesOn}
 use Rattle.machine.specs.Promise.{Ended}
 use Rattle.machine.proofs.Stepping.{passed-sized}
 use Rattle.machine.proofs.Sums.{none-plus, plus-none, plus-assoc}
 use Rattle.machine.proofs.Calls.{holding-passes, replies, next}
 use Rattle.machine.proofs.CallTheorem.{call-theorem}
+use Rattle.machine.proofs.Deciding.{is-refused}
 use Rattle.machine.proofs.AnswerNumbers.{Lent, passed-lent, answer-number-below}
 
 -- the calls b behind accepted ones with these answers and counts
@@ -111,12 +112,6 @@ offering-first capacity image table m calls answers p =
       put = omega arith;
     }
 
--- the sums with those of one call more
-pub record Within (c d : Counts) : Type 0 where
-  pub steps : c .steps + d .steps ≤ 65536 * 4294967295
-  pub rewrites : c .rewrites + d .rewrites ≤ 65536 * 4294967295
-  pub put : c .put + d .put ≤ 8 * 65536 * 4294967295
-
 module _ {capacity : ℕ} {image table : List ℕ} {m : Monitor} {calls : List Call} {answers : List ℕ} {n : Monitor} {b : List ℕ} {c : Counts} {k : ℕ}
     (now : Offering capacity image table m calls answers n b c k) where
   -- The checks have passed, with the capacity read off the bytes.
@@ -144,72 +139,81 @@ module _ {capacity : ℕ} {image table : List ℕ} {m : Monitor} {calls : List C
         let same : length calls ≡ k = omega (arith, h, now .few) in
         rw same (offering-end 0 (rw (drop-of-length-le calls h)))
 
-    -- The next call is made, with the outcome o.
-    module _ {o : Outcome} (more : k < length calls)
-        (made : o ≡ decided (read image) (length (n .bytes)) n (callChecks (read image) (length (n .bytes)) (n .head) (getD calls k (GoOn 0)))
-        (getD calls k (GoOn 0))) where
-      is : o ≡ callOf capacity image table n (getD calls k (GoOn 0))
-      is =
-          passed-call capacity image table n (getD calls k (GoOn 0)) o (now .passed)
-          (rw (now .bytes) at made)
-
-      done : Ended (read image .rules) capacity n (getD calls k (GoOn 0)) o
-      done = rw is (call-theorem capacity image table n (getD calls k (GoOn 0)))
-
-      pub offering-number : answerNumber (o .answer) < 256
-      offering-number = rw is (answer-number-below capacity image table n (getD calls k (GoOn 0)))
+    -- There is a next call.
+    module _ (more : k < length calls) where
+      abbrev call : Call
+      call = getD calls k (GoOn 0)
 
       -- It is refused.
-      pub offering-refused : (x : ℕ) → o .answer ≡ Answer.Refused x
-          → record { refused = none; stop = x; accepted = k; counts = c; answers = b; monitor = monitorIn (n .head) (o .monitor .bytes) (o .monitor .words) }
+      pub offering-refused : (x : ℕ) → refusal (callChecks (read image) (length (n .bytes)) (n .head) call) ≡ some x
+          → record { refused = none; stop = x; accepted = k; counts = c; answers = b; monitor = n }
           ≡ batched none m answers (inTurn capacity image table m calls)
       unfolding inTurn andThen refusedBy
       offering-refused x e =
-          let stays : o .monitor ≡ n = ap (λ (p : Outcome). p .monitor) (done .refused x (rw e) .1) in
-          rw stays (offering-end x (rw (drop-cons calls k (GoOn 0) more, ← is, e, stays)))
-
-      -- It is accepted.
-      pub offering-sums : fuelOf (getD calls k (GoOn 0)) ≤ 4294967295 → length calls ≤ 65535 → Within c (o .counts)
-      offering-sums h few =
-          let own : o .counts .steps ≤ fuelOf (getD calls k (GoOn 0)) = done .steps in
-          let product : k * 4294967295 ≤ 65535 * 4294967295 = mul-le-mul {n₂ = 65535} {m₂ = 4294967295} (omega arith) (omega arith) in
-          record {
-            steps = omega (arith, now .steps);
-            rewrites = omega (arith, now .steps, now .rewrites, done .rewrites);
-            put = omega (arith, now .steps, now .rewrites, now .put, done .rewrites, done .put);
-          }
-
-      pub offering-next : fuelOf (getD calls k (GoOn 0)) ≤ 4294967295 → refusedBy (o .answer) ≡ none
-          → Offering capacity image table m calls answers (o .monitor) (set b k (answerNumber (o .answer))) (plus c (o .counts)) (suc k)
-      unfolding inTurn andThen plus
-      offering-next h e =
-          let after : Passed capacity image table (o .monitor) =
-          rw is (passed-next capacity image table n (getD calls k (GoOn 0)) (now .passed))
+          let is : refusalOf x n ≡ callOf capacity image table n call =
+          passed-call capacity image table n call (refusalOf x n) (now .passed)
+          (is-refused (read image) capacity n call _ x (rw (now .bytes) at e))
           in
-          let long : k < length b = omega (arith, more, now .size, room) in
-          let rest : Offers = inTurn capacity image table (o .monitor) (drop (suc k) calls) in
-          record {
-            few = omega arith;
-            passed = after;
-            bytes = passed-sizes capacity image table (o .monitor) after .0;
-            words =
-                passed-sizes capacity image table (o .monitor) after .1
-                ∙ sym (passed-sizes capacity image table n (now .passed) .1)
-                ∙ now .words;
-            size = length-set b k _ ∙ now .size;
-            later =
-                drop-set-lt (suc k) b k (answerNumber (o .answer)) (omega arith)
-                ∙ drop-more k b
-                ∙ ap (λ (l : List ℕ). drop 1 l) (now .later)
-                ∙ sym (drop-more k answers);
-            whole =
-                now .whole
-                ∙ rw (drop-cons calls k (GoOn 0) more, ← is, e, take-suc-set b k (answerNumber (o .answer)) long)
-                (behind-more (take k b) c (answerNumber (o .answer)) (o .counts) rest);
-            steps = rw suc-mul (omega (arith, now .steps, done .steps, h));
-            rewrites = omega (arith, now .rewrites, done .rewrites);
-            put = omega (arith, now .put, done .put);
-          }
+          offering-end x (rw (drop-cons calls k (GoOn 0) more, ← is))
+
+      -- The sums have room for it.
+      pub offering-sums : (fuel : ℕ) → fuel ≤ 4294967295 → length calls ≤ 65535
+          → c .steps + c .rewrites + c .put + 10 * fuel < 18446744073709551616
+      offering-sums fuel h few =
+          let product : k * 4294967295 ≤ 65535 * 4294967295 = mul-le-mul {n₂ = 65535} {m₂ = 4294967295} (omega arith) (omega arith) in
+          omega (arith, now .steps, now .rewrites, now .put)
+
+      -- It is accepted, and has the outcome o behind the counts so far.
+      module _ {o : Outcome} (made : o ≡ upon c (decided (read image) (length (n .bytes)) n (callChecks (read image) (length (n .bytes)) (n .head) call) call)) where
+        abbrev one : Outcome
+        one = callOf capacity image table n call
+
+        is : o ≡ upon c one
+        is =
+            rw (now .bytes) at made
+            ∙ ap (upon c) (passed-call capacity image table n call (decided (read image) capacity n (callChecks (read image) capacity (n .head) call) call) (now .passed) refl)
+
+        done : Ended (read image .rules) capacity n call one
+        done = call-theorem capacity image table n call
+
+        pub offering-number : answerNumber (o .answer) < 256
+        offering-number = rw is (answer-number-below capacity image table n call)
+
+        next-one : fuelOf call ≤ 4294967295 → refusedBy (one .answer) ≡ none
+            → Offering capacity image table m calls answers (one .monitor) (set b k (answerNumber (one .answer))) (plus c (one .counts)) (suc k)
+        unfolding inTurn andThen plus
+        next-one h e =
+            let after : Passed capacity image table (one .monitor) = passed-next capacity image table n call (now .passed) in
+            let long : k < length b = omega (arith, more, now .size, room) in
+            let rest : Offers = inTurn capacity image table (one .monitor) (drop (suc k) calls) in
+            record {
+              few = omega arith;
+              passed = after;
+              bytes = passed-sizes capacity image table (one .monitor) after .0;
+              words =
+                  passed-sizes capacity image table (one .monitor) after .1
+                  ∙ sym (passed-sizes capacity image table n (now .passed) .1)
+                  ∙ now .words;
+              size = length-set b k _ ∙ now .size;
+              later =
+                  drop-set-lt (suc k) b k (answerNumber (one .answer)) (omega arith)
+                  ∙ drop-more k b
+                  ∙ ap (λ (l : List ℕ). drop 1 l) (now .later)
+                  ∙ sym (drop-more k answers);
+              whole =
+                  now .whole
+                  ∙ rw (drop-cons calls k (GoOn 0) more, e, take-suc-set b k (answerNumber (one .answer)) long)
+                  (behind-more (take k b) c (answerNumber (one .answer)) (one .counts) rest);
+              steps = rw suc-mul (omega (arith, now .steps, done .steps, h));
+              rewrites = omega (arith, now .rewrites, done .rewrites);
+              put = omega (arith, now .put, done .put);
+            }
+
+        pub offering-next : fuelOf call ≤ 4294967295 → refusedBy (o .answer) ≡ none
+            → Offering capacity image table m calls answers (o .monitor) (set b k (answerNumber (o .answer))) (o .counts) (suc k)
+        offering-next h e =
+            subst (λ (x : Outcome). Offering capacity image table m calls answers (x .monitor) (set b k (answerNumber (x .answer))) (x .counts) (suc k))
+            (sym is) (next-one h (rw is at e))
 
 -- The call of event k, among those of all events.
 pub call-at : (offering : Bool) (events : List ℕ) (fuel k : ℕ) → k < length events

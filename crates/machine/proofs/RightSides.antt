@@ -1,4 +1,4 @@
--- Right sides as the code meets them in a valid image: how many symbols there are, where they stand, or the verdict.
+-- A rule's sides as the code meets them in a valid image: how many symbols there are, where they stand, or the verdict.
 -- Assumes nothing.
 use Prim.Native.Nat.{ℕ, _+_, _≤_, _<_}
 use mathlib.Core.Path.{_≡_, refl, ap, _∙_}
@@ -7,8 +7,9 @@ use mathlib.Core.List.{List}
 use native.Mathlib.Omega.{arith}
 use lib.ListN.{length, take, drop, length-drop}
 use lib.Seq.{ext-getD, getD-take, getD-drop, length-take-le}
-use Rattle.rewriting.specs.Rules.{Right, Put, Close, symbolsOf, rule}
-use Rattle.rewriting.proofs.Ranges.{length-right, ranges, rule-at}
+use borrow.Author.Tests.{ltb-true}
+use Rattle.rewriting.specs.Rules.{Right, Put, Close, symbolsOf, rule, rightInRange}
+use Rattle.rewriting.proofs.Ranges.{length-right, Ranges, ranges, rule-at}
 use Rattle.layout.specs.declared.RightSide.{RightSide}
 use Rattle.layout.specs.Image.{read, valid}
 use Rattle.layout.specs.Places.{rightAt, rightSideOf}
@@ -28,6 +29,18 @@ is-close (Put u) v e = let z : _≡_ {A = ℕ} 0 1 = cc in absurd (omega arith)
 is-close (Close u) v e = let k : u ≡ v = cc in ap Close k
 
 module _ (b : List ℕ) (good : valid b ≡ true) (i : ℕ) (h : i < length (read b .rules)) where
+  -- the left side has at most 8 symbols
+  pub left-few : length (rule (read b .rules) i .left) ≤ 8
+  left-few = rule-at (read b) (ranges (read b) (valid-in-range b good)) i h .short-left
+
+  -- the verdict is below 16
+  pub close-few : (v : ℕ) → rule (read b .rules) i .right ≡ Close v → v < 16
+  unfolding rightInRange
+  close-few v e =
+      let set : Ranges (read b) = ranges (read b) (valid-in-range b good) in
+      let low : v < read b .verdicts = ltb-true v (read b .verdicts) (rw e at (rule-at (read b) set i h .right-in-range)) in
+      omega (arith, set .few-verdicts)
+
   symbols-few : length (symbolsOf (rule (read b .rules) i .right)) ≤ 8
   symbols-few =
       length-right (read b) (rule (read b .rules) i .right)

@@ -1,7 +1,7 @@
 -- A run in the areas: the loop's invariant, its turns and its four ends.
 -- Assumes nothing.
-use Prim.Native.Nat.{ℕ, zero, suc, _+_, _-_, _*_, _≤_}
-use mathlib.Core.Path.{_≡_, refl, sym, ap, _∙_}
+use Prim.Native.Nat.{ℕ, zero, suc, _+_, _-_, _*_, _≤_, _<_}
+use mathlib.Core.Path.{_≡_, refl, sym, ap, _∙_, subst}
 use mathlib.Core.Bool.{Bool, true, false}
 use mathlib.Core.Option.{none}
 use mathlib.Core.List.{List, [], _∷_}
@@ -18,15 +18,16 @@ use Rattle.machine.specs.Areas.{Head, Monitor, monitorOf, stateOf}
 use Rattle.machine.specs.declared.Answer.{Answer}
 use Rattle.machine.specs.declared.Counts.{Counts}
 use Rattle.machine.specs.State.{State, Step, step}
-use Rattle.machine.specs.Run.{Run, noCounts, plus, countsOf, ended, counted, fits, proceed, tests, run}
+use Rattle.machine.specs.Run.{Run, plus, countsOf, ended, counted, fits, proceed, tests, run}
 use Rattle.machine.specs.Calls.{Outcome, outcome}
-use Rattle.machine.specs.Lent.{monitorIn, Passed, stepWaiting, stepOf, Tried, tried}
-use Rattle.machine.proofs.Sums.{none-plus, plus-none, plus-assoc}
+use Rattle.machine.specs.Lent.{monitorIn, Passed, stepWaiting, stepOf, Tried, tried, addedTo, upon, answerFrom, standingAfter}
+use Rattle.machine.proofs.Sums.{plus-none, plus-assoc}
+use Rattle.machine.proofs.AnswerKinds.{verdict-from, stands-from}
 use Rattle.machine.proofs.Machine.{step-counts}
 use Rattle.machine.proofs.Legal.{legal-active, legal-step}
 use Rattle.machine.proofs.Areas.{state-back}
 use Rattle.machine.proofs.Calls.{Holding, holding-passes}
-use Rattle.machine.proofs.Stepping.{Held, held, passed-valid, passed-table, passed-written, waits}
+use Rattle.machine.proofs.Stepping.{Held, held, passed-valid, passed-table, passed-written, zero-rule, waits}
 
 -- The tests of a run, one by one.
 run-verdict : (rules : List Rule) (capacity fuel : ℕ) (s : State) (v : ℕ) → s .verdict ≡ Standing.Verdict v
@@ -52,10 +53,10 @@ unfolding run tests stepWaiting
 run-step rules capacity fuel s a q e w = rw (e, w)
 
 -- What a step that was tried tells: it does not fit, and nothing changed, ..
-tried-no : (rules : List Rule) (capacity : ℕ) (m : Monitor) (t : Step) (to : Tried) → to .taken ≡ false → to ≡ tried rules capacity m t
-    → (fits capacity (t .to) ≡ false) × (to .monitor ≡ m)
+tried-no : (rules : List Rule) (capacity : ℕ) (m : Monitor) (t : Step) (rewrites put : ℕ) (to : Tried) → to .taken ≡ false
+    → to ≡ addedTo rewrites put (tried rules capacity m t) → (fits capacity (t .to) ≡ false) × (to .monitor ≡ m)
 unfolding tried
-tried-no rules capacity m t to e p = go (fits capacity (t .to)) refl
+tried-no rules capacity m t rewrites put to e p = go (fits capacity (t .to)) refl
   where
     go : (b : Bool) → fits capacity (t .to) ≡ b → (fits capacity (t .to) ≡ false) × (to .monitor ≡ m)
     go false f = (f, ap (λ (x : Tried). x .monitor) (rw f at p))
@@ -65,24 +66,24 @@ tried-no rules capacity m t to e p = go (fits capacity (t .to)) refl
         absurd (omega arith)
 
 -- .. or it fits, and was taken.
-record Taken (rules : List Rule) (capacity : ℕ) (t : Step) (to : Tried) : Type 0 where
+record Taken (rules : List Rule) (capacity : ℕ) (t : Step) (before put : ℕ) (to : Tried) : Type 0 where
   fit : fits capacity (t .to) ≡ true
   monitor : to .monitor ≡ monitorOf rules capacity (t .to)
-  rewrites : to .rewrites ≡ t .rewrites
-  put : to .put ≡ t .put
+  rewritten : to .rewrites ≡ before + t .rewrites
+  put-back : to .put ≡ put + t .put
 
-tried-yes : (rules : List Rule) (capacity : ℕ) (m : Monitor) (t : Step) (to : Tried) → to .taken ≡ true → to ≡ tried rules capacity m t
-    → Taken rules capacity t to
+tried-yes : (rules : List Rule) (capacity : ℕ) (m : Monitor) (t : Step) (rewrites put : ℕ) (to : Tried) → to .taken ≡ true
+    → to ≡ addedTo rewrites put (tried rules capacity m t) → Taken rules capacity t rewrites put to
 unfolding tried
-tried-yes rules capacity m t to e p = go (fits capacity (t .to)) refl
+tried-yes rules capacity m t rewrites put to e p = go (fits capacity (t .to)) refl
   where
-    go : (b : Bool) → fits capacity (t .to) ≡ b → Taken rules capacity t to
+    go : (b : Bool) → fits capacity (t .to) ≡ b → Taken rules capacity t rewrites put to
     go true f =
         record {
           fit = f;
           monitor = ap (λ (x : Tried). x .monitor) (rw f at p);
-          rewrites = ap (λ (x : Tried). x .rewrites) (rw f at p);
-          put = ap (λ (x : Tried). x .put) (rw f at p);
+          rewritten = ap (λ (x : Tried). x .rewrites) (rw f at p);
+          put-back = ap (λ (x : Tried). x .put) (rw f at p);
         }
     go false f =
         let z : to .taken ≡ false = ap (λ (x : Tried). x .taken) (rw f at p) in
@@ -90,31 +91,34 @@ tried-yes rules capacity m t to e p = go (fits capacity (t .to)) refl
         absurd (omega arith)
 
 -- the counts c and then the run r
-abbrev pub ahead : Counts → Run → Run
+abbrev ahead : Counts → Run → Run
 ahead c r = record { answer = r .answer; counts = plus c (r .counts); state = r .state }
 
--- the counts of a run, with so much fuel left
-abbrev pub soFar : ℕ → ℕ → ℕ → ℕ → Counts
-soFar fuel left rewrites put = record { steps = fuel - left; rewrites = rewrites; put = put }
+-- the counts of a run that began with the counts c, with so much fuel left
+abbrev pub soFar : Counts → ℕ → ℕ → ℕ → ℕ → Counts
+soFar c fuel left rewrites put = record { steps = c .steps + (fuel - left); rewrites = rewrites; put = put }
 
--- the loop's invariant
-pub record Running (image table bytes₀ words₀ : List ℕ) (fuel : ℕ) (head₀ : Head) (bytes words : List ℕ) (head : Head) (left rewrites put : ℕ) : Type 0 where
+-- the head of the same counts with no verdict
+abbrev pub opened : Head → Head
+opened head = record { settled = head .settled; waiting = head .waiting; verdict = Standing.None; rule = 0 }
+
+-- the loop's invariant: c₀ are the counts before the run
+pub record Running (image table bytes₀ words₀ : List ℕ) (fuel : ℕ) (c₀ : Counts) (head₀ : Head) (bytes words : List ℕ) (head : Head)
+    (left rewrites put : ℕ) : Type 0 where
   pub bytes-kept : length bytes ≡ length bytes₀
   pub words-kept : length words ≡ length words₀
   pub passed : Passed (length bytes₀) image table (monitorIn head bytes words)
   pub fuel-left : left ≤ fuel
-  pub few-rewrites : rewrites ≤ fuel - left
-  pub few-put : put ≤ 8 * rewrites
-  pub rest : run (read image .rules) (length bytes₀) fuel (stateOf (monitorIn head₀ bytes₀ words₀))
-      ≡ ahead (soFar fuel left rewrites put) (run (read image .rules) (length bytes₀) left (stateOf (monitorIn head bytes words)))
+  pub few-rewrites : rewrites ≤ c₀ .rewrites + (fuel - left)
+  pub few-put : put ≤ c₀ .put + 8 * (fuel - left)
+  pub rest : ahead c₀ (run (read image .rules) (length bytes₀) fuel (stateOf (monitorIn head₀ bytes₀ words₀)))
+      ≡ ahead (soFar c₀ fuel left rewrites put) (run (read image .rules) (length bytes₀) left (stateOf (monitorIn head bytes words)))
 
-pub running-first : (image table bytes words : List ℕ) (fuel : ℕ) (head : Head) → Passed (length bytes) image table (monitorIn head bytes words)
-    → Running image table bytes words fuel head bytes words head fuel 0 0
-unfolding noCounts
-running-first image table bytes words fuel head ok =
+pub running-first : (image table bytes words : List ℕ) (fuel : ℕ) (c₀ : Counts) (head : Head) → Passed (length bytes) image table (monitorIn head bytes words)
+    → Running image table bytes words fuel c₀ head bytes words head fuel (c₀ .rewrites) (c₀ .put)
+running-first image table bytes words fuel c₀ head ok =
     let r : Run = run (read image .rules) (length bytes) fuel (stateOf (monitorIn head bytes words)) in
-    let z : fuel - fuel ≡ 0 = omega arith in
-    let none-yet : plus (record { steps = fuel - fuel; rewrites = 0; put = 0 }) (r .counts) ≡ r .counts = rw z (none-plus (r .counts)) in
+    let n : c₀ .steps ≡ c₀ .steps + (fuel - fuel) = omega arith in
     record {
       bytes-kept = refl;
       words-kept = refl;
@@ -122,11 +126,11 @@ running-first image table bytes words fuel head ok =
       fuel-left = omega arith;
       few-rewrites = omega arith;
       few-put = omega arith;
-      rest = λ i. record { answer = r .answer; counts = sym none-yet i; state = r .state };
+      rest = λ i. ahead (record { steps = n i; rewrites = c₀ .rewrites; put = c₀ .put }) r;
     }
 
-module _ {image table bytes₀ words₀ : List ℕ} {fuel : ℕ} {head₀ : Head} {bytes words : List ℕ} {head : Head} {left rewrites put : ℕ}
-    (k : Running image table bytes₀ words₀ fuel head₀ bytes words head left rewrites put) where
+module _ {image table bytes₀ words₀ : List ℕ} {fuel : ℕ} {c₀ : Counts} {head₀ : Head} {bytes words : List ℕ} {head : Head} {left rewrites put : ℕ}
+    (k : Running image table bytes₀ words₀ fuel c₀ head₀ bytes words head left rewrites put) where
   -- what a step asks
   pub running-asks : Passed (length bytes) image table (monitorIn head bytes words)
   running-asks = rw (k .bytes-kept) (k .passed)
@@ -134,33 +138,47 @@ module _ {image table bytes₀ words₀ : List ℕ} {fuel : ℕ} {head₀ : Head
   facts : Held (read image) (length bytes₀) (monitorIn head bytes words)
   facts = held (length bytes₀) image table (monitorIn head bytes words) (k .passed)
 
+  -- with no verdict the rule is 0
+  pub running-open : head .verdict ≡ Standing.None
+      → Running image table bytes₀ words₀ fuel c₀ head₀ bytes words (opened head) left rewrites put
+  running-open e =
+      let z : head .rule ≡ 0 = zero-rule (length bytes₀) image table (monitorIn head bytes words) (k .passed) e in
+      let is : head ≡ opened head = λ i. record { settled = head .settled; waiting = head .waiting; verdict = e i; rule = z i } in
+      subst (λ (x : Head). Running image table bytes₀ words₀ fuel c₀ head₀ bytes words x left rewrites put) is k
+
   -- The run ends here.
   ended-here : (answer : Answer)
       → run (read image .rules) (length bytes₀) left (stateOf (monitorIn head bytes words)) ≡ ended answer (stateOf (monitorIn head bytes words))
-      → _≡_ {A = Outcome} (record { answer = answer; counts = soFar fuel left rewrites put; monitor = monitorIn head bytes words })
-      (outcome (read image) (length bytes₀) (monitorIn head₀ bytes₀ words₀) none
-      (run (read image .rules) (length bytes₀) fuel (stateOf (monitorIn head₀ bytes₀ words₀))))
+      → _≡_ {A = Outcome} (record { answer = answer; counts = soFar c₀ fuel left rewrites put; monitor = monitorIn head bytes words })
+      (upon c₀ (outcome (read image) (length bytes₀) (monitorIn head₀ bytes₀ words₀) none
+      (run (read image .rules) (length bytes₀) fuel (stateOf (monitorIn head₀ bytes₀ words₀)))))
   unfolding outcome ended
   ended-here answer e =
-      let c : Counts = soFar fuel left rewrites put in
+      let c : Counts = soFar c₀ fuel left rewrites put in
+      let r : Run = run (read image .rules) (length bytes₀) fuel (stateOf (monitorIn head₀ bytes₀ words₀)) in
       let written : monitorOf (read image .rules) (length bytes₀) (stateOf (monitorIn head bytes words)) ≡ monitorIn head bytes words =
       passed-written (length bytes₀) image table (monitorIn head bytes words) (k .passed)
       in
-      rw (k .rest, e)
-      (λ i. record { answer = answer; counts = sym (plus-none c) i; monitor = sym written i })
+      let whole : ahead c₀ r ≡ ahead c (ended answer (stateOf (monitorIn head bytes words))) = k .rest ∙ ap (ahead c) e in
+      sym
+      (ap (λ (x : Run). outcome (read image) (length bytes₀) (monitorIn head₀ bytes₀ words₀) none x) whole
+      ∙ (λ i. record { answer = answer; counts = plus-none c i; monitor = written i }))
 
-  pub verdict-ends : (v : ℕ) → head .verdict ≡ Standing.Verdict v
-      → _≡_ {A = Outcome} (record { answer = Answer.Verdict v; counts = soFar fuel left rewrites put; monitor = monitorIn head bytes words })
-      (outcome (read image) (length bytes₀) (monitorIn head₀ bytes₀ words₀) none
-      (run (read image .rules) (length bytes₀) fuel (stateOf (monitorIn head₀ bytes₀ words₀))))
+  -- A verdict stands: the answer's number is 16 or more.
+  pub verdict-ends : (n : ℕ) → 16 ≤ n → head .verdict ≡ standingAfter n
+      → _≡_ {A = Outcome} (record { answer = answerFrom n; counts = soFar c₀ fuel left rewrites put; monitor = monitorIn head bytes words })
+      (upon c₀ (outcome (read image) (length bytes₀) (monitorIn head₀ bytes₀ words₀) none
+      (run (read image .rules) (length bytes₀) fuel (stateOf (monitorIn head₀ bytes₀ words₀)))))
   unfolding stateOf
-  verdict-ends v e =
-      ended-here (Answer.Verdict v) (run-verdict (read image .rules) (length bytes₀) left (stateOf (monitorIn head bytes words)) v e)
+  verdict-ends n h e =
+      ended-here (answerFrom n)
+      (run-verdict (read image .rules) (length bytes₀) left (stateOf (monitorIn head bytes words)) (n - 16) (e ∙ stands-from n h)
+      ∙ ap (λ (a : Answer). ended a (stateOf (monitorIn head bytes words))) (sym (verdict-from n h)))
 
   pub quiet-ends : head .verdict ≡ Standing.None → head .waiting ≡ 0
-      → _≡_ {A = Outcome} (record { answer = Answer.Quiet; counts = soFar fuel left rewrites put; monitor = monitorIn head bytes words })
-      (outcome (read image) (length bytes₀) (monitorIn head₀ bytes₀ words₀) none
-      (run (read image .rules) (length bytes₀) fuel (stateOf (monitorIn head₀ bytes₀ words₀))))
+      → _≡_ {A = Outcome} (record { answer = Answer.Quiet; counts = soFar c₀ fuel left rewrites put; monitor = monitorIn head bytes words })
+      (upon c₀ (outcome (read image) (length bytes₀) (monitorIn head₀ bytes₀ words₀) none
+      (run (read image .rules) (length bytes₀) fuel (stateOf (monitorIn head₀ bytes₀ words₀)))))
   unfolding stateOf
   quiet-ends e z =
       ended-here Answer.Quiet
@@ -171,52 +189,59 @@ module _ {image table bytes₀ words₀ : List ℕ} {fuel : ℕ} {head₀ : Head
       empty [] p = refl
       empty (x ∷ l) p = absurd (omega arith)
 
-  pub spent-ends : head .verdict ≡ Standing.None → (head .waiting ≡ 0 → ⊥) → left ≡ 0
+  pub spent-ends : head .verdict ≡ Standing.None → 0 < head .waiting → left ≡ 0
       → _≡_ {A = Outcome}
-      (record { answer = Answer.Spent; counts = record { steps = fuel; rewrites = rewrites; put = put }; monitor = monitorIn head bytes words })
-      (outcome (read image) (length bytes₀) (monitorIn head₀ bytes₀ words₀) none
-      (run (read image .rules) (length bytes₀) fuel (stateOf (monitorIn head₀ bytes₀ words₀))))
+      (record { answer = Answer.Spent; counts = record { steps = c₀ .steps + fuel; rewrites = rewrites; put = put }; monitor = monitorIn head bytes words })
+      (upon c₀ (outcome (read image) (length bytes₀) (monitorIn head₀ bytes₀ words₀) none
+      (run (read image .rules) (length bytes₀) fuel (stateOf (monitorIn head₀ bytes₀ words₀)))))
   unfolding stateOf
   spent-ends e z l =
-      let w = waits (read image) (length bytes₀) (monitorIn head bytes words) facts (omega (arith, z)) in
+      let w = waits (read image) (length bytes₀) (monitorIn head bytes words) facts z in
       let all : fuel ≡ fuel - left = omega (arith, l) in
-      ap (λ (n : ℕ). record { answer = Answer.Spent; counts = record { steps = n; rewrites = rewrites; put = put }; monitor = monitorIn head bytes words }) all
+      ap (λ (n : ℕ). record {
+        answer = Answer.Spent;
+        counts = record { steps = c₀ .steps + n; rewrites = rewrites; put = put };
+        monitor = monitorIn head bytes words;
+      }) all
       ∙ (ended-here Answer.Spent
       (rw l (run-spent (read image .rules) (length bytes₀) (stateOf (monitorIn head bytes words)) (w .0) (w .1) e (w .2))))
 
   -- A step is tried. It does not fit, ..
-  pub full-ends : head .verdict ≡ Standing.None → (head .waiting ≡ 0 → ⊥) → (left ≡ 0 → ⊥) → (to : Tried) → to .taken ≡ false
-      → to ≡ tried (read image .rules) (length bytes) (monitorIn head bytes words) (stepOf (read image .rules) (stateOf (monitorIn head bytes words)))
+  pub full-ends : head .verdict ≡ Standing.None → 0 < head .waiting → (left ≡ 0 → ⊥) → (to : Tried) → to .taken ≡ false
+      → to
+      ≡ addedTo rewrites put
+      (tried (read image .rules) (length bytes) (monitorIn head bytes words) (stepOf (read image .rules) (stateOf (monitorIn head bytes words))))
       → _≡_ {A = Outcome} (record {
         answer = Answer.Full;
-        counts = soFar fuel left rewrites put;
+        counts = soFar c₀ fuel left rewrites put;
         monitor = monitorIn head (to .monitor .bytes) (to .monitor .words);
       })
-      (outcome (read image) (length bytes₀) (monitorIn head₀ bytes₀ words₀) none
-      (run (read image .rules) (length bytes₀) fuel (stateOf (monitorIn head₀ bytes₀ words₀))))
+      (upon c₀ (outcome (read image) (length bytes₀) (monitorIn head₀ bytes₀ words₀) none
+      (run (read image .rules) (length bytes₀) fuel (stateOf (monitorIn head₀ bytes₀ words₀)))))
   unfolding stateOf proceed
   full-ends e z l to untaken t =
       let s : State = stateOf (monitorIn head bytes words) in
-      let w = waits (read image) (length bytes₀) (monitorIn head bytes words) facts (omega (arith, z)) in
+      let w = waits (read image) (length bytes₀) (monitorIn head bytes words) facts z in
       let n : left ≡ suc (left - 1) = omega (arith, l) in
-      let u = tried-no (read image .rules) (length bytes₀) (monitorIn head bytes words) (stepOf (read image .rules) s) to untaken
-      (t ∙ ap (λ (n : ℕ). tried (read image .rules) n (monitorIn head bytes words) (stepOf (read image .rules) s)) (k .bytes-kept)) in
+      let u = tried-no (read image .rules) (length bytes₀) (monitorIn head bytes words) (stepOf (read image .rules) s) rewrites put to untaken
+      (t ∙ ap (λ (n : ℕ). addedTo rewrites put (tried (read image .rules) n (monitorIn head bytes words) (stepOf (read image .rules) s))) (k .bytes-kept)) in
       let here : run (read image .rules) (length bytes₀) left s ≡ ended Answer.Full s =
       ap (λ (f : ℕ). run (read image .rules) (length bytes₀) f s) n
       ∙ run-step (read image .rules) (length bytes₀) (left - 1) s (w .0) (w .1) e (w .2)
       ∙ rw (u .0)
       in
       ap
-      (λ (x : Monitor). record { answer = Answer.Full; counts = soFar fuel left rewrites put; monitor = monitorIn head (x .bytes) (x .words) })
+      (λ (x : Monitor). record { answer = Answer.Full; counts = soFar c₀ fuel left rewrites put; monitor = monitorIn head (x .bytes) (x .words) })
       (u .1)
       ∙ ended-here Answer.Full here
 
   -- .. or the run goes on.
-  pub running-next : head .verdict ≡ Standing.None → (head .waiting ≡ 0 → ⊥) → (left ≡ 0 → ⊥) → (to : Tried) → to .taken ≡ true
-      → to ≡ tried (read image .rules) (length bytes) (monitorIn head bytes words) (stepOf (read image .rules) (stateOf (monitorIn head bytes words)))
+  pub running-next : head .verdict ≡ Standing.None → 0 < head .waiting → (left ≡ 0 → ⊥) → (to : Tried) → to .taken ≡ true
+      → to
+      ≡ addedTo rewrites put
+      (tried (read image .rules) (length bytes) (monitorIn head bytes words) (stepOf (read image .rules) (stateOf (monitorIn head bytes words))))
       → length (to .monitor .bytes) ≡ length bytes → length (to .monitor .words) ≡ length words
-      → Running image table bytes₀ words₀ fuel head₀ (to .monitor .bytes) (to .monitor .words) (to .monitor .head) (left - 1) (rewrites + to .rewrites)
-      (put + to .put)
+      → Running image table bytes₀ words₀ fuel c₀ head₀ (to .monitor .bytes) (to .monitor .words) (to .monitor .head) (left - 1) (to .rewrites) (to .put)
   unfolding stateOf stepWaiting proceed counted plus countsOf
   running-next e z l to taken t nb nw =
       record {
@@ -224,8 +249,8 @@ module _ {image table bytes₀ words₀ : List ℕ} {fuel : ℕ} {head₀ : Head
         words-kept = nw ∙ k .words-kept;
         passed = holding-passes (length bytes₀) image table good right (to .monitor) holding;
         fuel-left = omega (arith, k .fuel-left);
-        few-rewrites = omega (arith, l, k .fuel-left, k .few-rewrites, u .rewrites, counts .0);
-        few-put = omega (arith, k .few-put, u .rewrites, u .put, counts .1);
+        few-rewrites = omega (arith, l, k .fuel-left, k .few-rewrites, u .rewritten, counts .0);
+        few-put = omega (arith, l, k .fuel-left, k .few-put, u .put-back, counts .0, counts .1);
         rest = k .rest ∙ on;
       }
     where
@@ -239,11 +264,11 @@ module _ {image table bytes₀ words₀ : List ℕ} {fuel : ℕ} {head₀ : Head
       t′ = stepOf rules s
 
       w : (a : ℕ) × (q : List ℕ) × (s .waiting ≡ a ∷ q)
-      w = waits (read image) (length bytes₀) (monitorIn head bytes words) facts (omega (arith, z))
+      w = waits (read image) (length bytes₀) (monitorIn head bytes words) facts z
 
-      u : Taken rules (length bytes₀) t′ to
-      u = tried-yes rules (length bytes₀) (monitorIn head bytes words) t′ to taken
-          (t ∙ ap (λ (n : ℕ). tried rules n (monitorIn head bytes words) t′) (k .bytes-kept))
+      u : Taken rules (length bytes₀) t′ rewrites put to
+      u = tried-yes rules (length bytes₀) (monitorIn head bytes words) t′ rewrites put to taken
+          (t ∙ ap (λ (n : ℕ). addedTo rewrites put (tried rules n (monitorIn head bytes words) t′)) (k .bytes-kept))
 
       good : valid image ≡ true
       good = passed-valid (length bytes₀) image table (monitorIn head bytes words) (k .passed)
@@ -269,8 +294,8 @@ module _ {image table bytes₀ words₀ : List ℕ} {fuel : ℕ} {head₀ : Head
       counts : (t′ .rewrites ≤ 1) × (t′ .put ≤ 8 * t′ .rewrites)
       counts = rw is-step (step-counts (read image) in-range (s .settled) (w .0) (w .1))
 
-      on : ahead (soFar fuel left rewrites put) (run rules (length bytes₀) left s)
-          ≡ ahead (soFar fuel (left - 1) (rewrites + to .rewrites) (put + to .put)) (run rules (length bytes₀) (left - 1) (stateOf (to .monitor)))
+      on : ahead (soFar c₀ fuel left rewrites put) (run rules (length bytes₀) left s)
+          ≡ ahead (soFar c₀ fuel (left - 1) (to .rewrites) (to .put)) (run rules (length bytes₀) (left - 1) (stateOf (to .monitor)))
       on =
           ap (ahead c) (ap (λ (f : ℕ). run rules (length bytes₀) f s) n ∙ run-step rules (length bytes₀) (left - 1) s (w .0) (w .1) e (w .2) ∙ rw (u .fit))
           ∙ (λ i. record {
@@ -285,25 +310,19 @@ module _ {image table bytes₀ words₀ : List ℕ} {fuel : ℕ} {head₀ : Head
           n = omega (arith, l)
 
           c : Counts
-          c = soFar fuel left rewrites put
+          c = soFar c₀ fuel left rewrites put
 
           c′ : Counts
-          c′ = soFar fuel (left - 1) (rewrites + to .rewrites) (put + to .put)
+          c′ = soFar c₀ fuel (left - 1) (to .rewrites) (to .put)
 
           r : Run
           r = run rules (length bytes₀) (left - 1) (t′ .to)
 
-          one-more : fuel - left + 1 ≡ fuel - (left - 1)
+          one-more : c₀ .steps + (fuel - left) + 1 ≡ c₀ .steps + (fuel - (left - 1))
           one-more = omega (arith, l, k .fuel-left)
 
           sum : plus c (countsOf t′) ≡ c′
-          sum =
-              λ i.
-              record {
-                steps = one-more i;
-                rewrites = rewrites + sym (u .rewrites) i;
-                put = put + sym (u .put) i;
-              }
+          sum = λ i. record { steps = one-more i; rewrites = sym (u .rewritten) i; put = sym (u .put-back) i }
 
           back : stateOf (to .monitor) ≡ t′ .to
           back = rw (u .monitor) (state-back rules (length bytes₀) (t′ .to))

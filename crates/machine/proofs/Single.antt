@@ -1,6 +1,6 @@
 -- A single call made by way of the loop over calls: what that gives back is the call.
 -- Assumes nothing.
-use Prim.Native.Nat.{ℕ, _+_, _-_, _<_}
+use Prim.Native.Nat.{ℕ, suc, _<_}
 use mathlib.Core.Path.{_≡_, refl, sym, ap, _∙_}
 use mathlib.Core.Bool.{true}
 use mathlib.Core.Option.{Option, none, some}
@@ -8,7 +8,7 @@ use mathlib.Core.List.{List, [], _∷_, List·Memᴰ, List·Memᴰ·head, List·
 use native.Mathlib.Omega.{arith}
 use lib.Dec.{ltb}
 use lib.ListN.{getD}
-use borrow.Author.Tests.{ltb-true, le-ltb, ne-eqb}
+use borrow.Author.Tests.{ltb-true}
 use Rattle.rewriting.specs.Lists.{all, over}
 use Rattle.rewriting.proofs.Lists.{and-left, and-right}
 use Rattle.layout.specs.Image.{read}
@@ -21,6 +21,7 @@ use Rattle.machine.specs.Lent.{monitorIn, answerFrom}
 use Rattle.machine.specs.Promise.{Ended, refusalsOf}
 use Rattle.machine.proofs.Sums.{plus-none}
 use Rattle.machine.proofs.CallTheorem.{call-theorem}
+use Rattle.machine.proofs.AnswerKinds.{answer-back}
 
 -- refusals have numbers above 0
 positive : (n : ℕ) (l : List ℕ) → all (λ x. ltb 0 x) l ≡ true → List·Memᴰ n l → 0 < n
@@ -30,23 +31,6 @@ positive n (x ∷ l) h (List·Memᴰ·tail t) = positive n l (and-right (ltb 0 x
 call-positive : (c : Call) (n : ℕ) → List·Memᴰ n (refusalsOf c) → 0 < n
 call-positive (Offer event fuel) n t = positive n (refusalsOf (Offer event fuel)) refl t
 call-positive (GoOn fuel) n t = positive n (refusalsOf (GoOn fuel)) refl t
-
--- an answer is told by its number
-pub answer-back : (a : Answer) → refusedBy a ≡ none → answerFrom (answerNumber a) ≡ a
-unfolding answerNumber refusedBy
-answer-back Answer.Quiet e = refl
-answer-back Answer.Spent e = refl
-answer-back Answer.Full e = refl
-answer-back (Answer.Verdict v) e =
-    let n : 16 + v - 16 ≡ v = omega arith in
-    rw (
-      ne-eqb (16 + v) 0 (λ (p : 16 + v ≡ 0). absurd (omega arith)),
-      ne-eqb (16 + v) 1 (λ (p : 16 + v ≡ 1). absurd (omega arith)),
-      ne-eqb (16 + v) 2 (λ (p : 16 + v ≡ 2). absurd (omega arith)),
-      le-ltb (16 + v) 16 (omega arith),
-      n,
-    )
-answer-back (Answer.Refused n) e = let z : _≡_ {A = ℕ} 0 1 = cc in absurd (omega arith)
 
 module _ (capacity : ℕ) (image table : List ℕ) (m : Monitor) (c : Call) (b : Batched)
     (e : b ≡ batched none m (0 ∷ []) (inTurn capacity image table m (c ∷ []))) where
@@ -67,6 +51,7 @@ module _ (capacity : ℕ) (image table : List ℕ) (m : Monitor) (c : Call) (b :
   -- .. and of one that is not
   record Accepted : Type 0 where
     stop : b .stop ≡ 0
+    accepted : b .accepted ≡ 1
     answer : getD (b .answers) 0 0 ≡ answerNumber (o .answer)
     counts : b .counts ≡ o .counts
     monitor : b .monitor ≡ o .monitor
@@ -78,6 +63,7 @@ module _ (capacity : ℕ) (image table : List ℕ) (m : Monitor) (c : Call) (b :
       let q : b ≡ batched none m (0 ∷ []) rest = e ∙ rw r in
       record {
         stop = ap (λ (x : Batched). x .stop) q;
+        accepted = ap (λ (x : Batched). x .accepted) q;
         answer = ap (λ (x : Batched). getD (x .answers) 0 0) q;
         counts = ap (λ (x : Batched). x .counts) q ∙ plus-none (o .counts);
         monitor = ap (λ (x : Batched). x .monitor) q;
@@ -104,17 +90,17 @@ module _ (capacity : ℕ) (image table : List ℕ) (m : Monitor) (c : Call) (b :
           (λ i. record { answer = Answer.Refused ((k .0) i); counts = noCounts; monitor = monitorIn (m .head) ((k .1) i .bytes) ((k .1) i .words) })
           ∙ sym (k .2)
 
-  -- the call is accepted
-  pub single-taken : b .stop ≡ 0
-      → _≡_ {A = Outcome} (record { answer = answerFrom (getD (b .answers) 0 0); counts = b .counts; monitor = b .monitor }) (callOf capacity image table m c)
-  single-taken z = go (refusedBy (o .answer)) refl
+  -- the call is accepted, and its answer has the number a
+  pub single-taken : b .stop ≡ 0 → (a : ℕ) → ((k : ℕ) → b .accepted ≡ suc k → getD (b .answers) k 0 ≡ a)
+      → _≡_ {A = Outcome} (record { answer = answerFrom a; counts = b .counts; monitor = b .monitor }) (callOf capacity image table m c)
+  single-taken z a last = go (refusedBy (o .answer)) refl
     where
       go : (x : Option ℕ) → refusedBy (o .answer) ≡ x
-          → _≡_ {A = Outcome} (record { answer = answerFrom (getD (b .answers) 0 0); counts = b .counts; monitor = b .monitor }) o
+          → _≡_ {A = Outcome} (record { answer = answerFrom a; counts = b .counts; monitor = b .monitor }) o
       go none r =
           let k : Accepted = is-accepted r in
-          let a : answerFrom (getD (b .answers) 0 0) ≡ o .answer = ap answerFrom (k .answer) ∙ answer-back (o .answer) r in
-          λ i. record { answer = a i; counts = k .counts i; monitor = k .monitor i }
+          let n : answerFrom a ≡ o .answer = ap answerFrom (sym (last 0 (k .accepted)) ∙ k .answer) ∙ answer-back (o .answer) r in
+          λ i. record { answer = n i; counts = k .counts i; monitor = k .monitor i }
       go (some n) r =
           let k = is-stopped n r in
           let p : 0 < n = call-positive c n (done .refused n r .0) in

@@ -2,14 +2,15 @@
 -- Assumes nothing.
 use Prim.Native.Nat.{ℕ, zero, suc, _+_, _-_, _≤_, _<_}
 use mathlib.Core.Path.{_≡_, refl, sym, ap, _∙_}
-use mathlib.Core.Bool.{true, false}
+use mathlib.Core.Bool.{true, false, not}
 use mathlib.Core.Option.{none, some}
 use mathlib.Core.List.{List, [], _∷_, _++_, map, map-append}
 use native.Mathlib.Omega.{arith}
+use lib.Dec.{eqb}
 use lib.ListN as ListN
 use lib.ListN.{length, getD, take, replicate, length-append, length-map}
 use lib.Seq.{paste, take-append-le, take-all, length-take-le}
-use borrow.Author.Tests.{leb-true, le-leb, lt-leb}
+use borrow.Author.Tests.{leb-true, le-leb, lt-leb, eqb-true}
 use Rattle.rewriting.specs.Lists.{prefix}
 use Rattle.rewriting.specs.Rules.{Put, Close, Rule, RuleSet, rule}
 use Rattle.rewriting.proofs.Scan.{EndsWith, ending-left}
@@ -22,9 +23,10 @@ use Rattle.layout.proofs.States.{number-zero}
 use Rattle.machine.specs.declared.Standing.{Standing}
 use Rattle.machine.specs.State.{State, Step, active, replace, settle, step}
 use Rattle.machine.specs.Run.{fits}
-use Rattle.machine.specs.Areas.{Monitor, headOf, areaOf, bytesOf, statesAfter, wordsOf, monitorOf, stateOf, described}
+use Rattle.machine.specs.Areas.{Monitor, headOf, areaOf, bytesOf, statesAfter, wordsOf, monitorOf, stateOf, standsBy, described}
 use Rattle.machine.specs.Calls.{sized, lentChecks}
-use Rattle.machine.specs.Lent.{monitorIn, Passed, wordBefore, Matches, stepWaiting, stepOf, Tried, tried}
+use Rattle.machine.specs.Lent.{monitorIn, Passed, wordBefore, Matches, stepWaiting, stepOf, Tried, tried, standingAfter}
+use Rattle.machine.proofs.AnswerKinds.{stands-after, verdict-taken}
 use Rattle.machine.proofs.Legal.{Legal}
 use Rattle.machine.proofs.Areas.{length-area, length-states-after, states-after-snoc, word-at}
 use Rattle.machine.proofs.Described.{Described, is-described}
@@ -91,6 +93,11 @@ module _ (capacity : ℕ) (image table : List ℕ) (m : Monitor) (ok : Passed ca
   -- the areas are those of the state that they are read as
   pub passed-written : monitorOf (read image .rules) capacity (stateOf m) ≡ m
   passed-written = is-described (read image) capacity m passed-sized passed-described .written
+
+  -- "that verdict's rule (0 with none)"
+  pub zero-rule : m .head .verdict ≡ Standing.None → m .head .rule ≡ 0
+  unfolding standsBy stateOf
+  zero-rule e = eqb-true (m .head .rule) 0 (rw e at (held .legal .stands))
 
 -- "finds its state from the word before it (state 0 at the start)"
 pub word-before : (set : RuleSet) (capacity : ℕ) (m : Monitor) → Held set capacity m
@@ -347,13 +354,13 @@ module _ (set : RuleSet) (capacity : ℕ) (m : Monitor) (h : Held set capacity m
       (tried-full (set .rules) capacity m (record { to = active s (v ++ (e .1)); rewrites = 1; put = length v })
       (rw (length-append v (e .1)) (omega (arith, full, f, w, room, short, nv))))
 
-  -- or the verdict is set
+  -- or the verdict is set: its answer has the number 16 + v
   pub close-step : {first kept : ℕ} {bytes words : List ℕ} → TakenOff first kept bytes words → (v : ℕ)
       → rule (set .rules) i .right ≡ Close v
       → _≡_ {A = Tried}
       (record {
-        taken = true;
-        monitor = monitorIn (record { settled = kept; waiting = m .head .waiting - 1; verdict = Standing.Verdict v; rule = i }) bytes words;
+        taken = not (eqb (16 + v) 2);
+        monitor = monitorIn (record { settled = kept; waiting = m .head .waiting - 1; verdict = standingAfter (16 + v); rule = i }) bytes words;
         rewrites = 1;
         put = 0;
       })
@@ -364,7 +371,7 @@ module _ (set : RuleSet) (capacity : ℕ) (m : Monitor) (h : Held set capacity m
       let room : length (stateOf m .settled) + suc (length (e .1)) ≤ capacity = first-room set capacity m h (e .0) (e .1) (e .2) in
       let s : List ℕ = take kept (stateOf m .settled) in
       let short : length s ≡ kept = kept-length t in
-      rw (replaced kept (t .kept-is), r)
+      rw (replaced kept (t .kept-is), r, stands-after v, verdict-taken v)
       (tried-taken (set .rules) capacity m
       (record { to = record { settled = s; waiting = e .1; verdict = Standing.Verdict v; rule = i }; rewrites = 1; put = 0 }) _ 1 0
       (omega (arith, room, short, kept-short t, h .settled-count))

@@ -1,11 +1,11 @@
 -- Loops that write: places set to 0, symbols copied, bytes moved. Each is `paste`, element by element.
 -- Assumes nothing.
 use Prim.Native.Nat.{ℕ, zero, suc, _+_, _-_, _≤_, _<_}
-use mathlib.Core.Path.{_≡_, refl, sym, _∙_}
-use mathlib.Core.List.{List}
+use mathlib.Core.Path.{_≡_, refl, sym, ap, _∙_}
+use mathlib.Core.List.{List, [], _∷_}
 use native.Mathlib.Omega.{arith}
 use lib.ListN.{length, getD, set, drop, replicate, length-replicate, length-drop}
-use lib.Seq.{paste, getD-drop}
+use lib.Seq.{paste, paste-zero, length-paste, getD-drop}
 use Rattle.rewriting.proofs.Copying.{Copying, copying-first, copying-length, copying-next, copying-last, copying-behind}
 
 zero-at : (n i : ℕ) → getD {A = ℕ} (replicate n 0) i 0 ≡ 0
@@ -49,6 +49,50 @@ clearing-last k all = copying-last (k .copying) (omega (arith, k .begun, k .ende
 pub clearing-inside : {d : List ℕ} {from to : ℕ} {xs : List ℕ} {i : ℕ} → Clearing d from to xs i → i < to → i < length xs
 clearing-inside k more =
     omega (arith, k .begun, k .copying .room, copying-length (k .copying))
+
+-- one zero more, before the others
+one-before : (d : List ℕ) (i n : ℕ) → suc i + n ≤ length d
+    → set (paste d (suc i) (replicate n 0) n) i 0 ≡ paste d i (replicate (suc n) 0) (suc n)
+one-before [] i n h = absurd (omega arith)
+one-before (x ∷ d) zero n h =
+    let e : suc zero + n ≡ suc n = omega arith in
+    let f : zero + suc n ≡ suc n = omega arith in
+    rw (e, f)
+one-before (x ∷ d) (suc i) n h =
+    let e : suc (suc i) + n ≡ suc (suc i + n) = omega arith in
+    let f : suc i + suc n ≡ suc (i + suc n) = omega arith in
+    rw (e, f) (ap (λ (l : List ℕ). x ∷ l) (one-before d i n (omega arith)))
+
+-- places are set to 0 from `end` down to `at`
+pub record Popping (d : List ℕ) (end : ℕ) (xs : List ℕ) (at : ℕ) : Type 0 where
+  pub order : at ≤ end
+  pub inside : end ≤ length d
+  pub done : xs ≡ paste d at (replicate (end - at) 0) (end - at)
+
+pub popping-first : (d : List ℕ) (end : ℕ) → end ≤ length d → Popping d end d end
+popping-first d end inside =
+    let e : end - end ≡ 0 = omega arith in
+    record { order = omega arith; inside = inside; done = rw e (paste-zero d end []) }
+
+pub popping-next : {d : List ℕ} {end : ℕ} {xs : List ℕ} {at : ℕ} → Popping d end xs at → 1 ≤ at
+    → Popping d end (set xs (at - 1) 0) (at - 1)
+popping-next {d} {end} {xs} {at} k some =
+    let e : at ≡ suc (at - 1) = omega arith in
+    let n : end - (at - 1) ≡ suc (end - at) = omega (arith, k .order) in
+    record {
+      order = omega (arith, k .order);
+      inside = k .inside;
+      done =
+          ap (λ (l : List ℕ). set l (at - 1) 0)
+          (k .done ∙ ap (λ (i : ℕ). paste d i (replicate (end - at) 0) (end - at)) e)
+          ∙ one-before d (at - 1) (end - at) (omega (arith, k .order, k .inside))
+          ∙ ap (λ (m : ℕ). paste d (at - 1) (replicate m 0) m) (sym n);
+    }
+
+pub popping-length : {d : List ℕ} {end : ℕ} {xs : List ℕ} {at : ℕ} → Popping d end xs at → length xs ≡ length d
+popping-length {d} {end} {xs} {at} k =
+    rw (k .done)
+    (length-paste d at (replicate (end - at) 0) (end - at) (omega (arith, k .order, k .inside)) (rw (length-replicate {A = ℕ}) (omega arith)))
 
 -- the symbols of b from `start` on, to the places from `to` on
 pub source-at : (b : List ℕ) (start k : ℕ) → getD b (start + k) 0 ≡ getD (drop start b) k 0

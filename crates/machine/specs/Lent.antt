@@ -17,8 +17,9 @@ use Rattle.machine.specs.declared.Standing.{Standing}
 use Rattle.machine.specs.Areas.{Head, Monitor, statesAfter, monitorOf, unmatched}
 use Rattle.machine.specs.declared.Answer.{Answer}
 use Rattle.machine.specs.State.{State, Step, step}
-use Rattle.machine.specs.Run.{fits}
-use Rattle.machine.specs.Calls.{Call, Offer, GoOn, lentChecks}
+use Rattle.machine.specs.declared.Counts.{Counts}
+use Rattle.machine.specs.Run.{plus, fits}
+use Rattle.machine.specs.Calls.{Call, Offer, GoOn, Outcome, lentChecks}
 
 -- the monitor of this head and these areas
 abbrev pub monitorIn : Head → List ℕ → List ℕ → Monitor
@@ -90,6 +91,15 @@ tried rules capacity m t =
     (record { taken = true; monitor = monitorOf rules capacity (t .to); rewrites = t .rewrites; put = t .put })
     (record { taken = false; monitor = m; rewrites = 0; put = 0 })
 
+-- the same, behind others with these rewrites and symbols put back
+abbrev pub addedTo : ℕ → ℕ → Tried → Tried
+addedTo rewrites put t =
+    record { taken = t .taken; monitor = t .monitor; rewrites = rewrites + t .rewrites; put = put + t .put }
+
+-- a call behind others with these counts
+abbrev pub upon : Counts → Outcome → Outcome
+upon c o = record { answer = o .answer; counts = plus c (o .counts); monitor = o .monitor }
+
 -- an offer of the event, or a go-on
 unfoldable pub offerOrGoOn : Bool → ℕ → ℕ → Call
 offerOrGoOn true event fuel = Offer event fuel
@@ -103,10 +113,16 @@ offersOrGoesOn offering events fuel = map (λ event. offerOrGoOn offering event 
 abbrev pub appended : ℕ → ℕ → ℕ → List ℕ → List ℕ
 appended capacity event from bytes = set (paste bytes (from - 1) (drop from bytes) (capacity - from)) (capacity - 1) event
 
-abbrev pub oneMore : Head → Head
-oneMore head = record { settled = head .settled; waiting = head .waiting + 1; verdict = Standing.None; rule = head .rule }
+-- the head that a call which is not refused runs from: for an offer one symbol more waits
+abbrev pub taken : Bool → Head → Head
+taken offering head =
+    record { settled = head .settled; waiting = cond offering (head .waiting + 1) (head .waiting); verdict = Standing.None; rule = 0 }
 
 -- the answer with a number, among those that `answerNumber` gives to calls that are not refused
 abbrev pub answerFrom : ℕ → Answer
 answerFrom n =
     cond (eqb n 0) Answer.Quiet (cond (eqb n 1) Answer.Spent (cond (eqb n 2) Answer.Full (cond (ltb n 16) Answer.Quiet (Answer.Verdict (n - 16)))))
+
+-- the verdict that stands after the answer with a number
+abbrev pub standingAfter : ℕ → Standing
+standingAfter n = cond (ltb n 16) Standing.None (Standing.Verdict (n - 16))

@@ -1,60 +1,29 @@
 // Offer, go on and the offers of a batch, where what is lent has been checked: what is left of their refusals, and the run. The
 // module is private: what its functions ask, the check of what is lent has shown.
-ghost use Prim.Native.Nat.{_+_, _-_, _≤_, _<_};
+ghost use Prim.Native.Nat.{ℕ, suc, _+_, _-_, _*_, _≤_, _<_};
 ghost use mathlib.Core.Path.{_≡_};
 ghost use mathlib.Core.Bool.{true, not, cond, _||_};
 ghost use mathlib.Core.Option.{none};
 ghost use lib.Dec.{eqb, ltb};
-ghost use lib.ListN.{length};
+ghost use lib.ListN.{length, getD};
 ghost use Rattle.layout.specs.Image.{read, valid};
+ghost use Rattle.layout.specs.Refusals.{refusal, answered};
 ghost use Rattle.layout.specs.declared.Checked.{Checked};
+ghost use Rattle.machine.specs.declared.Standing.{Standing};
+ghost use Rattle.machine.specs.Run.{noCounts};
 ghost use Rattle.machine.specs.Calls.{callChecks, callOf, decided, answerNumber};
 ghost use Rattle.machine.specs.Batch.{eventsMost, inTurn, batched};
-ghost use Rattle.machine.specs.Lent.{Passed, Starts, rowsIn, widthIn, appended, oneMore, offerOrGoOn, offersOrGoesOn, answerFrom};
-ghost use Rattle.monitor.specs.Lent.{headIn, lent, outcomeFrom, batchFrom};
-use crate::BatchReturned;
+ghost use Rattle.machine.specs.Lent.{Passed, Starts, rowsIn, widthIn, appended, upon, offerOrGoOn, offersOrGoesOn, answerFrom};
+ghost use Rattle.monitor.specs.Lent.{lent, flatIn, flat, countsIn, ranFrom, outcomeFrom, seriesFrom};
 use crate::Head;
 use crate::Returned;
+use crate::Series;
+use crate::flat::Flat;
 use areas::held;
 use image::wide;
 use layout::Checked;
-use machine::Answer;
-use machine::Counts;
 use machine::FUEL_MOST;
-use machine::Standing;
-
-// An answer as a byte.
-fn answer_byte(answer: Answer) -> u8
-    requires { ⌜ answerNumber answer < 256 ⌝ }
-    ensures { λ r. ⌜ r ≡ answerNumber answer ⌝ }
-{
-    match answer {
-        Answer::Quiet => 0,
-        Answer::Spent => 1,
-        Answer::Full => 2,
-        Answer::Verdict(v) => (16 + v) as u8,
-        Answer::Refused(_) => 0,
-    }
-}
-
-// An answer from its byte. No call has a byte from 3 to 15, and Quiet stands for these.
-fn answer_from(byte: u8) -> Answer
-    ensures { λ r. ⌜ r ≡ answerFrom byte ⌝ }
-{
-    if byte == 0 {
-        return Answer::Quiet;
-    }
-    if byte == 1 {
-        return Answer::Spent;
-    }
-    if byte == 2 {
-        return Answer::Full;
-    }
-    if byte < 16 {
-        return Answer::Quiet;
-    }
-    Answer::Verdict((byte - 16) as u64)
-}
+use machine::VERDICT;
 
 // Whether refusal 12 is not called for: the event of an offer is one.
 fn allowed(image: &[u8], offering: bool, event: u8) -> bool
@@ -78,53 +47,73 @@ fn has_room(offering: bool, settled: usize, waiting: usize, capacity: usize) -> 
     true
 }
 
-impl Head {
-    // The same head, put together anew. The loop over calls keeps a head in registers where it is put together from its
-    // fields; a head that is copied whole goes through memory, with the unused bytes beside its verdict.
-    fn anew(self) -> Head
-        ensures { λ r. ⌜ r ≡ self ⌝ }
+impl Flat {
+    // The refusals of a call's own: 12 to 15 of an offer, 13 and 14 of a go-on.
+    fn refusal(
+        self,
+        image: &[u8],
+        capacity: usize,
+        offering: bool,
+        event: u8,
+        fuel: u32,
+    ) -> Checked
+        requires image { ⌜ valid (now image) ≡ true ⌝ }
+        requires held { ⌜ self .settled + self .waiting ≤ capacity ⌝ }
+        ensures { λ r. ⌜ r
+            ≡ answered (refusal (callChecks (read (now (image .entry))) capacity (flatIn self) (offerOrGoOn offering event fuel))) ⌝ }
     {
-        let verdict = self.verdict;
-        match verdict {
-            Standing::None => Head {
-                settled: self.settled,
-                waiting: self.waiting,
-                verdict: Standing::None,
-                rule: self.rule,
-            },
-            Standing::Verdict(v) => Head {
-                settled: self.settled,
-                waiting: self.waiting,
-                verdict: Standing::Verdict(v),
-                rule: self.rule,
-            },
+        if !allowed(image, offering, event) {
+            return Checked::Refused(12);
         }
+        if FUEL_MOST < fuel {
+            return Checked::Refused(13);
+        }
+        if VERDICT <= self.answer {
+            return Checked::Refused(14);
+        }
+        if !has_room(offering, self.settled, self.waiting, capacity) {
+            return Checked::Refused(15);
+        }
+        Checked::Passed
     }
 
-    // The head with the event as the last waiting symbol, for an offer; for a go-on the head as it is.
-    fn taking(self, bytes: &mut [u8], offering: bool, event: u8) -> Head
+    // The head with the event as the last waiting symbol, for an offer; for a go-on the head as it is. No verdict stands.
+    fn taking(self, bytes: &mut [u8], offering: bool, event: u8) -> Flat
         requires room { ⌜ (offering ≡ true → self .waiting < length (now bytes)) ⌝ }
-        ensures head { λ r. ⌜ headIn r ≡ cond offering (oneMore (headIn self)) (headIn self) ⌝ }
+        ensures head { λ r. ⌜ r
+            ≡ record {
+              settled = self .settled;
+              waiting = cond offering (self .waiting + 1) (self .waiting);
+              answer = 0;
+              rule = 0;
+              steps = self .steps;
+              rewrites = self .rewrites;
+              put = self .put;
+            } ⌝ }
         ensures bytes { λ r. ⌜ now (bytes .exit)
             ≡ cond offering (appended (length (now (bytes .entry))) event (length (now (bytes .entry)) - self .waiting) (now (bytes .entry)))
             (now (bytes .entry)) ⌝ }
     {
-        if !offering {
-            return self;
+        let mut waiting = self.waiting;
+        if offering {
+            let capacity = bytes.len();
+            held::move_left(bytes, capacity - waiting);
+            bytes[capacity - 1] = event;
+            waiting += 1;
         }
-        let capacity = bytes.len();
-        held::move_left(bytes, capacity - self.waiting);
-        bytes[capacity - 1] = event;
-        Head {
+        Flat {
             settled: self.settled,
-            waiting: self.waiting + 1,
-            verdict: Standing::None,
-            rule: self.rule,
+            waiting: waiting,
+            answer: 0,
+            rule: 0,
+            steps: self.steps,
+            rewrites: self.rewrites,
+            put: self.put,
         }
     }
 
-    // One call, an offer or a go-on.
-    fn decide(
+    // One call, an offer or a go-on, that nothing refuses.
+    fn call(
         self,
         image: &[u8],
         table: &[u16],
@@ -136,64 +125,22 @@ impl Head {
         offering: bool,
         event: u8,
         fuel: u32,
-    ) -> Returned
-        requires lent { ⌜ Passed (length (now bytes)) (now image) (now table) (lent self (now bytes) (now words)) ⌝ }
+    ) -> Flat
+        requires lent { ⌜ Passed (length (now bytes)) (now image) (now table) (flat self (now bytes) (now words)) ⌝ }
         requires starts { ⌜ Starts (now image) (now starts) ⌝ }
         requires rows { ⌜ rows ≡ rowsIn (now table) ⌝ }
         requires width { ⌜ width ≡ widthIn (now table) ⌝ }
-        ensures { λ r. ⌜ outcomeFrom r (now (bytes .exit)) (now (words .exit))
-            ≡ decided (read (now (image .entry))) (length (now (bytes .entry))) (lent self (now (bytes .entry)) (now (words .entry)))
-            (callChecks (read (now (image .entry))) (length (now (bytes .entry))) (headIn self) (offerOrGoOn offering event fuel))
-            (offerOrGoOn offering event fuel) ⌝ }
+        requires accepted { ⌜ refusal (callChecks (read (now image)) (length (now bytes)) (flatIn self) (offerOrGoOn offering event fuel)) ≡ none ⌝ }
+        requires sums { ⌜ self .steps + self .rewrites + self .put + 10 * fuel < 18446744073709551616 ⌝ }
+        ensures outcome { λ r. ⌜ ranFrom r (now (bytes .exit)) (now (words .exit))
+            ≡ upon (countsIn self) (decided (read (now (image .entry))) (length (now (bytes .entry)))
+            (flat self (now (bytes .entry)) (now (words .entry)))
+            (callChecks (read (now (image .entry))) (length (now (bytes .entry))) (flatIn self) (offerOrGoOn offering event fuel))
+            (offerOrGoOn offering event fuel)) ⌝ }
+        ensures number { λ r. ⌜ answerNumber (answerFrom (r .answer)) ≡ r .answer ⌝ }
     {
-        if !allowed(image, offering, event) {
-            return self.refused(12);
-        }
-        if FUEL_MOST < fuel {
-            return self.refused(13);
-        }
-        let verdict = self.verdict;
-        match verdict {
-            Standing::Verdict(_) => self.refused(14),
-            Standing::None => {
-                if !has_room(offering, self.settled, self.waiting, bytes.len()) {
-                    return self.refused(15);
-                }
-                let head = self.taking(bytes, offering, event);
-                head.run(image, table, rows, width, starts, bytes, words, fuel)
-            }
-        }
-    }
-
-    // The end of a batch.
-    fn stopped(
-        self,
-        stop: u32,
-        accepted: usize,
-        steps: u64,
-        rewrites: u64,
-        put: u64,
-    ) -> BatchReturned
-        ensures { λ r. ⌜ r
-            ≡ record {
-              head = self;
-              refusal = Checked.Passed;
-              stop = stop;
-              accepted = accepted;
-              counts = record { steps = steps; rewrites = rewrites; put = put };
-            } ⌝ }
-    {
-        BatchReturned {
-            head: self,
-            refusal: Checked::Passed,
-            stop: stop,
-            accepted: accepted,
-            counts: Counts {
-                steps: steps,
-                rewrites: rewrites,
-                put: put,
-            },
-        }
+        let head = self.taking(bytes, offering, event);
+        head.run(image, table, rows, width, starts, bytes, words, fuel)
     }
 
     // Calls one after another, up to the first that is refused: an offer of each event or, where `offering` is false, as many goes-on.
@@ -208,24 +155,34 @@ impl Head {
         events: &[u8],
         fuel: u32,
         answers: &mut [u8],
-    ) -> BatchReturned
-        requires lent { ⌜ Passed (length (now bytes)) (now image) (now table) (lent self (now bytes) (now words)) ⌝ }
+    ) -> Series
+        requires lent { ⌜ Passed (length (now bytes)) (now image) (now table) (flat self (now bytes) (now words)) ⌝ }
         requires starts { ⌜ Starts (now image) (now starts) ⌝ }
+        requires counts { ⌜ countsIn self ≡ noCounts ⌝ }
         requires few { ⌜ length (now events) ≤ eventsMost ⌝ }
         requires room { ⌜ length (now events) ≤ length (now answers) ⌝ }
-        ensures { λ r. ⌜ batchFrom r (now (bytes .exit)) (now (words .exit)) (now (answers .exit))
-            ≡ batched none (lent self (now (bytes .entry)) (now (words .entry))) (now (answers .entry))
-            (inTurn (length (now (bytes .entry))) (now (image .entry)) (now (table .entry)) (lent self (now (bytes .entry)) (now (words .entry)))
+        ensures calls { λ r. ⌜ seriesFrom r (now (bytes .exit)) (now (words .exit)) (now (answers .exit))
+            ≡ batched none (flat self (now (bytes .entry)) (now (words .entry))) (now (answers .entry))
+            (inTurn (length (now (bytes .entry))) (now (image .entry)) (now (table .entry)) (flat self (now (bytes .entry)) (now (words .entry)))
             (offersOrGoesOn offering (now (events .entry)) fuel)) ⌝ }
+        ensures last { λ r. ⌜ ((k : ℕ) → r .accepted ≡ suc k → getD (now (answers .exit)) k 0 ≡ r .head .answer) ⌝ }
     {
         let rows = 2 + wide::word(table[0]);
         let width = wide::word(table[1]);
-        let mut head = self.anew();
-        let mut steps: u64 = 0;
-        let mut rewrites: u64 = 0;
-        let mut put: u64 = 0;
+        let mut head = self;
         for k in 0..events.len() {
-            let called = head.decide(
+            let event = events[k];
+            match head.refusal(image, bytes.len(), offering, event, fuel) {
+                Checked::Refused(n) => {
+                    return Series {
+                        head: head,
+                        stop: n,
+                        accepted: k,
+                    };
+                }
+                Checked::Passed => {}
+            }
+            head = head.call(
                 image,
                 table,
                 rows,
@@ -234,27 +191,21 @@ impl Head {
                 bytes,
                 words,
                 offering,
-                events[k],
+                event,
                 fuel,
             );
-            let answer = called.answer;
-            match answer {
-                Answer::Refused(n) => {
-                    return head.stopped(n, k, steps, rewrites, put);
-                }
-                _ => {}
-            }
-            answers[k] = answer_byte(answer);
-            let after = called.head;
-            head = after.anew();
-            steps += called.counts.steps;
-            rewrites += called.counts.rewrites;
-            put += called.counts.put;
+            answers[k] = head.answer as u8;
         }
-        head.stopped(0, events.len(), steps, rewrites, put)
+        Series {
+            head: head,
+            stop: 0,
+            accepted: events.len(),
+        }
     }
+}
 
-    // One call.
+impl Head {
+    // One call: the loop over calls with one event, since a run that has one caller is compiled into that caller's loop.
     pub(crate) fn once(
         self,
         image: &[u8],
@@ -274,7 +225,8 @@ impl Head {
     {
         let events = [event];
         let mut answers = [0u8; 1];
-        let r = self.in_turn(
+        let head = self.flat();
+        let r = head.in_turn(
             image,
             table,
             starts,
@@ -288,12 +240,11 @@ impl Head {
         if r.stop != 0 {
             return self.refused(r.stop);
         }
-        let head = r.head;
-        let counts = r.counts;
+        let last = r.head;
         Returned {
-            head: head,
-            answer: answer_from(answers[0]),
-            counts: counts,
+            head: last.head(),
+            answer: last.answer(),
+            counts: last.counts(),
         }
     }
 }

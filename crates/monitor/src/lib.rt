@@ -12,6 +12,7 @@ ghost use Rattle.machine.specs.Batch.{batchOf};
 ghost use Rattle.monitor.specs.Lent.{headIn, lent, freshFrom, outcomeFrom, batchFrom};
 use areas::described;
 use areas::held;
+use crate::flat::Flat;
 use layout::Checked;
 pub use machine::Answer;
 use machine::CAPACITY;
@@ -21,6 +22,7 @@ use machine::FUEL_MOST;
 pub use machine::Standing;
 
 mod decide;
+mod flat;
 mod steps;
 
 // The monitor's head: how many symbols are settled, how many wait, the verdict or none, and that verdict's rule (0 with none).
@@ -53,12 +55,11 @@ pub struct BatchReturned {
     pub counts: Counts,
 }
 
-// A step that was tried: whether it was taken, the head after it, its rewrites (0 or 1) and the symbols that it put back.
-pub struct Stepped {
-    pub head: Head,
-    pub taken: bool,
-    pub rewrites: u64,
-    pub put: u64,
+// What a list of calls leads to, up to the first that is refused. The stop is 0, or that refusal.
+pub struct Series {
+    pub head: Flat,
+    pub stop: u32,
+    pub accepted: usize,
 }
 
 // The head of a monitor that holds nothing.
@@ -239,7 +240,8 @@ impl Head {
         }
         let mut starts = [0u16; 64];
         held::index(image, &mut starts);
-        self.in_turn(
+        let head = self.flat();
+        let r = head.in_turn(
             image,
             table,
             &starts,
@@ -249,6 +251,14 @@ impl Head {
             events,
             fuel,
             answers,
-        )
+        );
+        let last = r.head;
+        BatchReturned {
+            head: last.head(),
+            refusal: Checked::Passed,
+            stop: r.stop,
+            accepted: r.accepted,
+            counts: last.counts(),
+        }
     }
 }

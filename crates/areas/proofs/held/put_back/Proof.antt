@@ -15,12 +15,12 @@ abbrev Inv-loop : tie.InvT-loop
 Inv-loop image start n bytes₀ to k₀ bytes k = Copying bytes₀ to (drop start image) n bytes k
 
 abbrev μ-loop : tie.MeasureT-loop
-μ-loop image start n bytes₀ to k₀ bytes k = n - k
+μ-loop image start n bytes₀ to k₀ bytes k = 8 - k
 
 loop-holds : tie.Need-loop-holds Inv-loop μ-loop
 loop-holds c =
-    copying-first (c .args .bytes .now) (c .args .to) (drop (c .args .start) (c .args .image .now)) (c .args .n) (c .pre .1)
-    (source-length (c .args .image .now) (c .args .start) (c .args .n) (c .pre .0))
+    copying-first (c .args .bytes .now) (c .args .to) (drop (c .args .start) (c .args .image .now)) (c .args .n) (c .pre .1 .1)
+    (source-length (c .args .image .now) (c .args .start) (c .args .n) (c .pre .1 .0))
 
 add-bytes : tie.Need-add-bytes Inv-loop μ-loop
 add-bytes c = search needs
@@ -33,8 +33,9 @@ add-bytes-2 c = search needs
 
 slice-write-bytes : tie.Need-slice-write-bytes Inv-loop μ-loop
 slice-write-bytes c =
-    let loop = c .before .before in
-    omega (arith, loop .loop .inv .room, copying-length (loop .loop .inv), c .before .loop-test .taken)
+    let if1 = c .before in
+    let loop = if1 .before .before in
+    omega (arith, loop .loop .inv .room, copying-length (loop .loop .inv), if1 .if1 .left)
 
 add-k : tie.Need-add-k Inv-loop μ-loop
 add-k c = search needs
@@ -44,17 +45,27 @@ loop-less c = search needs
 
 loop-again : tie.Need-loop-again Inv-loop μ-loop
 loop-again c =
-    let loop = c .before .before in
+    let if1 = c .before in
+    let loop = if1 .before .before in
     let start = loop .before in
     rw add-one
-    (copying-next _ _ (loop .loop .inv) (c .before .loop-test .taken) refl
+    (copying-next _ _ (loop .loop .inv) (omega (arith, if1 .if1 .left)) refl
     (source-at (start .args .image .now) (start .args .start) (loop .loop .k)))
 
 same-length : tie.Need-same-length Inv-loop μ-loop
 same-length c = copying-length (c .before .loop .inv)
 
 returns : tie.Need-returns Inv-loop μ-loop
-returns c = copying-last (c .before .loop .inv) (c .loop-test .left)
+returns c =
+    let loop = c .before in
+    let start = loop .before in
+    copying-last (loop .loop .inv) (omega (arith, start .pre .0, c .loop-test .left))
+
+same-length-2 : tie.Need-same-length-2 Inv-loop μ-loop
+same-length-2 c = copying-length (c .before .before .loop .inv)
+
+returns-2 : tie.Need-returns-2 Inv-loop μ-loop
+returns-2 c = copying-last (c .before .before .loop .inv) (c .if1 .taken)
 
 pub put-back-spec : {M : Type 1} → statement M
 put-back-spec =
@@ -71,4 +82,6 @@ put-back-spec =
     loop-less
     loop-again
     same-length
-    returns)
+    returns
+    same-length-2
+    returns-2)
