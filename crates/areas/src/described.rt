@@ -1,6 +1,6 @@
 // The check behind refusal 11: whether head and areas are as document 01 describes them. What it asks, the checks of 7, 9 and 10 have
 // shown.
-ghost use Prim.Native.Nat.{_<_};
+ghost use Prim.Native.Nat.{_*_, _≤_};
 ghost use mathlib.Core.Path.{_≡_};
 ghost use mathlib.Core.Bool.{true};
 ghost use lib.ListN.{length, replicate};
@@ -15,8 +15,18 @@ use image::wide;
 use layout::RightSide;
 use machine::Standing;
 
-// Whether all bytes are 0. It looks at them all, so that the loop becomes vector code.
-fn zero_bytes(bytes: &[u8]) -> bool
+// A quarter of n, rounded up to a multiple of 32: a loop of so many turns becomes vector code with nothing left over. From 384 on
+// three of them fit into n.
+fn quarter(n: usize) -> usize
+    requires { ⌜ 384 ≤ n ⌝ }
+    ensures inside { λ r. ⌜ 3 * r ≤ n ⌝ }
+    ensures all { λ r. ⌜ n ≤ 4 * r ⌝ }
+{
+    (n - 1) / 128 * 32 + 32
+}
+
+// Whether all bytes are 0, one after another, where they are too few for quarters.
+fn few_zero_bytes(bytes: &[u8]) -> bool
     ensures { λ r. ⌜ Decides r (now (bytes .entry) ≡ replicate (length (now (bytes .entry))) 0) ⌝ }
 {
     let mut all: u8 = 0;
@@ -26,13 +36,48 @@ fn zero_bytes(bytes: &[u8]) -> bool
     all == 0
 }
 
-// Whether all words are 0.
-fn zero_words(words: &[u16]) -> bool
+// Whether all bytes are 0: three quarters from the start, and one that ends with the bytes, where some may be looked at twice. A turn
+// takes a byte of each, so that the strides are wide, and the loop has no other way out.
+fn zero_bytes(bytes: &[u8]) -> bool
+    ensures { λ r. ⌜ Decides r (now (bytes .entry) ≡ replicate (length (now (bytes .entry))) 0) ⌝ }
+{
+    if bytes.len() < 384 {
+        return few_zero_bytes(bytes);
+    }
+    let size = quarter(bytes.len());
+    let third = size + size;
+    let last = bytes.len() - size;
+    let mut all: u8 = 0;
+    for i in 0..size {
+        all |= bytes[i] | bytes[size + i] | bytes[third + i] | bytes[last + i];
+    }
+    all == 0
+}
+
+// The same for words.
+fn few_zero_words(words: &[u16]) -> bool
     ensures { λ r. ⌜ Decides r (now (words .entry) ≡ replicate (length (now (words .entry))) 0) ⌝ }
 {
     let mut all: u16 = 0;
     for i in 0..words.len() {
         all |= words[i];
+    }
+    all == 0
+}
+
+// Whether all words are 0, as with bytes.
+fn zero_words(words: &[u16]) -> bool
+    ensures { λ r. ⌜ Decides r (now (words .entry) ≡ replicate (length (now (words .entry))) 0) ⌝ }
+{
+    if words.len() < 384 {
+        return few_zero_words(words);
+    }
+    let size = quarter(words.len());
+    let third = size + size;
+    let last = words.len() - size;
+    let mut all: u16 = 0;
+    for i in 0..size {
+        all |= words[i] | words[size + i] | words[third + i] | words[last + i];
     }
     all == 0
 }
@@ -58,21 +103,22 @@ fn stands_by(image: &[u8], verdict: Standing, rule: usize) -> bool
 }
 
 // Whether these are settled symbols and their words: each symbol below S, each word the state after its symbol, and none
-// of the states has a match. Each word is tested against the one lent before it, so that no turn waits for the one before.
+// of the states has a match. Symbols come first, in a loop that becomes vector code. Each word is tested against the one lent before
+// it, so that no turn waits for the one before.
 fn settled_right(image: &[u8], table: &[u16], symbols: &[u8], words: &[u16]) -> bool
     requires image { ⌜ valid (now image) ≡ true ⌝ }
     requires table { ⌜ prefix (tableOf (read (now image))) (now table) ≡ true ⌝ }
     requires size { ⌜ length (now words) ≡ length (now symbols) ⌝ }
     ensures { λ r. ⌜ Decides r (Settled (read (now (image .entry))) (now (symbols .entry)) (now (words .entry))) ⌝ }
 {
-    let s = image::symbols(image);
+    if !image::all_below(symbols, image[0]) {
+        return false;
+    }
+    let rows = 2 + wide::word(table[0]);
+    let width = wide::word(table[1]);
     for i in 0..symbols.len() {
-        let a = wide::byte(symbols[i]);
-        if s <= a {
-            return false;
-        }
         let q = held::word_before(words, i);
-        let next = held::next_state(table, q, a);
+        let next = held::next_at(table, rows, width, q, wide::byte(symbols[i]));
         if wide::word(words[i]) != next {
             return false;
         }

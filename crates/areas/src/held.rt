@@ -6,21 +6,10 @@ ghost use mathlib.Core.Bool.{true};
 ghost use lib.ListN.{length, getD, set, drop, replicate};
 ghost use lib.Seq.{paste};
 ghost use Rattle.layout.specs.Image.{read, valid};
-ghost use Rattle.machine.specs.Lent.{nextIn, matchIn, wordBefore, Starts};
+ghost use Rattle.machine.specs.Lent.{matchIn, wordBefore, Starts};
 use image::wide;
 
-// The next state of q on symbol a.
-pub(crate) fn next_state(table: &[u16], q: usize, a: usize) -> usize
-    requires header { ⌜ 2 ≤ length (now table) ⌝ }
-    requires inside { ⌜ 2 + getD (now table) 0 0 + q * getD (now table) 1 0 + a < length (now table) ⌝ }
-    ensures { λ r. ⌜ r ≡ nextIn (now (table .entry)) q a ⌝ }
-{
-    let n = wide::word(table[0]);
-    let s = wide::word(table[1]);
-    wide::word(table[2 + n + q * s + a])
-}
-
-// The same, where the rows are known to begin at `rows` and to have `width` words each: a step does not look them up again.
+// The next state of q on symbol a, where the rows begin at `rows` and have `width` words each: a step does not look them up again.
 pub fn next_at(table: &[u16], rows: usize, width: usize, q: usize, a: usize) -> usize
     requires { ⌜ rows + q * width + a < length (now table) ⌝ }
     ensures { λ r. ⌜ r ≡ getD (now (table .entry)) (rows + q * width + a) 0 ⌝ }

@@ -12,7 +12,7 @@ use lib.Dec.{ltb}
 use lib.ListN.{length, getD, take}
 use lib.Seq.{take-all, take-suc, getD-take, length-take-le}
 use borrow.Author.Tests.{ltb-true, lt-ltb}
-use Rattle.rewriting.specs.Lists.{prefix}
+use Rattle.rewriting.specs.Lists.{prefix, below}
 use Rattle.rewriting.specs.Rules.{RuleSet}
 use Rattle.rewriting.proofs.Lists.{and-both, all-append, all-at, getD-map}
 use Rattle.layout.specs.States.{states, number, known, state, next, matching}
@@ -20,9 +20,9 @@ use Rattle.layout.specs.Table.{matchWord, tableOf}
 use Rattle.layout.proofs.Matching.{state-snoc}
 use Rattle.layout.proofs.States.{number-zero, state-known, next-known}
 use Rattle.machine.specs.Areas.{statesAfter, noMatch, unmatched}
-use Rattle.machine.specs.Lent.{nextIn, matchIn, wordBefore, Settled}
+use Rattle.machine.specs.Lent.{rowsIn, widthIn, matchIn, wordBefore, Settled}
 use Rattle.machine.proofs.Areas.{length-states-after, states-after, states-after-snoc}
-use Rattle.machine.proofs.TableWords.{table-header, next-inside, table-next-in, match-inside, table-match-in}
+use Rattle.machine.proofs.TableWords.{next-inside, table-next-in, match-inside, table-match-in}
 
 -- the word before word n, where n is not 0
 pub word-before : (words : List ℕ) (n : ℕ) → (n ≡ 0 → ⊥) → getD words (n - 1) 0 ≡ wordBefore words n
@@ -76,9 +76,6 @@ module _ (set : RuleSet) (symbols words : List ℕ) (h : Settled set symbols wor
   long : i < length (statesAfter (set .rules) [] symbols)
   long = omega (arith, length-states-after (set .rules) [] symbols)
 
-  settled-symbol : getD symbols i 0 < set .symbols
-  settled-symbol = ltb-true _ _ (all-at (λ y. ltb y (set .symbols)) symbols 0 (h .symbols-below) i lt)
-
   settled-word : getD words i 0
       ≡ number (states (set .rules)) (next (set .rules) (state (set .rules) (take i symbols)) (getD symbols i 0))
   settled-word =
@@ -91,10 +88,6 @@ module _ (set : RuleSet) (symbols words : List ℕ) (h : Settled set symbols wor
   settled-unmatched =
       none-match _
       (rw after at (all-at (λ y. noMatch (matching (set .rules) y)) (statesAfter (set .rules) [] symbols) [] (h .no-match) i long))
-
-pub big-symbol : (set : RuleSet) (symbols words : List ℕ) (i : ℕ) → i < length symbols → set .symbols ≤ getD symbols i 0
-    → Settled set symbols words → ⊥
-big-symbol set symbols words i lt big h = omega (arith, big, settled-symbol set symbols words h i lt)
 
 -- the word before word i is the number of the state
 word-number : (set : RuleSet) (symbols words : List ℕ) (i : ℕ) → i ≤ length symbols → Settled set (take i symbols) (take i words)
@@ -110,10 +103,21 @@ word-number set symbols words (suc j) le h =
     ∙ ap (λ (p : List ℕ). number (states (set .rules)) (state (set .rules) p))
     (sym (take-suc (take (suc j) symbols) j 0 (omega arith)) ∙ take-all (suc j) (take (suc j) symbols) (omega arith))
 
--- A turn: w is the word before word i, a the symbol, n the state that the table has after it, m that state's match word.
-module _ (set : RuleSet) (t symbols words : List ℕ) (e : prefix (tableOf set) t ≡ true) (i : ℕ) (more : i < length symbols)
-    (so-far : Settled set (take i symbols) (take i words)) {w a : ℕ} (before : w ≡ wordBefore words i)
-    (symbol : a ≡ getD symbols i 0) (low : a < set .symbols) where
+-- A turn: w is the word before word i, a the symbol.
+pub record Turn (set : RuleSet) (t : List ℕ) (rows width : ℕ) (symbols words : List ℕ) (i w a : ℕ) : Type 0 where
+  pub table : prefix (tableOf set) t ≡ true
+  pub row-first : rows ≡ rowsIn t
+  pub row-width : width ≡ widthIn t
+  pub symbols-below : below (set .symbols) symbols ≡ true
+  pub more : i < length symbols
+  pub fits : i < length words
+  pub so-far : Settled set (take i symbols) (take i words)
+  pub word : w ≡ wordBefore words i
+  pub symbol : a ≡ getD symbols i 0
+
+-- n is the state that the table has after it, m that state's match word.
+module _ {set : RuleSet} {t : List ℕ} {rows width : ℕ} {symbols words : List ℕ} {i w a : ℕ}
+    (turn : Turn set t rows width symbols words i w a) where
   abbrev here : List ℕ
   here = state (set .rules) (take i symbols)
 
@@ -121,12 +125,15 @@ module _ (set : RuleSet) (t symbols words : List ℕ) (e : prefix (tableOf set) 
   here-known = state-known (set .rules) (take i symbols)
 
   w-number : w ≡ number (states (set .rules)) here
-  w-number = before ∙ word-number set symbols words i (omega arith) so-far
+  w-number = turn .word ∙ word-number set symbols words i (omega (arith, turn .more)) (turn .so-far)
 
-  pub next-asks : (2 ≤ length t) × (2 + getD t 0 0 + w * getD t 1 0 + a < length t)
-  next-asks = (table-header set t e, rw w-number (next-inside set t e here here-known a low))
+  low : a < set .symbols
+  low = rw (turn .symbol) (ltb-true _ _ (all-at (λ y. ltb y (set .symbols)) symbols 0 (turn .symbols-below) i (turn .more)))
 
-  module _ {n : ℕ} (is-next : n ≡ nextIn t w a) where
+  pub next-asks : rows + w * width + a < length t
+  next-asks = rw (turn .row-first, turn .row-width, w-number) (next-inside set t (turn .table) here here-known a low)
+
+  module _ {n : ℕ} (is-next : n ≡ getD t (rows + w * width + a) 0) where
     abbrev there : List ℕ
     there = next (set .rules) here a
 
@@ -135,38 +142,36 @@ module _ (set : RuleSet) (t symbols words : List ℕ) (e : prefix (tableOf set) 
 
     n-number : n ≡ number (states (set .rules)) there
     n-number =
-        is-next
-        ∙ ap (λ (k : ℕ). nextIn t k a) w-number
-        ∙ table-next-in set t e here here-known a low
+        is-next ∙ rw (turn .row-first, turn .row-width, w-number) (table-next-in set t (turn .table) here here-known a low)
 
     pub match-asks : 2 + n < length t
-    match-asks = rw n-number (match-inside set t e there there-known)
+    match-asks = rw n-number (match-inside set t (turn .table) there there-known)
 
     pub other-word : (getD words i 0 ≡ n → ⊥) → Settled set symbols words → ⊥
     other-word other h =
         other
-        (settled-word set symbols words h i more
-        ∙ ap (λ (x : ℕ). number (states (set .rules)) (next (set .rules) here x)) (sym symbol)
+        (settled-word set symbols words h i (turn .more)
+        ∙ ap (λ (x : ℕ). number (states (set .rules)) (next (set .rules) here x)) (sym (turn .symbol))
         ∙ sym n-number)
 
     module _ {m : ℕ} (is-match : m ≡ matchIn t n) where
       m-match : m ≡ matchWord (matching (set .rules) there)
-      m-match = is-match ∙ ap (matchIn t) n-number ∙ table-match-in set t e there there-known
+      m-match = is-match ∙ ap (matchIn t) n-number ∙ table-match-in set t (turn .table) there there-known
 
       pub some-match : (m ≡ 0 → ⊥) → Settled set symbols words → ⊥
       some-match some-m h =
           some-m
           (m-match
-          ∙ ap (λ (x : ℕ). matchWord (matching (set .rules) (next (set .rules) here x))) symbol
-          ∙ settled-unmatched set symbols words h i more)
+          ∙ ap (λ (x : ℕ). matchWord (matching (set .rules) (next (set .rules) here x))) (turn .symbol)
+          ∙ settled-unmatched set symbols words h i (turn .more))
 
-      pub settled-more : i < length words → getD words i 0 ≡ n → m ≡ 0 → Settled set (take (i + 1) symbols) (take (i + 1) words)
-      settled-more fits same none-m =
+      pub settled-more : getD words i 0 ≡ n → m ≡ 0 → Settled set (take (i + 1) symbols) (take (i + 1) words)
+      settled-more same none-m =
           let grown =
-          settled-snoc set (take i symbols) (take i words) a (getD words i 0) so-far low (same ∙ n-number) (sym m-match ∙ none-m)
+          settled-snoc set (take i symbols) (take i words) a (getD words i 0) (turn .so-far) low (same ∙ n-number) (sym m-match ∙ none-m)
           in
-          let s : take i symbols ++ a ∷ [] ≡ take (i + 1) symbols = rw (add-one, symbol) (sym (take-suc symbols i 0 more)) in
-          let v : take i words ++ getD words i 0 ∷ [] ≡ take (i + 1) words = rw add-one (sym (take-suc words i 0 fits)) in
+          let s : take i symbols ++ a ∷ [] ≡ take (i + 1) symbols = rw (add-one, turn .symbol) (sym (take-suc symbols i 0 (turn .more))) in
+          let v : take i words ++ getD words i 0 ∷ [] ≡ take (i + 1) words = rw add-one (sym (take-suc words i 0 (turn .fits))) in
           rw (s, v) at grown
 
 pub settled-all : (set : RuleSet) (symbols words : List ℕ) (i : ℕ) → length symbols ≤ i → length words ≤ i

@@ -1,4 +1,4 @@
--- `areas::check::as_described` meets its contract: false at the first test that fails, and the last test decides.
+-- `areas::described::as_described` meets its contract: false at the first test that fails, and the last test decides.
 -- Assumes nothing.
 use Prim.Native.Nat.{_≤_}
 use mathlib.Core.Path.{sym, _∙_}

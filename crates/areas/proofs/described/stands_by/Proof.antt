@@ -1,4 +1,4 @@
--- `areas::check::stands_by` meets its contract, by what the image has for the rule.
+-- `areas::described::stands_by` meets its contract, by what the image has for the rule.
 -- Assumes nothing.
 use native.Mathlib.Omega.{arith}
 use borrow.Author.Needs.{needs}

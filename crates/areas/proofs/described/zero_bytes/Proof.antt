@@ -1,36 +1,92 @@
--- `areas::check::zero_bytes` meets its contract. The loop's invariant: `all` is 0 exactly when the bytes before `i` are.
+-- `areas::described::zero_bytes` meets its contract. The loop's invariant: `all` is 0 exactly when the first i bytes of each quarter are.
 -- Assumes nothing.
 use Prim.Native.Nat.{_-_}
-use native.Mathlib.Omega.{arith}
-use Rattle.machine.proofs.Zeros.{Tells, tells-none, tells-more, tells-all}
+use borrow.Author.Needs.{needs}
+use Rattle.machine.proofs.Zeros.{Tells, quarters, tells-none, tells-more, quarters-all}
 use Rattle.areas.proofs.described.zero_bytes.Statement.{statement}
 use Rattle.areas.proofs.described.zero_bytes.Tie as tie
 
 abbrev Inv-loop : tie.InvT-loop
-Inv-loop bytes all₀ i₀ i-end all i = Tells bytes all i
+Inv-loop bytes size third last all₀ i₀ all i = Tells (quarters bytes size) all i
 
 abbrev μ-loop : tie.MeasureT-loop
-μ-loop bytes all₀ i₀ i-end all i = i-end - i
+μ-loop bytes size third last all₀ i₀ all i = size - i
 
-loop-holds : tie.Need-loop-holds Inv-loop μ-loop
-loop-holds c = tells-none (c .args .bytes .now)
-
-shared-slice-read-all : tie.Need-shared-slice-read-all Inv-loop μ-loop
-shared-slice-read-all c = omega arith
-
-add-i : tie.Need-add-i Inv-loop μ-loop
-add-i c = omega arith
-
-loop-less : tie.Need-loop-less Inv-loop μ-loop
-loop-less c = omega arith
-
-loop-again : tie.Need-loop-again Inv-loop μ-loop
-loop-again c = tells-more (c .before .before .loop .inv) (omega arith)
+few-zero-bytes-requires : tie.Need-few-zero-bytes-requires Inv-loop μ-loop
+few-zero-bytes-requires c κs = search needs
 
 returns : tie.Need-returns Inv-loop μ-loop
-returns c = tells-all (c .before .loop .inv) (omega arith)
+returns c = c .few-zero-bytes .ensures
+
+quarter-requires : tie.Need-quarter-requires Inv-loop μ-loop
+quarter-requires c κs = search needs
+
+add-third : tie.Need-add-third Inv-loop μ-loop
+add-third c = search needs
+
+sub-last : tie.Need-sub-last Inv-loop μ-loop
+sub-last c = search needs
+
+loop-holds : tie.Need-loop-holds Inv-loop μ-loop
+loop-holds c = tells-none
+
+shared-slice-read-all : tie.Need-shared-slice-read-all Inv-loop μ-loop
+shared-slice-read-all c = search needs
+
+add-all : tie.Need-add-all Inv-loop μ-loop
+add-all c = search needs
+
+shared-slice-read-all-2 : tie.Need-shared-slice-read-all-2 Inv-loop μ-loop
+shared-slice-read-all-2 c = search needs
+
+add-all-2 : tie.Need-add-all-2 Inv-loop μ-loop
+add-all-2 c = search needs
+
+shared-slice-read-all-3 : tie.Need-shared-slice-read-all-3 Inv-loop μ-loop
+shared-slice-read-all-3 c = search needs
+
+add-all-3 : tie.Need-add-all-3 Inv-loop μ-loop
+add-all-3 c = search needs
+
+shared-slice-read-all-4 : tie.Need-shared-slice-read-all-4 Inv-loop μ-loop
+shared-slice-read-all-4 c = search needs
+
+add-i : tie.Need-add-i Inv-loop μ-loop
+add-i c = search needs
+
+loop-less : tie.Need-loop-less Inv-loop μ-loop
+loop-less c = search needs
+
+loop-again : tie.Need-loop-again Inv-loop μ-loop
+loop-again c = tells-more (c .before .before .before .before .before .loop .inv)
+
+returns-2 : tie.Need-returns-2 Inv-loop μ-loop
+returns-2 c =
+    let loop = c .before in
+    let quarter = loop .before in
+    let start = quarter .before .before .before in
+    quarters-all (start .args .bytes .now) (quarter .quarter .result) (quarter .quarter .ensures .1) (loop .loop .inv) (c .loop-test .left)
 
 pub zero-bytes-spec : {M : Type 1} → statement M
 zero-bytes-spec =
     tie.close
-    (tie.spec Inv-loop μ-loop loop-holds shared-slice-read-all add-i loop-less loop-again returns)
+    (tie.spec
+    Inv-loop
+    μ-loop
+    few-zero-bytes-requires
+    returns
+    quarter-requires
+    add-third
+    sub-last
+    loop-holds
+    shared-slice-read-all
+    add-all
+    shared-slice-read-all-2
+    add-all-2
+    shared-slice-read-all-3
+    add-all-3
+    shared-slice-read-all-4
+    add-i
+    loop-less
+    loop-again
+    returns-2)
