@@ -6,7 +6,7 @@ use mathlib.Core.Bool.{Bool, true, false, not, cond}
 use mathlib.Core.Option.{none}
 use native.Mathlib.Omega.{arith}
 use lib.Dec.{eqb, ltb}
-use borrow.Author.Tests.{le-ltb, lt-ltb, ne-eqb}
+use borrow.Author.Tests.{le-ltb, lt-ltb, eq-eqb, ne-eqb}
 use Rattle.machine.specs.declared.Standing.{Standing}
 use Rattle.machine.specs.declared.Answer.{Answer}
 use Rattle.machine.specs.Calls.{refusedBy, answerNumber}
@@ -26,20 +26,34 @@ pub number-from : (n : ℕ) → 16 ≤ n → answerNumber (answerFrom n) ≡ n
 unfolding answerNumber
 number-from n h = rw (verdict-from n h) (omega arith)
 
--- .. which then stands, ..
+-- .. which then stands.
 pub stands-from : (n : ℕ) → 16 ≤ n → standingAfter n ≡ Standing.Verdict (n - 16)
 stands-from n h = rw (le-ltb n 16 h)
 
 pub stands-after : (v : ℕ) → standingAfter (16 + v) ≡ Standing.Verdict v
 stands-after v = let n : 16 + v - 16 ≡ v = omega arith in rw (le-ltb (16 + v) 16 (omega arith), n)
 
--- .. and not Full.
+-- A step is taken unless its number is that of Full.
+pub is-taken : (n : ℕ) → (n ≡ 2 → ⊥) → not (eqb n 2) ≡ true
+is-taken n h = rw (ne-eqb n 2 h)
+
 pub verdict-taken : (v : ℕ) → not (eqb (16 + v) 2) ≡ true
-verdict-taken v = rw (ne-eqb (16 + v) 2 (λ (p : 16 + v ≡ 2). absurd (omega arith)))
+verdict-taken v = is-taken (16 + v) (λ (p : 16 + v ≡ 2). absurd (omega arith))
+
+pub is-full : (n : ℕ) → n ≡ 2 → not (eqb n 2) ≡ false
+is-full n h = rw (eq-eqb n 2 h)
 
 -- Below 16 no verdict stands.
 pub none-after : (n : ℕ) → n < 16 → standingAfter n ≡ Standing.None
 none-after n h = rw (lt-ltb n 16 h)
+
+-- Below 16 it is Spent or Full, or else Quiet.
+pub quiet-low : (n : ℕ) → n < 16 → (n ≡ 1 → ⊥) → (n ≡ 2 → ⊥) → answerFrom n ≡ Answer.Quiet
+quiet-low n h s f = rw (ne-eqb n 1 s, ne-eqb n 2 f, lt-ltb n 16 h) (either (eqb n 0))
+  where
+    either : (b : Bool) → cond b Answer.Quiet Answer.Quiet ≡ Answer.Quiet
+    either true = refl
+    either false = refl
 
 -- an answer is told by its number
 pub answer-back : (a : Answer) → refusedBy a ≡ none → answerFrom (answerNumber a) ≡ a

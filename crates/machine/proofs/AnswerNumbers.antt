@@ -72,6 +72,12 @@ passed-lent capacity image table m e =
       holding = passed-holding capacity image table m e;
     }
 
+pub passed-verdict : (capacity : ℕ) (image table : List ℕ) (m : Monitor) → refusal (lentChecks capacity image table m) ≡ none
+    → (v : ℕ) → m .head .verdict ≡ Standing.Verdict v → v < 16
+passed-verdict capacity image table m e =
+    let l : Lent capacity image table m = passed-lent capacity image table m e in
+    holding-verdict capacity image (l .good) m (l .holding)
+
 -- they have passed where a call is accepted
 pub accepted-passed : (capacity : ℕ) (image table : List ℕ) (m : Monitor) (c : Call)
     → refusedBy (callOf capacity image table m c .answer) ≡ none → refusal (lentChecks capacity image table m) ≡ none

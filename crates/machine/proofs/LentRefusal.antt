@@ -29,12 +29,12 @@ use Rattle.machine.specs.Areas.{Head, Monitor, described}
 use Rattle.machine.specs.Calls.{sized, lentChecks}
 use Rattle.machine.specs.Lent.{monitorIn, Passed}
 
-answered-passed : (o : Option ℕ) → answered o ≡ Checked.Passed → o ≡ none
+pub answered-passed : (o : Option ℕ) → answered o ≡ Checked.Passed → o ≡ none
 unfolding answered
 answered-passed none e = refl
 answered-passed (some n) e = let z : _≡_ {A = ℕ} 0 1 = cc in absurd (omega arith)
 
-answered-refused : (o : Option ℕ) (n : ℕ) → answered o ≡ Checked.Refused n → o ≡ some n
+pub answered-refused : (o : Option ℕ) (n : ℕ) → answered o ≡ Checked.Refused n → o ≡ some n
 unfolding answered
 answered-refused none n e = let z : _≡_ {A = ℕ} 0 1 = cc in absurd (omega arith)
 answered-refused (some k) n e = let same : k ≡ n = cc in rw same

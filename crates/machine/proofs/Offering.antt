@@ -10,7 +10,7 @@ use native.Mathlib.Nat.{suc-mul, mul-le-mul}
 use native.Mathlib.Numerals.{add-one}
 use lib.Dec.{eqb}
 use lib.ListN.{length, getD, set, take, drop, length-set, take-append-drop, drop-of-length-le, length-map}
-use lib.Seq.{length-take-le, append-snoc, drop-cons, drop-drop, drop-set-lt, take-suc-set}
+use lib.Seq.{length-take-le, append-snoc, drop-cons, drop-drop, drop-set-lt, take-suc-set, getD-set-same}
 use borrow.Author.Tests.{eqb-true}
 use Rattle.rewriting.specs.Lists.{over}
 use Rattle.rewriting.proofs.Lists.{and-left, and-right, getD-map}
@@ -214,6 +214,12 @@ module _ {capacity : ℕ} {image table : List ℕ} {m : Monitor} {calls : List C
         offering-next h e =
             subst (λ (x : Outcome). Offering capacity image table m calls answers (x .monitor) (set b k (answerNumber (x .answer))) (x .counts) (suc k))
             (sym is) (next-one h (rw is at e))
+
+-- the answer byte that was written last
+pub written-last : (b : List ℕ) (k a : ℕ) → k < length b → (j : ℕ) → k + 1 ≡ suc j → getD (set b k a) j 0 ≡ a
+written-last b k a h j e =
+    let same : j ≡ k = omega arith in
+    rw same (getD-set-same b k a 0 h)
 
 -- The call of event k, among those of all events.
 pub call-at : (offering : Bool) (events : List ℕ) (fuel k : ℕ) → k < length events

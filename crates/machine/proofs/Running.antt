@@ -2,10 +2,11 @@
 -- Assumes nothing.
 use Prim.Native.Nat.{ℕ, zero, suc, _+_, _-_, _*_, _≤_, _<_}
 use mathlib.Core.Path.{_≡_, refl, sym, ap, _∙_, subst}
-use mathlib.Core.Bool.{Bool, true, false}
+use mathlib.Core.Bool.{Bool, true, false, cond}
 use mathlib.Core.Option.{none}
 use mathlib.Core.List.{List, [], _∷_}
 use native.Mathlib.Omega.{arith}
+use native.Mathlib.Nat.{add-zero}
 use lib.ListN.{length}
 use Rattle.rewriting.specs.Lists.{prefix}
 use Rattle.rewriting.specs.Rules.{Rule}
@@ -89,6 +90,36 @@ tried-yes rules capacity m t rewrites put to e p = go (fits capacity (t .to)) re
         let z : to .taken ≡ false = ap (λ (x : Tried). x .taken) (rw f at p) in
         let y : _≡_ {A = ℕ} 0 1 = cc in
         absurd (omega arith)
+
+-- A step without a rewrite adds nothing.
+pub added-none : (rewrites put : ℕ) (m : Monitor) (to : Tried) → record { taken = true; monitor = m; rewrites = 0; put = 0 } ≡ to
+    → record { taken = true; monitor = m; rewrites = rewrites; put = put } ≡ addedTo rewrites put to
+added-none rewrites put m to e =
+    (λ i. record { taken = true; monitor = m; rewrites = sym (add-zero rewrites) i; put = sym (add-zero put) i })
+    ∙ ap (addedTo rewrites put) e
+
+-- A step that was tried makes at most one rewrite, and puts back at most 8 symbols.
+pub tried-counts : (capacity : ℕ) (image table : List ℕ) (m : Monitor) → Passed capacity image table m → (a : ℕ) (q : List ℕ)
+    → stateOf m .waiting ≡ a ∷ q → (to : Tried) → to ≡ tried (read image .rules) capacity m (stepOf (read image .rules) (stateOf m))
+    → (to .rewrites ≤ 1) × (to .put ≤ 8)
+unfolding stepWaiting tried
+tried-counts capacity image table m ok a q w to e = rw e (go (fits capacity (t .to)))
+  where
+    t : Step
+    t = stepOf (read image .rules) (stateOf m)
+
+    counts : (t .rewrites ≤ 1) × (t .put ≤ 8 * t .rewrites)
+    counts =
+        rw w
+        (step-counts (read image) (ranges (read image) (valid-in-range image (passed-valid capacity image table m ok))) (stateOf m .settled) a q)
+
+    go : (b : Bool)
+        → (cond {A = Tried} b (record { taken = true; monitor = monitorOf (read image .rules) capacity (t .to); rewrites = t .rewrites; put = t .put })
+        (record { taken = false; monitor = m; rewrites = 0; put = 0 }) .rewrites ≤ 1)
+        × (cond {A = Tried} b (record { taken = true; monitor = monitorOf (read image .rules) capacity (t .to); rewrites = t .rewrites; put = t .put })
+        (record { taken = false; monitor = m; rewrites = 0; put = 0 }) .put ≤ 8)
+    go true = (counts .0, omega (arith, counts .0, counts .1))
+    go false = (omega arith, omega arith)
 
 -- the counts c and then the run r
 abbrev ahead : Counts → Run → Run
@@ -326,3 +357,22 @@ module _ {image table bytes₀ words₀ : List ℕ} {fuel : ℕ} {c₀ : Counts}
 
           back : stateOf (to .monitor) ≡ t′ .to
           back = rw (u .monitor) (state-back rules (length bytes₀) (t′ .to))
+
+-- A run that has nothing to do.
+pub quiet-at-once : (image table bytes words : List ℕ) (fuel : ℕ) (c₀ : Counts) (head : Head) → Passed (length bytes) image table (monitorIn head bytes words)
+    → head .verdict ≡ Standing.None → head .waiting ≡ 0
+    → _≡_ {A = Outcome} (record {
+      answer = Answer.Quiet;
+      counts = record { steps = c₀ .steps + 0; rewrites = c₀ .rewrites; put = c₀ .put };
+      monitor = monitorIn head bytes words;
+    })
+    (upon c₀ (outcome (read image) (length bytes) (monitorIn head bytes words) none
+    (run (read image .rules) (length bytes) fuel (stateOf (monitorIn head bytes words)))))
+quiet-at-once image table bytes words fuel c₀ head ok e z =
+    let n : 0 ≡ fuel - fuel = omega arith in
+    (λ i. record {
+      answer = Answer.Quiet;
+      counts = record { steps = c₀ .steps + n i; rewrites = c₀ .rewrites; put = c₀ .put };
+      monitor = monitorIn head bytes words;
+    })
+    ∙ quiet-ends (running-first image table bytes words fuel c₀ head ok) e z

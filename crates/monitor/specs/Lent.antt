@@ -17,7 +17,7 @@ use Rattle.machine.specs.Calls.{Fresh, Outcome}
 use Rattle.machine.specs.Batch.{Batched}
 use Rattle.machine.specs.declared.Standing.{Standing}
 use Rattle.machine.specs.declared.Counts.{Counts}
-use Rattle.machine.specs.Lent.{monitorWith, Tried, answerFrom, standingAfter}
+use Rattle.machine.specs.Lent.{Tried, answerFrom, standingAfter}
 
 -- the head, as the definitions have it
 abbrev pub headIn : Head → Areas.Head
@@ -58,8 +58,11 @@ abbrev pub flat : Flat → List ℕ → List ℕ → Monitor
 flat f bytes words = record { head = flatIn f; bytes = bytes; words = words }
 
 -- .. that with no verdict, from which a step or a run begins, ..
+abbrev pub activeIn : Flat → Areas.Head
+activeIn f = record { settled = f .settled; waiting = f .waiting; verdict = Standing.None; rule = 0 }
+
 abbrev pub active : Flat → List ℕ → List ℕ → Monitor
-active f bytes words = monitorWith (f .settled) (f .waiting) Standing.None 0 bytes words
+active f bytes words = record { head = activeIn f; bytes = bytes; words = words }
 
 -- .. and the counts.
 abbrev pub countsIn : Flat → Counts

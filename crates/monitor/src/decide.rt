@@ -49,14 +49,7 @@ fn has_room(offering: bool, settled: usize, waiting: usize, capacity: usize) -> 
 
 impl Flat {
     // The refusals of a call's own: 12 to 15 of an offer, 13 and 14 of a go-on.
-    fn refusal(
-        self,
-        image: &[u8],
-        capacity: usize,
-        offering: bool,
-        event: u8,
-        fuel: u32,
-    ) -> Checked
+    fn refusal(self, image: &[u8], capacity: usize, offering: bool, event: u8, fuel: u32) -> Checked
         requires image { ⌜ valid (now image) ≡ true ⌝ }
         requires held { ⌜ self .settled + self .waiting ≤ capacity ⌝ }
         ensures { λ r. ⌜ r

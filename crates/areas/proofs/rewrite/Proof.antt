@@ -24,25 +24,20 @@ use Rattle.areas.proofs.rewrite.Tie as tie
 -- a slice's length is far below what a usize holds
 
 long : (c : tie.After-slice-known2) → length (c .before .before .before .before .before .args .bytes .now) + 16 < 18446744073709551616
-
 long c = omega arith
 
 -- what is lent
 
 abbrev given : tie.Start → Monitor
-
 given s = monitorWith (s .args .settled) (s .args .waiting) Standing.None 0 (s .args .bytes .now) (s .args .words .now)
 
 facts : (s : tie.Start) → Held (read (s .args .image .now)) (length (s .args .bytes .now)) (given s)
-
 facts s = held (length (s .args .bytes .now)) (s .args .image .now) (s .args .table .now) (given s) (s .pre .0)
 
 good : (s : tie.Start) → valid (s .args .image .now) ≡ true
-
 good s = passed-valid (length (s .args .bytes .now)) (s .args .image .now) (s .args .table .now) (given s) (s .pre .0)
 
 is-rule : (s : tie.Start) → s .args .i < length (read (s .args .image .now) .rules)
-
 is-rule s = matched-rule (read (s .args .image .now)) (length (s .args .bytes .now)) (given s) (facts s) (s .args .i) (s .pre .1 .1)
 
 -- the left side has 1 to 8 symbols, the last of them waits, and those before it are settled
@@ -56,7 +51,6 @@ record Sizes (s : tie.Start) (size : ℕ) : Type 0 where
   words : length (s .args .words .now) ≡ length (s .args .bytes .now)
 
 sizes : (s : tie.Start) (size : ℕ) → size ≡ length (rule (read (s .args .image .now) .rules) (s .args .i) .left) → Sizes s size
-
 sizes s size e =
     let set = read (s .args .image .now) in
     let capacity = length (s .args .bytes .now) in
@@ -74,18 +68,15 @@ sizes s size e =
 
 string : (s : tie.Start) (n : ℕ) → rightSideOf (rule (read (s .args .image .now) .rules) (s .args .i) .right) ≡ RightSide.Put n
     → (v : List ℕ) × (rule (read (s .args .image .now) .rules) (s .args .i) .right ≡ Put v) × (n ≡ length v)
-
 string s n e = is-put (rule (read (s .args .image .now) .rules) (s .args .i) .right) n e
 
 few : (s : tie.Start) (n : ℕ) → rightSideOf (rule (read (s .args .image .now) .rules) (s .args .i) .right) ≡ RightSide.Put n → n ≤ 8
-
 few s n e =
     let r = string s n e in
     omega (arith, r .2, put-few (s .args .image .now) (good s) (s .args .i) (is-rule s) (r .0) (r .1))
 
 within : (s : tie.Start) (n : ℕ) → rightSideOf (rule (read (s .args .image .now) .rules) (s .args .i) .right) ≡ RightSide.Put n
     → getD (s .args .starts .now) (s .args .i) 0 + n ≤ length (s .args .image .now)
-
 within s n e =
     let r = string s n e in
     omega (arith, r .2, put-within (s .args .image .now) (good s) (s .args .i) (is-rule s) (r .0) (r .1), s .pre .1 .0 (s .args .i) (is-rule s) .1)
@@ -94,7 +85,6 @@ within s n e =
 
 verdict : (s : tie.Start) (v : ℕ) → rightSideOf (rule (read (s .args .image .now) .rules) (s .args .i) .right) ≡ RightSide.Close v
     → rule (read (s .args .image .now) .rules) (s .args .i) .right ≡ Close v
-
 verdict s v e = is-close (rule (read (s .args .image .now) .rules) (s .args .i) .right) v e
 
 sub-first : tie.Need-sub-first
