@@ -108,6 +108,7 @@ pub fn read_tokens(
     ensures { λ r. ⌜ FinishedIs (readText (now (text .entry))) r
         (now (symbols .exit)) (now (words .exit)) (now (contents .exit)) (now (bodies .exit)) ⌝ }
 {
+    let classes = bytes::class_table();
     let mut reader = begin(words);
     let mut at: usize = 0;
     'tokens: loop {
@@ -118,9 +119,9 @@ pub fn read_tokens(
         let from = start + bytes::lead_of(&text[start..]);
         let mut end = from;
         loop {
-            let b = bytes::byte_at(text, end);
-            if !bytes::is_name_byte(b) {
-                if bytes::is_separator(b) {
+            let class = bytes::class_at(&classes, text, end);
+            if class != bytes::NAME_BYTE {
+                if class == bytes::SEPARATOR {
                     break;
                 }
                 break 'tokens Finished::Bad(3, start);

@@ -15,8 +15,10 @@ use borrow.Author.Tests.{ltb-true, ltb-false, eqb-true}
 use Rattle.rewriting.specs.Lists.{all}
 use Rattle.tokens.specs.declared.Kind.{Kind}
 use Rattle.grammar.specs.Tokens.{separator, nameByte, unbroken, tokenOf}
+use Rattle.tokens.specs.Classes.{separatorClass, nameClass, classOf}
 use Rattle.tokens.specs.Scanned.{lead, kindOf, tokenAs, Named}
-use Rattle.tokens.proofs.ByteTests.{false-true, name-no-separator}
+use Rattle.tokens.proofs.ByteTests.{false-true}
+use Rattle.tokens.proofs.Classes.{class-separator, class-name, class-other}
 use Rattle.grammar.proofs.Runs.{unbroken-le, unbroken-take, restOf, stopOf}
 use Rattle.tokens.proofs.TokenOf.{nameOf, told}
 
@@ -121,30 +123,46 @@ pub record Scanning (text : List ℕ) (start from end : ℕ) : Type 0 where
 pub scanning-first : {text : List ℕ} {start from : ℕ} → Leading text start from → Scanning text start from from
 scanning-first l = record { stop = l .stop; passed = refl; behind = omega arith; within = l .within }
 
-module _ {text : List ℕ} {start from end : ℕ} (s : Scanning text start from end) where
-  pub scanning-inside : nameByte (getD text end 32) ≡ true → end < length text
-  scanning-inside e = rest-inside text end (name-no-separator (getD text end 32) e)
+-- The next byte, by its class.
+module _
+    {text : List ℕ} {start from end class : ℕ} (s : Scanning text start from end) (looked : class ≡ classOf (getD text end 32)) where
+  -- it may be in a name
+  module _ (named : class ≡ nameClass) where
+    name : (separator (getD text end 32) ≡ false) × (nameByte (getD text end 32) ≡ true)
+    name = class-name (getD text end 32) (sym looked ∙ named)
 
-  pub scanning-next : nameByte (getD text end 32) ≡ true → Scanning text start from (end + 1)
-  scanning-next e =
-      let byte = rest-byte text end (name-no-separator (getD text end 32) e) in
-      record {
-        stop = s .stop ∙ omega (arith, ap length byte);
-        passed = s .passed ∙ rw (byte, e);
-        behind = omega (arith, s .behind);
-        within = omega (arith, scanning-inside e);
-      }
+    pub scanning-inside : end < length text
+    scanning-inside = rest-inside text end (name .0)
+
+    pub scanning-next : Scanning text start from (end + 1)
+    scanning-next =
+        let byte = rest-byte text end (name .0) in
+        record {
+          stop = s .stop ∙ omega (arith, ap length byte);
+          passed = s .passed ∙ rw (byte, name .1);
+          behind = omega (arith, s .behind);
+          within = omega (arith, scanning-inside);
+        }
 
   -- a separator: here the run ends
-  pub scanning-stop : separator (getD text end 32) ≡ true → end ≡ stopOf text start
-  scanning-stop e = omega (arith, s .stop, ap length (rest-none text end e))
+  module _ (apart : class ≡ separatorClass) where
+    none-left : restOf text end ≡ []
+    none-left = rest-none text end (class-separator (getD text end 32) (sym looked ∙ apart))
 
-  pub scanning-passed : separator (getD text end 32) ≡ true → all nameByte (restOf text from) ≡ true
-  scanning-passed e = s .passed ∙ rw (rest-none text end e)
+    pub scanning-stop : end ≡ stopOf text start
+    scanning-stop = omega (arith, s .stop, ap length none-left)
+
+    pub scanning-passed : all nameByte (restOf text from) ≡ true
+    scanning-passed = s .passed ∙ rw none-left
 
   -- neither
-  pub scanning-breaks : nameByte (getD text end 32) ≡ false → separator (getD text end 32) ≡ false → all nameByte (restOf text from) ≡ false
-  scanning-breaks e f = s .passed ∙ rw (rest-byte text end f, e)
+  pub scanning-breaks : (class ≡ nameClass → ⊥) → (class ≡ separatorClass → ⊥) → all nameByte (restOf text from) ≡ false
+  scanning-breaks not-named not-apart =
+      let other =
+      class-other (getD text end 32) (λ (e : classOf (getD text end 32) ≡ nameClass). not-named (looked ∙ e))
+      (λ (e : classOf (getD text end 32) ≡ separatorClass). not-apart (looked ∙ e))
+      in
+      s .passed ∙ rw (rest-byte text end (other .0), other .1)
 
 -- a part of a text, as a slice of it is handed on
 abbrev pub bytesOf : List ℕ → ℕ → ℕ → List ℕ
