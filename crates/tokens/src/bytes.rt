@@ -5,7 +5,7 @@ ghost use lib.ListN.{length, getD, drop};
 ghost use Rattle.rewriting.specs.Lists.{same, between};
 ghost use Rattle.grammar.specs.Tokens.{separator, letter, unbroken};
 ghost use Rattle.grammar.specs.FirstRun.{gap};
-ghost use Rattle.tokens.specs.Classes.{classOf, classTable};
+ghost use Rattle.tokens.specs.Classes.{classOf, classTable, namePair};
 ghost use Rattle.tokens.specs.Scanned.{lead, namedAs, kindOf};
 use crate::Kind;
 use grammar::NAME_BYTES;
@@ -16,8 +16,8 @@ pub const SEPARATOR: u8 = b's';
 // The class of a byte that may be in a name: a letter, a digit or `_`.
 pub const NAME_BYTE: u8 = b'n';
 
-// The class of each byte, 32 to a line; `-` is that of all others. The reader takes the table once for a text: a constant is put on
-// the stack wherever it is used.
+// The class of each byte, 32 to a line; `-` is that of all others. It is taken once for a text: a constant is put on the stack
+// wherever it is used.
 pub fn class_table() -> [u8; 256]
     ensures { λ r. ⌜ r ≡ classTable ⌝ }
 {
@@ -115,6 +115,23 @@ pub fn class_at(classes: &[u8; 256], text: &[u8], i: usize) -> u8
         return classes[text[i] as usize];
     }
     SEPARATOR
+}
+
+// Whether the byte at a place and the one behind it may both be in a name. Long names are read faster by two bytes at a time.
+pub fn is_name_pair(classes: &[u8; 256], text: &[u8], i: usize) -> bool
+    requires { ⌜ now classes ≡ classTable ⌝ }
+    ensures { λ r. ⌜ r ≡ namePair (now (text .entry)) i ⌝ }
+{
+    if text.len() < 2 {
+        return false;
+    }
+    if text.len() - 2 < i {
+        return false;
+    }
+    if classes[text[i] as usize] != NAME_BYTE {
+        return false;
+    }
+    classes[text[i + 1] as usize] == NAME_BYTE
 }
 
 // How many bytes stand before the name of a run that begins here: those of `#`, `.` and `->`.

@@ -16,6 +16,8 @@ use Rattle.tokens.proofs.RunBytes.{
   scanning-stop,
   scanning-passed,
   scanning-breaks,
+  pair-inside,
+  pair-next,
   bytes-some,
   run-no-token,
   run-token,
@@ -122,31 +124,53 @@ loop-holds c =
     let d = leading t (l .at + f .result) _ w (c .lead-of .ensures) in
     scanning-first d
 
-class-at-requires : tie.Need-class-at-requires Inv-loop μ-loop Inv-tokens μ-tokens
-class-at-requires c κs =
+is-name-pair-requires : tie.Need-is-name-pair-requires Inv-loop μ-loop Inv-tokens μ-tokens
+is-name-pair-requires c κs =
     let class-table = c .before .before .before .before .before .before .before .before .before .before .before .before in
     class-table .class-table .ensures
 
 add-end : tie.Need-add-end Inv-loop μ-loop Inv-tokens μ-tokens
 add-end c =
-    let start = c .before .before .before .before .before .before .before .before .before .before .before .before .before .before .before .before .before
-    .before .before .before in
-    let e = c .before .before .before .loop in
-    omega (arith, start .good .0, scanning-inside (e .inv) (c .before .class-at .ensures) (c .if2 .left))
+    let loop = c .before .before .before in
+    let start = loop .before .before .before .before .before .before .before .before .before .before .before .before .before .before .before .before .before in
+    omega (arith, start .good .0, pair-inside (loop .loop .inv) (sym (c .before .is-name-pair .ensures) ∙ c .if2 .taken))
 
 loop-less : tie.Need-loop-less Inv-loop μ-loop Inv-tokens μ-tokens
 loop-less c =
     let e = c .before .before .before .loop in
-    omega (arith, scanning-inside (e .inv) (c .before .class-at .ensures) (c .if2 .left))
+    omega (arith, pair-inside (e .inv) (sym (c .before .is-name-pair .ensures) ∙ c .if2 .taken))
 
 loop-again : tie.Need-loop-again Inv-loop μ-loop Inv-tokens μ-tokens
 loop-again c =
     let e = c .before .before .before .loop in
-    scanning-next (e .inv) (c .before .class-at .ensures) (c .if2 .left)
+    pair-next (e .inv) (sym (c .before .is-name-pair .ensures) ∙ c .if2 .taken)
+
+class-at-requires : tie.Need-class-at-requires Inv-loop μ-loop Inv-tokens μ-tokens
+class-at-requires c κs =
+    let class-table = c .before .before .before .before .before .before .before .before .before .before .before .before .before .before .before in
+    class-table .class-table .ensures
+
+add-end-2 : tie.Need-add-end-2 Inv-loop μ-loop Inv-tokens μ-tokens
+add-end-2 c =
+    let loop = c .before .before .before .before .before .before in
+    let start = loop .before .before .before .before .before .before .before .before .before .before .before .before .before .before .before .before .before in
+    omega (arith, start .good .0, scanning-inside (loop .loop .inv) (c .before .class-at .ensures) (c .if3 .left))
+
+loop-less-2 : tie.Need-loop-less-2 Inv-loop μ-loop Inv-tokens μ-tokens
+loop-less-2 c =
+    let loop = c .before .before .before .before .before .before in
+    let e = loop .loop in
+    omega (arith, scanning-inside (e .inv) (c .before .class-at .ensures) (c .if3 .left))
+
+loop-again-2 : tie.Need-loop-again-2 Inv-loop μ-loop Inv-tokens μ-tokens
+loop-again-2 c =
+    let loop = c .before .before .before .before .before .before in
+    let e = loop .loop in
+    scanning-next (e .inv) (c .before .class-at .ensures) (c .if3 .left)
 
 sub-kind-of : tie.Need-sub-kind-of Inv-loop μ-loop Inv-tokens μ-tokens
 sub-kind-of c =
-    let loop = c .before .before .before .before in
+    let loop = c .before .before .before .before .before .before .before in
     let lead-of = loop .before in
     let gap-of = lead-of .before .before .before in
     let tokens = gap-of .before .before in
@@ -161,7 +185,7 @@ sub-kind-of c =
 
 part-kind-of-start : tie.Need-part-kind-of-start Inv-loop μ-loop Inv-tokens μ-tokens
 part-kind-of-start c =
-    let loop = c .before .before .before .before in
+    let loop = c .before .before .before .before .before .before .before in
     let lead-of = loop .before in
     let gap-of = lead-of .before .before .before in
     let tokens = gap-of .before .before in
@@ -176,13 +200,13 @@ part-kind-of-start c =
 
 part-kind-of-end : tie.Need-part-kind-of-end Inv-loop μ-loop Inv-tokens μ-tokens
 part-kind-of-end c =
-    let e = c .before .before .before .before .loop in
+    let e = c .before .before .before .before .before .before .before .loop in
     e .inv .within
 
 kind-of-requires : tie.Need-kind-of-requires Inv-loop μ-loop Inv-tokens μ-tokens
 kind-of-requires c κs =
     let class-at = c .before .before .before in
-    let loop = class-at .before .before in
+    let loop = class-at .before .before .before .before .before in
     let if1 = loop .before .before .before in
     let gap-of = if1 .before in
     let tokens = gap-of .before .before in
@@ -192,31 +216,34 @@ kind-of-requires c κs =
     let f = gap-of .gap-of in
     let e = loop .loop in
     let b = class-at .class-at .ensures in
-    let stop = scanning-stop (e .inv) b (c .before .if3 .taken) in
+    let stop = scanning-stop (e .inv) b (c .before .if4 .taken) in
     let n = next-run t (l .at) (l .inv .inside) (f .result) (f .ensures) (if1 .if1 .left) (e .end) stop in
     bytes-some t _ _ stop (n .some)
 
 sub-token : tie.Need-sub-token Inv-loop μ-loop Inv-tokens μ-tokens
 sub-token c =
-    let e = c .before .before .before .before .before .before .loop in
+    let loop = c .before .before .before .before .before .before .before .before .before in
+    let e = loop .loop in
     e .inv .behind
 
 part-token-start : tie.Need-part-token-start Inv-loop μ-loop Inv-tokens μ-tokens
 part-token-start c =
-    let e = c .before .before .before .before .before .before .loop in
+    let loop = c .before .before .before .before .before .before .before .before .before in
+    let e = loop .loop in
     e .inv .behind
 
 part-token-end : tie.Need-part-token-end Inv-loop μ-loop Inv-tokens μ-tokens
 part-token-end c =
-    let e = c .before .before .before .before .before .before .loop in
+    let loop = c .before .before .before .before .before .before .before .before .before in
+    let e = loop .loop in
     e .inv .within
 
 token-requires : tie.Need-token-requires Inv-loop μ-loop Inv-tokens μ-tokens
 token-requires c κs =
     let kind-of = c .before .before .before .before .before in
-    let if3 = kind-of .before .before in
-    let class-at = if3 .before .before in
-    let loop = class-at .before .before in
+    let if4 = kind-of .before .before in
+    let class-at = if4 .before .before in
+    let loop = class-at .before .before .before .before .before in
     let lead-of = loop .before in
     let gap-of = lead-of .before .before .before in
     let tokens = gap-of .before .before in
@@ -228,8 +255,8 @@ token-requires c κs =
     let d = leading t (l .at + f .result) _ w (lead-of .lead-of .ensures) in
     let e = loop .loop in
     let b = class-at .class-at .ensures in
-    let stop = scanning-stop (e .inv) b (if3 .if3 .taken) in
-    let p = scanning-passed (e .inv) b (if3 .if3 .taken) in
+    let stop = scanning-stop (e .inv) b (if4 .if4 .taken) in
+    let p = scanning-passed (e .inv) b (if4 .if4 .taken) in
     let g = l .inv in
     let x = run-named d (e .end) stop _ (kind-of .kind-of .ensures) p in
     (going-held g, (x, (symbols-size g, words-size g, g .keeps .contents-size, g .keeps .bodies-size)))
@@ -242,10 +269,10 @@ enum-known-n c = search needs
 
 tokens-less : tie.Need-tokens-less Inv-loop μ-loop Inv-tokens μ-tokens
 tokens-less c =
-    let if3 = c .before .before .before .before .before .before .before .before .before .before .before .before .before .before .before .before .before .before
+    let if4 = c .before .before .before .before .before .before .before .before .before .before .before .before .before .before .before .before .before .before
     .before in
-    let class-at = if3 .before .before in
-    let loop = class-at .before .before in
+    let class-at = if4 .before .before in
+    let loop = class-at .before .before .before .before .before in
     let if1 = loop .before .before .before in
     let gap-of = if1 .before in
     let tokens = gap-of .before .before in
@@ -255,7 +282,7 @@ tokens-less c =
     let f = gap-of .gap-of in
     let e = loop .loop in
     let b = class-at .class-at .ensures in
-    let stop = scanning-stop (e .inv) b (if3 .if3 .taken) in
+    let stop = scanning-stop (e .inv) b (if4 .if4 .taken) in
     let n = next-run t (l .at) (l .inv .inside) (f .result) (f .ensures) (if1 .if1 .left) (e .end) stop in
     omega (arith, n .after, n .some, n .within)
 
@@ -263,9 +290,9 @@ tokens-again : tie.Need-tokens-again Inv-loop μ-loop Inv-tokens μ-tokens
 tokens-again c =
     let token = c .before .before .before .before .before .before .before .before .before .before .before in
     let kind-of = token .before .before .before .before .before .before in
-    let if3 = kind-of .before .before in
-    let class-at = if3 .before .before in
-    let loop = class-at .before .before in
+    let if4 = kind-of .before .before in
+    let class-at = if4 .before .before in
+    let loop = class-at .before .before .before .before .before in
     let lead-of = loop .before in
     let if1 = lead-of .before .before in
     let gap-of = if1 .before in
@@ -278,9 +305,9 @@ tokens-again c =
     let d = leading t (l .at + f .result) _ w (lead-of .lead-of .ensures) in
     let e = loop .loop in
     let b = class-at .class-at .ensures in
-    let stop = scanning-stop (e .inv) b (if3 .if3 .taken) in
+    let stop = scanning-stop (e .inv) b (if4 .if4 .taken) in
     let n = next-run t (l .at) (l .inv .inside) (f .result) (f .ensures) (if1 .if1 .left) (e .end) stop in
-    let p = scanning-passed (e .inv) b (if3 .if3 .taken) in
+    let p = scanning-passed (e .inv) b (if4 .if4 .taken) in
     let g = l .inv in
     let x = run-token d (e .end) stop _ (kind-of .kind-of .ensures) p in
     going-on g n _ _ _ _ _ _ x (token .token .ensures (g .reading) (g .sound) (g .keeps)) _ (c .before .next .given .1)
@@ -322,32 +349,32 @@ returns c =
 
 same-length-5 : tie.Need-same-length-5 Inv-loop μ-loop Inv-tokens μ-tokens
 same-length-5 c =
-    let tokens = c .before .before .before .before .before .before .before .before .before .before in
+    let tokens = c .before .before .before .before .before .before .before .before .before .before .before .before .before in
     let start = tokens .before .before .before .before .before .before .before .before .before .before .before in
     symbols-size (tokens .tokens .inv) ∙ sym (ap length (start .pre .0))
 
 same-length-6 : tie.Need-same-length-6 Inv-loop μ-loop Inv-tokens μ-tokens
 same-length-6 c =
-    let tokens = c .before .before .before .before .before .before .before .before .before .before in
+    let tokens = c .before .before .before .before .before .before .before .before .before .before .before .before .before in
     let start = tokens .before .before .before .before .before .before .before .before .before .before .before in
     words-size (tokens .tokens .inv) ∙ sym (ap length (start .pre .1 .0))
 
 same-length-7 : tie.Need-same-length-7 Inv-loop μ-loop Inv-tokens μ-tokens
 same-length-7 c =
-    let tokens = c .before .before .before .before .before .before .before .before .before .before in
+    let tokens = c .before .before .before .before .before .before .before .before .before .before .before .before .before in
     let start = tokens .before .before .before .before .before .before .before .before .before .before .before in
     tokens .tokens .inv .keeps .contents-size ∙ sym (start .pre .1 .1 .0)
 
 same-length-8 : tie.Need-same-length-8 Inv-loop μ-loop Inv-tokens μ-tokens
 same-length-8 c =
-    let tokens = c .before .before .before .before .before .before .before .before .before .before in
+    let tokens = c .before .before .before .before .before .before .before .before .before .before .before .before .before in
     let start = tokens .before .before .before .before .before .before .before .before .before .before .before in
     tokens .tokens .inv .keeps .bodies-size ∙ sym (start .pre .1 .1 .1)
 
 returns-2 : tie.Need-returns-2 Inv-loop μ-loop Inv-tokens μ-tokens
 returns-2 c =
     let class-at = c .before .before in
-    let loop = class-at .before .before in
+    let loop = class-at .before .before .before .before .before in
     let lead-of = loop .before in
     let if1 = lead-of .before .before in
     let gap-of = if1 .before in
@@ -360,13 +387,13 @@ returns-2 c =
     let d = leading t (l .at + f .result) _ w (lead-of .lead-of .ensures) in
     let e = loop .loop in
     let n = next-run t (l .at) (l .inv .inside) (f .result) (f .ensures) (if1 .if1 .left) _ refl in
-    no-token (l .inv) n _ _ _ _ (run-no-token d (scanning-breaks (e .inv) (class-at .class-at .ensures) (c .before .if2 .taken) (c .if3 .left)))
+    no-token (l .inv) n _ _ _ _ (run-no-token d (scanning-breaks (e .inv) (class-at .class-at .ensures) (c .before .if3 .taken) (c .if4 .left)))
 
 same-length-9 : tie.Need-same-length-9 Inv-loop μ-loop Inv-tokens μ-tokens
 same-length-9 c =
     let token = c .before .before .before .before .before .before .before .before .before .before .before in
     let tokens = token .before .before .before .before .before .before .before .before .before .before .before .before .before .before .before .before .before
-    .before in
+    .before .before .before .before in
     let start = tokens .before .before .before .before .before .before .before .before .before .before .before in
     token .token .kept .1 .1 .1 .0 ∙ symbols-size (tokens .tokens .inv) ∙ sym (ap length (start .pre .0))
 
@@ -374,7 +401,7 @@ same-length-10 : tie.Need-same-length-10 Inv-loop μ-loop Inv-tokens μ-tokens
 same-length-10 c =
     let token = c .before .before .before .before .before .before .before .before .before .before .before in
     let tokens = token .before .before .before .before .before .before .before .before .before .before .before .before .before .before .before .before .before
-    .before in
+    .before .before .before .before in
     let start = tokens .before .before .before .before .before .before .before .before .before .before .before in
     token .token .kept .1 .1 .1 .1 .0 ∙ words-size (tokens .tokens .inv) ∙ sym (ap length (start .pre .1 .0))
 
@@ -382,7 +409,7 @@ same-length-11 : tie.Need-same-length-11 Inv-loop μ-loop Inv-tokens μ-tokens
 same-length-11 c =
     let token = c .before .before .before .before .before .before .before .before .before .before .before in
     let tokens = token .before .before .before .before .before .before .before .before .before .before .before .before .before .before .before .before .before
-    .before in
+    .before .before .before .before in
     let start = tokens .before .before .before .before .before .before .before .before .before .before .before in
     token .token .kept .1 .1 .1 .1 .1 .0 ∙ tokens .tokens .inv .keeps .contents-size ∙ sym (start .pre .1 .1 .0)
 
@@ -390,7 +417,7 @@ same-length-12 : tie.Need-same-length-12 Inv-loop μ-loop Inv-tokens μ-tokens
 same-length-12 c =
     let token = c .before .before .before .before .before .before .before .before .before .before .before in
     let tokens = token .before .before .before .before .before .before .before .before .before .before .before .before .before .before .before .before .before
-    .before in
+    .before .before .before .before in
     let start = tokens .before .before .before .before .before .before .before .before .before .before .before in
     token .token .kept .1 .1 .1 .1 .1 .1 .0 ∙ tokens .tokens .inv .keeps .bodies-size ∙ sym (start .pre .1 .1 .1)
 
@@ -398,9 +425,9 @@ returns-3 : tie.Need-returns-3 Inv-loop μ-loop Inv-tokens μ-tokens
 returns-3 c =
     let token = c .before .before .before .before .before .before .before .before .before .before .before in
     let kind-of = token .before .before .before .before .before .before in
-    let if3 = kind-of .before .before in
-    let class-at = if3 .before .before in
-    let loop = class-at .before .before in
+    let if4 = kind-of .before .before in
+    let class-at = if4 .before .before in
+    let loop = class-at .before .before .before .before .before in
     let lead-of = loop .before in
     let if1 = lead-of .before .before in
     let gap-of = if1 .before in
@@ -413,9 +440,9 @@ returns-3 c =
     let d = leading t (l .at + f .result) _ w (lead-of .lead-of .ensures) in
     let e = loop .loop in
     let b = class-at .class-at .ensures in
-    let stop = scanning-stop (e .inv) b (if3 .if3 .taken) in
+    let stop = scanning-stop (e .inv) b (if4 .if4 .taken) in
     let n = next-run t (l .at) (l .inv .inside) (f .result) (f .ensures) (if1 .if1 .left) (e .end) stop in
-    let p = scanning-passed (e .inv) b (if3 .if3 .taken) in
+    let p = scanning-passed (e .inv) b (if4 .if4 .taken) in
     let g = l .inv in
     let x = run-token d (e .end) stop _ (kind-of .kind-of .ensures) p in
     broken g n _ _ _ _ _ _ x (token .token .ensures (g .reading) (g .sound) (g .keeps)) _ (c .before .n .given .1)
@@ -443,10 +470,14 @@ read-tokens-spec =
     lead-of-requires
     add-from
     loop-holds
-    class-at-requires
+    is-name-pair-requires
     add-end
     loop-less
     loop-again
+    class-at-requires
+    add-end-2
+    loop-less-2
+    loop-again-2
     sub-kind-of
     part-kind-of-start
     part-kind-of-end
