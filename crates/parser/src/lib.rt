@@ -92,8 +92,8 @@ fn ended(reader: Reader, size: usize) -> Finished
     }
 }
 
-// The tokens of a text, up to the first at which it breaks: for each run, the bytes of its name one by one up to its end, then
-// what the token makes of what has been read. A byte that may not be in a name ends both loops.
+// The tokens of a text, up to the first at which it breaks: for each run, the bytes of its name up to its end, two at a time where
+// both may be in one, then what the token makes of what has been read. A byte that may not be in a name ends both loops.
 pub fn read_tokens(
     text: &[u8],
     symbols: &mut [u8],
@@ -108,6 +108,7 @@ pub fn read_tokens(
     ensures { λ r. ⌜ FinishedIs (readText (now (text .entry))) r
         (now (symbols .exit)) (now (words .exit)) (now (contents .exit)) (now (bodies .exit)) ⌝ }
 {
+    let classes = bytes::class_table();
     let mut reader = begin(words);
     let mut at: usize = 0;
     'tokens: loop {
@@ -118,9 +119,13 @@ pub fn read_tokens(
         let from = start + bytes::lead_of(&text[start..]);
         let mut end = from;
         loop {
-            let b = bytes::byte_at(text, end);
-            if !bytes::is_name_byte(b) {
-                if bytes::is_separator(b) {
+            if bytes::is_name_pair(&classes, text, end) {
+                end += 2;
+                continue;
+            }
+            let class = bytes::class_at(&classes, text, end);
+            if class != bytes::NAME_BYTE {
+                if class == bytes::SEPARATOR {
                     break;
                 }
                 break 'tokens Finished::Bad(3, start);

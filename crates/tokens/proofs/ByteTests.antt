@@ -1,7 +1,7 @@
 -- The tests on bytes, and what a run is by its first byte and its length, by the cases that the code takes apart.
 -- Assumes nothing.
 use Prim.Native.Nat.{ℕ, suc, _-_, _≤_, _<_}
-use mathlib.Core.Path.{_≡_, refl, sym, ap, _∙_}
+use mathlib.Core.Path.{_≡_, refl, sym, ap}
 use mathlib.Core.Bool.{Bool, true, false, cond}
 use mathlib.Core.List.{List, [], _∷_}
 use native.Mathlib.Omega.{arith}
@@ -9,11 +9,11 @@ use native.Mathlib.Nat.{not-suc-le-zero}
 use lib.Dec.{eqb, leb}
 use lib.ListN.{length, getD, drop, length-drop}
 use lib.Seq.{drop-cons}
-use borrow.Author.Tests.{eqb-true, ne-eqb, le-leb, lt-leb}
+use borrow.Author.Tests.{ne-eqb, le-leb, lt-leb}
 use Rattle.rewriting.specs.Lists.{same, between}
 use Rattle.tokens.specs.declared.Kind.{Kind}
 use Rattle.tokens.specs.declared.Kind.the-variants as kinds
-use Rattle.grammar.specs.Tokens.{separator, letter, digit, nameByte}
+use Rattle.grammar.specs.Tokens.{separator, letter}
 use Rattle.tokens.specs.Scanned.{lead, namedAs, kindOf}
 
 -- A byte between two others.
@@ -50,39 +50,6 @@ module _ (b : ℕ) where
   pub letter-small : between 65 b 90 ≡ false → between 97 b 122 ≡ letter b
   unfolding letter
   letter-small e = rw e
-
-  pub name-letter : letter b ≡ true → true ≡ nameByte b
-  unfolding nameByte
-  name-letter e = rw e
-
-  pub name-digit : letter b ≡ false → between 48 b 57 ≡ true → true ≡ nameByte b
-  unfolding nameByte digit
-  name-digit e d = rw (e, d)
-
-  pub name-else : letter b ≡ false → between 48 b 57 ≡ false → eqb b 95 ≡ nameByte b
-  unfolding nameByte digit
-  name-else e d = rw (e, d)
-
-  -- no byte of a name is a separator
-  pub separator-no-name : separator b ≡ true → nameByte b ≡ false
-  unfolding separator nameByte letter digit
-  separator-no-name e = go (eqb b 32) refl (eqb b 9) refl (eqb b 13) refl (eqb b 10) refl
-    where
-      go :
-          (s : Bool) → eqb b 32 ≡ s → (t : Bool) → eqb b 9 ≡ t → (r : Bool) → eqb b 13 ≡ r → (n : Bool) → eqb b 10 ≡ n
-          → nameByte b ≡ false
-      go true f t g r h n i = rw (eqb-true b 32 f)
-      go false f true g r h n i = rw (eqb-true b 9 g)
-      go false f false g true h n i = rw (eqb-true b 13 h)
-      go false f false g false h true i = rw (eqb-true b 10 i)
-      go false f false g false h false i = let z : false ≡ true = rw (f, g, h, i) at e in absurd (false-true z)
-
-  pub name-no-separator : nameByte b ≡ true → separator b ≡ false
-  name-no-separator e = go (separator b) refl
-    where
-      go : (s : Bool) → separator b ≡ s → s ≡ false
-      go true f = absurd (false-true (sym (separator-no-name f) ∙ e))
-      go false f = refl
 
 -- The kind of a run whose name begins at `at`.
 module _ (kind : Kind) (run : List ℕ) (at : ℕ) where

@@ -1,5 +1,6 @@
 -- Laws, in reading order.
 pub mod ByteTests
+pub mod Classes
 pub mod Same
 pub mod TokenOf
 pub mod RunBytes

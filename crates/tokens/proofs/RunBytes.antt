@@ -1,8 +1,8 @@
--- The bytes of a run, one by one: the loop over the bytes of a name.
+-- The bytes of a run and their classes: the loop over the bytes of a name.
 -- Assumes nothing.
 use Prim.Native.Nat.{ℕ, suc, _+_, _-_, _≤_, _<_}
 use mathlib.Core.Path.{_≡_, refl, sym, ap, _∙_}
-use mathlib.Core.Bool.{Bool, true, false}
+use mathlib.Core.Bool.{Bool, true, false, _&&_}
 use mathlib.Core.Option.{none}
 use mathlib.Core.List.{List, [], _∷_}
 use native.Mathlib.Omega.{arith}
@@ -11,12 +11,15 @@ use lib.Dec.{eqb, ltb}
 use lib.ListN.{length, getD, take, drop, length-drop, drop-of-length-le, List·getD-eq-default}
 use lib.Seq.{drop-cons, drop-drop}
 use borrow.Rule.Slice.PartAt.{part-to-end}
-use borrow.Author.Tests.{ltb-true, ltb-false, eqb-true}
+use borrow.Author.Tests.{ltb-true, ltb-false, eqb-true, eq-eqb, ne-eqb}
 use Rattle.rewriting.specs.Lists.{all}
 use Rattle.tokens.specs.declared.Kind.{Kind}
 use Rattle.grammar.specs.Tokens.{separator, nameByte, unbroken, tokenOf}
+use Rattle.tokens.specs.Classes.{separatorClass, nameClass, classOf, classTable, namePair}
 use Rattle.tokens.specs.Scanned.{lead, kindOf, tokenAs, Named}
-use Rattle.tokens.proofs.ByteTests.{false-true, name-no-separator}
+use Rattle.tokens.proofs.ByteTests.{false-true}
+use Rattle.tokens.proofs.Classes.{table-entry, class-separator, class-name, class-other}
+use Rattle.rewriting.proofs.Lists.{and-left, and-right}
 use Rattle.grammar.proofs.Runs.{unbroken-le, unbroken-take, restOf, stopOf}
 use Rattle.tokens.proofs.TokenOf.{nameOf, told}
 
@@ -24,6 +27,48 @@ use Rattle.tokens.proofs.TokenOf.{nameOf, told}
 pub byte-here : (t : List ℕ) (i : ℕ) → i < length t → getD t i 0 ≡ getD t i 32
 byte-here t i h = let e : getD t i 0 ∷ drop (suc i) t ≡ getD t i 32 ∷ drop (suc i) t = sym (drop-cons t i 0 h) ∙ drop-cons t i 32 h in
     ap (λ (l : List ℕ). getD l 0 0) e
+
+-- Its class: by the table, and a separator's behind the last.
+pub class-here :
+    (table t : List ℕ) (i : ℕ) → table ≡ classTable → getD t i 0 < 256 → i < length t
+    → getD table (getD t i 0) 0 ≡ classOf (getD t i 32)
+class-here table t i e byte h =
+    ap (λ (classes : List ℕ). getD classes (getD t i 0) 0) e ∙ table-entry (getD t i 0) byte ∙ ap classOf (byte-here t i h)
+
+pub class-behind : (t : List ℕ) (i : ℕ) → length t ≤ i → separatorClass ≡ classOf (getD t i 32)
+unfolding classOf separator
+class-behind t i h = sym (ap classOf (List·getD-eq-default t 32 {n = i} h))
+
+-- Two bytes that may be in a name.
+module _ (t : List ℕ) (i : ℕ) where
+  pub pair-short : length t ≤ i + 1 → false ≡ namePair t i
+  unfolding namePair
+  pair-short h = go (eqb (classOf (getD t i 32)) nameClass)
+    where
+      go : (b : Bool) → false ≡ b && eqb (classOf (getD t (i + 1) 32)) nameClass
+      go true = rw (← class-behind t (i + 1) h)
+      go false = refl
+
+  pub pair-other : (classOf (getD t i 32) ≡ nameClass → ⊥) → false ≡ namePair t i
+  unfolding namePair
+  pair-other e = rw (ne-eqb (classOf (getD t i 32)) nameClass e)
+
+  pub pair-second : classOf (getD t i 32) ≡ nameClass → eqb (classOf (getD t (i + 1) 32)) nameClass ≡ namePair t i
+  unfolding namePair
+  pair-second e = rw (eq-eqb (classOf (getD t i 32)) nameClass e)
+
+  module _ (both : namePair t i ≡ true) where
+    pub pair-first-named : classOf (getD t i 32) ≡ nameClass
+    unfolding namePair
+    pair-first-named =
+        eqb-true (classOf (getD t i 32)) nameClass
+        (and-left (eqb (classOf (getD t i 32)) nameClass) (eqb (classOf (getD t (i + 1) 32)) nameClass) both)
+
+    pub pair-second-named : classOf (getD t (i + 1) 32) ≡ nameClass
+    unfolding namePair
+    pair-second-named =
+        eqb-true (classOf (getD t (i + 1) 32)) nameClass
+        (and-right (eqb (classOf (getD t i 32)) nameClass) (eqb (classOf (getD t (i + 1) 32)) nameClass) both)
 
 -- A separator ends a run; any other byte is in it.
 module _ (text : List ℕ) (i : ℕ) where
@@ -121,30 +166,59 @@ pub record Scanning (text : List ℕ) (start from end : ℕ) : Type 0 where
 pub scanning-first : {text : List ℕ} {start from : ℕ} → Leading text start from → Scanning text start from from
 scanning-first l = record { stop = l .stop; passed = refl; behind = omega arith; within = l .within }
 
-module _ {text : List ℕ} {start from end : ℕ} (s : Scanning text start from end) where
-  pub scanning-inside : nameByte (getD text end 32) ≡ true → end < length text
-  scanning-inside e = rest-inside text end (name-no-separator (getD text end 32) e)
+-- The next byte, by its class.
+module _
+    {text : List ℕ} {start from end class : ℕ} (s : Scanning text start from end) (looked : class ≡ classOf (getD text end 32)) where
+  -- it may be in a name
+  module _ (named : class ≡ nameClass) where
+    name : (separator (getD text end 32) ≡ false) × (nameByte (getD text end 32) ≡ true)
+    name = class-name (getD text end 32) (sym looked ∙ named)
 
-  pub scanning-next : nameByte (getD text end 32) ≡ true → Scanning text start from (end + 1)
-  scanning-next e =
-      let byte = rest-byte text end (name-no-separator (getD text end 32) e) in
-      record {
-        stop = s .stop ∙ omega (arith, ap length byte);
-        passed = s .passed ∙ rw (byte, e);
-        behind = omega (arith, s .behind);
-        within = omega (arith, scanning-inside e);
-      }
+    pub scanning-inside : end < length text
+    scanning-inside = rest-inside text end (name .0)
+
+    pub scanning-next : Scanning text start from (end + 1)
+    scanning-next =
+        let byte = rest-byte text end (name .0) in
+        record {
+          stop = s .stop ∙ omega (arith, ap length byte);
+          passed = s .passed ∙ rw (byte, name .1);
+          behind = omega (arith, s .behind);
+          within = omega (arith, scanning-inside);
+        }
 
   -- a separator: here the run ends
-  pub scanning-stop : separator (getD text end 32) ≡ true → end ≡ stopOf text start
-  scanning-stop e = omega (arith, s .stop, ap length (rest-none text end e))
+  module _ (apart : class ≡ separatorClass) where
+    none-left : restOf text end ≡ []
+    none-left = rest-none text end (class-separator (getD text end 32) (sym looked ∙ apart))
 
-  pub scanning-passed : separator (getD text end 32) ≡ true → all nameByte (restOf text from) ≡ true
-  scanning-passed e = s .passed ∙ rw (rest-none text end e)
+    pub scanning-stop : end ≡ stopOf text start
+    scanning-stop = omega (arith, s .stop, ap length none-left)
+
+    pub scanning-passed : all nameByte (restOf text from) ≡ true
+    scanning-passed = s .passed ∙ rw none-left
 
   -- neither
-  pub scanning-breaks : nameByte (getD text end 32) ≡ false → separator (getD text end 32) ≡ false → all nameByte (restOf text from) ≡ false
-  scanning-breaks e f = s .passed ∙ rw (rest-byte text end f, e)
+  pub scanning-breaks : (class ≡ nameClass → ⊥) → (class ≡ separatorClass → ⊥) → all nameByte (restOf text from) ≡ false
+  scanning-breaks not-named not-apart =
+      let other =
+      class-other (getD text end 32) (λ (e : classOf (getD text end 32) ≡ nameClass). not-named (looked ∙ e))
+      (λ (e : classOf (getD text end 32) ≡ separatorClass). not-apart (looked ∙ e))
+      in
+      s .passed ∙ rw (rest-byte text end (other .0), other .1)
+
+-- The next two bytes may be in a name.
+module _ {text : List ℕ} {start from end : ℕ} (s : Scanning text start from end) (both : namePair text end ≡ true) where
+  one : Scanning text start from (end + 1)
+  one = scanning-next s refl (pair-first-named text end both)
+
+  pub pair-inside : end + 1 < length text
+  pair-inside = scanning-inside one refl (pair-second-named text end both)
+
+  pub pair-next : Scanning text start from (end + 2)
+  pair-next =
+      let two : end + 1 + 1 ≡ end + 2 = omega arith in
+      rw two at (scanning-next one refl (pair-second-named text end both))
 
 -- a part of a text, as a slice of it is handed on
 abbrev pub bytesOf : List ℕ → ℕ → ℕ → List ℕ

@@ -3,14 +3,37 @@ ghost use Prim.Native.Nat.{_≤_};
 ghost use mathlib.Core.Path.{_≡_};
 ghost use lib.ListN.{length, getD, drop};
 ghost use Rattle.rewriting.specs.Lists.{same, between};
-ghost use Rattle.grammar.specs.Tokens.{separator, letter, nameByte, unbroken};
+ghost use Rattle.grammar.specs.Tokens.{separator, letter, unbroken};
 ghost use Rattle.grammar.specs.FirstRun.{gap};
+ghost use Rattle.tokens.specs.Classes.{classOf, classTable, namePair};
 ghost use Rattle.tokens.specs.Scanned.{lead, namedAs, kindOf};
 use crate::Kind;
 use grammar::NAME_BYTES;
 
+// The class of a separator: space, tab, CR or LF.
+pub const SEPARATOR: u8 = b's';
+
+// The class of a byte that may be in a name: a letter, a digit or `_`.
+pub const NAME_BYTE: u8 = b'n';
+
+// The class of each byte, 32 to a line; `-` is that of all others. It is taken once for a text: a constant is put on the stack
+// wherever it is used.
+pub fn class_table() -> [u8; 256]
+    ensures { λ r. ⌜ r ≡ classTable ⌝ }
+{
+    *b"\
+        ---------ss--s------------------\
+        s---------------nnnnnnnnnn------\
+        -nnnnnnnnnnnnnnnnnnnnnnnnnn----n\
+        -nnnnnnnnnnnnnnnnnnnnnnnnnn-----\
+        --------------------------------\
+        --------------------------------\
+        --------------------------------\
+        --------------------------------"
+}
+
 // Space, tab, CR or LF.
-pub fn is_separator(b: u8) -> bool
+fn is_separator(b: u8) -> bool
     ensures { λ r. ⌜ r ≡ separator b ⌝ }
 {
     if b == b' ' {
@@ -45,19 +68,6 @@ fn is_letter(b: u8) -> bool
     is_between(b'a', b, b'z')
 }
 
-// A letter, a digit or `_`.
-pub fn is_name_byte(b: u8) -> bool
-    ensures { λ r. ⌜ r ≡ nameByte b ⌝ }
-{
-    if is_letter(b) {
-        return true;
-    }
-    if is_between(b'0', b, b'9') {
-        return true;
-    }
-    b == b'_'
-}
-
 // How many separators stand before the first run of a part of a text.
 pub fn gap_of(part: &[u8]) -> usize
     ensures { λ r. ⌜ r ≡ gap (now (part .entry)) ⌝ }
@@ -87,13 +97,41 @@ pub(crate) fn unbroken_length(part: &[u8]) -> usize
 }
 
 // The byte at a place, and a space behind the last one.
-pub fn byte_at(text: &[u8], i: usize) -> u8
+fn byte_at(text: &[u8], i: usize) -> u8
     ensures { λ r. ⌜ r ≡ getD (now (text .entry)) i 32 ⌝ }
 {
     if i < text.len() {
         return text[i];
     }
     b' '
+}
+
+// The class of the byte at a place, and that of a separator behind the last one.
+pub fn class_at(classes: &[u8; 256], text: &[u8], i: usize) -> u8
+    requires { ⌜ now classes ≡ classTable ⌝ }
+    ensures { λ r. ⌜ r ≡ classOf (getD (now (text .entry)) i 32) ⌝ }
+{
+    if i < text.len() {
+        return classes[text[i] as usize];
+    }
+    SEPARATOR
+}
+
+// Whether the byte at a place and the one behind it may both be in a name. Long names are read faster by two bytes at a time.
+pub fn is_name_pair(classes: &[u8; 256], text: &[u8], i: usize) -> bool
+    requires { ⌜ now classes ≡ classTable ⌝ }
+    ensures { λ r. ⌜ r ≡ namePair (now (text .entry)) i ⌝ }
+{
+    if text.len() < 2 {
+        return false;
+    }
+    if text.len() - 2 < i {
+        return false;
+    }
+    if classes[text[i] as usize] != NAME_BYTE {
+        return false;
+    }
+    classes[text[i + 1] as usize] == NAME_BYTE
 }
 
 // How many bytes stand before the name of a run that begins here: those of `#`, `.` and `->`.
