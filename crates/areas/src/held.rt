@@ -83,20 +83,33 @@ pub(crate) fn take_off(
     at
 }
 
-// Copies n symbols of the image, from `start` on, into the bytes from `to` on. A right side has at most 8: with that bound the loop
-// becomes a few instructions in a row.
-pub(crate) fn put_back(image: &[u8], start: usize, n: usize, bytes: &mut [u8], to: usize)
+// Puts n symbols of the image, from `start` on, before the last `waiting` bytes. Gives back how many wait then. The last one goes first, so
+// that this number comes from the loop's tests too, as in take_off: where the next symbol stands does not wait for n.
+pub(crate) fn put_back(
+    image: &[u8],
+    start: usize,
+    n: usize,
+    bytes: &mut [u8],
+    waiting: usize,
+) -> usize
     requires few { ⌜ n ≤ 8 ⌝ }
     requires source { ⌜ start + n ≤ length (now image) ⌝ }
-    requires target { ⌜ to + n ≤ length (now bytes) ⌝ }
-    ensures { λ _. ⌜ now (bytes .exit) ≡ paste (now (bytes .entry)) to (drop start (now (image .entry))) n ⌝ }
+    requires target { ⌜ waiting + n ≤ length (now bytes) ⌝ }
+    ensures waiting { λ r. ⌜ r ≡ waiting + n ⌝ }
+    ensures bytes { λ r. ⌜ now (bytes .exit)
+        ≡ paste (now (bytes .entry)) (length (now (bytes .entry)) - (waiting + n)) (drop start (now (image .entry))) n ⌝ }
 {
+    let capacity = bytes.len();
+    let end = start + n;
+    let mut held = waiting;
     for k in 0..8 {
         if n <= k {
             break;
         }
-        bytes[to + k] = image[start + k];
+        held += 1;
+        bytes[capacity - held] = image[end - 1 - k];
     }
+    held
 }
 
 // Moves the bytes from `from` to the end one place to the left.

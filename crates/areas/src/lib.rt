@@ -64,10 +64,10 @@ pub fn rewrite(
                 };
             }
             let kept = held::take_off(bytes, words, first, settled, size);
-            held::put_back(image, wide::word(starts[i]), n, bytes, behind - n);
+            let held = held::put_back(image, wide::word(starts[i]), n, bytes, waiting - 1);
             Rewritten {
                 settled: kept,
-                waiting: waiting - 1 + n,
+                waiting: held,
                 answer: 0,
                 rule: 0,
                 rewrites: 1,

@@ -311,18 +311,17 @@ module _ (set : RuleSet) (capacity : ℕ) (m : Monitor) (h : Held set capacity m
   -- the right side is put back, ..
   pub put-step : {first kept : ℕ} {bytes words : List ℕ} → TakenOff first kept bytes words → (v b : List ℕ) (n : ℕ)
       → rule (set .rules) i .right ≡ Put v → n ≡ length v → take n b ≡ v → kept + n ≤ first + 1
+      → {waiting : ℕ} {bytes′ : List ℕ} → waiting ≡ m .head .waiting - 1 + n → (j : ℕ) → j ≡ first + 1 - n → bytes′ ≡ paste bytes j b n
       → _≡_ {A = Tried}
       (record {
         taken = true;
-        monitor =
-            monitorIn (record { settled = kept; waiting = m .head .waiting - 1 + n; verdict = Standing.None; rule = 0 })
-            (paste bytes (first + 1 - n) b n) words;
+        monitor = monitorIn (record { settled = kept; waiting = waiting; verdict = Standing.None; rule = 0 }) bytes′ words;
         rewrites = 1;
         put = n;
       })
       (tried (set .rules) capacity m (stepOf (set .rules) (stateOf m)))
   unfolding replace active
-  put-step {first} {kept} {bytes} {words} t v b n r nv is-v fit =
+  put-step {first} {kept} {bytes} {words} t v b n r nv is-v fit waits-is j place put-is =
       let w : m .head .waiting ≡ suc (length (e .1)) = first-place set capacity m h (e .0) (e .1) (e .2) in
       let room : length (stateOf m .settled) + suc (length (e .1)) ≤ capacity = first-room set capacity m h (e .0) (e .1) (e .2) in
       let s : List ℕ = take kept (stateOf m .settled) in
@@ -331,9 +330,10 @@ module _ (set : RuleSet) (capacity : ℕ) (m : Monitor) (h : Held set capacity m
       rw (replaced kept (t .kept-is), r)
       (tried-taken (set .rules) capacity m (record { to = active s (v ++ (e .1)); rewrites = 1; put = length v }) _ 1 n
       (rw (length-append v (e .1)) (omega (arith, all, short, nv)))
-      (holds-state (set .rules) capacity s (v ++ (e .1)) Standing.None 0 kept (m .head .waiting - 1 + n) _ _ (sym short)
-      (rw (length-append v (e .1)) (omega (arith, w, nv)))
-      (ap (λ (l : List ℕ). paste l (first + 1 - n) b n) (bytes-off t)
+      (holds-state (set .rules) capacity s (v ++ (e .1)) Standing.None 0 kept _ _ _ (sym short)
+      (waits-is ∙ rw (length-append v (e .1)) (omega (arith, w, nv)))
+      (put-is
+      ∙ (λ k. paste (bytes-off t k) (place k) b n)
       ∙ area-put capacity s (e .1) b v n (first + 1 - n) is-v nv (omega (arith, t .first-is, w, room, all)) (omega (arith, all, short)))
       (words-off t))
       refl nv)

@@ -4,8 +4,9 @@ use Prim.Native.Nat.{ℕ, zero, suc, _+_, _-_, _≤_, _<_}
 use mathlib.Core.Path.{_≡_, refl, sym, ap, _∙_}
 use mathlib.Core.List.{List, [], _∷_}
 use native.Mathlib.Omega.{arith}
+use native.Mathlib.Numerals.{add-one}
 use lib.ListN.{length, getD, set, drop, replicate, length-replicate, length-drop}
-use lib.Seq.{paste, paste-zero, length-paste, getD-drop}
+use lib.Seq.{paste, paste-zero, length-paste, drop-cons, getD-drop}
 use Rattle.rewriting.proofs.Copying.{Copying, copying-first, copying-length, copying-next, copying-last, copying-behind}
 
 zero-at : (n i : ℕ) → getD {A = ℕ} (replicate n 0) i 0 ≡ 0
@@ -50,18 +51,17 @@ pub clearing-inside : {d : List ℕ} {from to : ℕ} {xs : List ℕ} {i : ℕ} �
 clearing-inside k more =
     omega (arith, k .begun, k .copying .room, copying-length (k .copying))
 
--- one zero more, before the others
-one-before : (d : List ℕ) (i n : ℕ) → suc i + n ≤ length d
-    → set (paste d (suc i) (replicate n 0) n) i 0 ≡ paste d i (replicate (suc n) 0) (suc n)
-one-before [] i n h = absurd (omega arith)
-one-before (x ∷ d) zero n h =
+-- one element more, before the others
+one-before : (d : List ℕ) (i n x : ℕ) (s : List ℕ) → suc i + n ≤ length d → set (paste d (suc i) s n) i x ≡ paste d i (x ∷ s) (suc n)
+one-before [] i n x s h = absurd (omega arith)
+one-before (y ∷ d) zero n x s h =
     let e : suc zero + n ≡ suc n = omega arith in
     let f : zero + suc n ≡ suc n = omega arith in
     rw (e, f)
-one-before (x ∷ d) (suc i) n h =
+one-before (y ∷ d) (suc i) n x s h =
     let e : suc (suc i) + n ≡ suc (suc i + n) = omega arith in
     let f : suc i + suc n ≡ suc (i + suc n) = omega arith in
-    rw (e, f) (ap (λ (l : List ℕ). x ∷ l) (one-before d i n (omega arith)))
+    rw (e, f) (ap (λ (l : List ℕ). y ∷ l) (one-before d i n x s (omega arith)))
 
 -- places are set to 0 from `end` down to `at`
 pub record Popping (d : List ℕ) (end : ℕ) (xs : List ℕ) (at : ℕ) : Type 0 where
@@ -85,7 +85,7 @@ popping-next {d} {end} {xs} {at} k some =
       done =
           ap (λ (l : List ℕ). set l (at - 1) 0)
           (k .done ∙ ap (λ (i : ℕ). paste d i (replicate (end - at) 0) (end - at)) e)
-          ∙ one-before d (at - 1) (end - at) (omega (arith, k .order, k .inside))
+          ∙ one-before d (at - 1) (end - at) 0 (replicate (end - at) 0) (omega (arith, k .order, k .inside))
           ∙ ap (λ (m : ℕ). paste d (at - 1) (replicate m 0) m) (sym n);
     }
 
@@ -98,8 +98,56 @@ popping-length {d} {end} {xs} {at} k =
 pub source-at : (b : List ℕ) (start k : ℕ) → getD b (start + k) 0 ≡ getD (drop start b) k 0
 source-at b start k = sym (getD-drop start b k 0)
 
+-- counted from the last of n
+pub source-back : (b : List ℕ) (start n k i : ℕ) → i ≡ start + n - 1 - k → k < n → getD b i 0 ≡ getD (drop start b) (n - suc k) 0
+source-back b start n k i e h =
+    let place : i ≡ start + (n - suc k) = omega (arith, e) in
+    rw place (source-at b start (n - suc k))
+
 pub source-length : (b : List ℕ) (start n : ℕ) → start + n ≤ length b → n ≤ length (drop start b)
 source-length b start n h = rw length-drop (omega arith)
+
+-- the last j of n elements of s are copied, the last one to the place before `end`
+pub record Backing (d : List ℕ) (end : ℕ) (s : List ℕ) (n : ℕ) (xs : List ℕ) (j : ℕ) : Type 0 where
+  pub few : j ≤ n
+  pub room : n ≤ end
+  pub inside : end ≤ length d
+  pub source : n ≤ length s
+  pub done : xs ≡ paste d (end - j) (drop (n - j) s) j
+
+pub backing-first : (d : List ℕ) (end : ℕ) (s : List ℕ) (n : ℕ) → n ≤ end → end ≤ length d → n ≤ length s → Backing d end s n d 0
+backing-first d end s n room inside source =
+    record { few = omega arith; room = room; inside = inside; source = source; done = paste-zero d (end - 0) (drop (n - 0) s) }
+
+pub backing-next : {d : List ℕ} {end : ℕ} {s : List ℕ} {n : ℕ} {xs : List ℕ} {j : ℕ} (i x : ℕ) → Backing d end s n xs j → j < n
+    → i ≡ end - suc j → x ≡ getD s (n - suc j) 0 → Backing d end s n (set xs i x) (j + 1)
+backing-next {d} {end} {s} {n} {xs} {j} i x k more place value =
+    let e : end - j ≡ suc i = omega (arith, place, k .room) in
+    let m : n - j ≡ suc (n - suc j) = omega arith in
+    rw add-one
+    (record {
+      few = omega arith;
+      room = k .room;
+      inside = k .inside;
+      source = k .source;
+      done =
+          ap (λ (l : List ℕ). set l i x)
+          (k .done ∙ (λ t. paste d (e t) (drop (m t) s) j))
+          ∙ one-before d i j x (drop (suc (n - suc j)) s) (omega (arith, place, k .room, k .inside))
+          ∙ (λ t. paste d (place t) ((ap (λ (y : ℕ). y ∷ drop (suc (n - suc j)) s) value ∙ sym (drop-cons s (n - suc j) 0 (omega (arith, k .source)))) t) (suc j));
+    })
+
+pub backing-length : {d : List ℕ} {end : ℕ} {s : List ℕ} {n : ℕ} {xs : List ℕ} {j : ℕ} → Backing d end s n xs j → length xs ≡ length d
+backing-length {d} {end} {s} {n} {xs} {j} k =
+    rw (k .done)
+    (length-paste d (end - j) (drop (n - j) s) j (omega (arith, k .few, k .room, k .inside)) (rw length-drop (omega (arith, k .few, k .source))))
+
+pub backing-last : {d : List ℕ} {end : ℕ} {s : List ℕ} {n : ℕ} {xs : List ℕ} {j : ℕ} → Backing d end s n xs j → n ≤ j
+    → (i : ℕ) → i ≡ end - n → xs ≡ paste d i s n
+backing-last {d} {end} {s} {n} {xs} {j} k all i place =
+    let e : j ≡ n = omega (arith, k .few) in
+    let z : n - n ≡ 0 = omega arith in
+    k .done ∙ ap (λ (m : ℕ). paste d (end - m) (drop (n - m) s) m) e ∙ (λ t. paste d (sym place t) (drop (z t) s) n)
 
 -- the places from `from` on are moved one to the left
 pub record Moving (d : List ℕ) (from : ℕ) (xs : List ℕ) (i : ℕ) : Type 0 where

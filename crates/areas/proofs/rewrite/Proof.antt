@@ -8,6 +8,7 @@ use mathlib.Core.Bool.{true}
 use mathlib.Core.List.{List}
 use native.Mathlib.Omega.{arith}
 use lib.ListN.{length, getD}
+use lib.Seq.{paste}
 use borrow.Author.Needs.{needs}
 use Rattle.rewriting.specs.Rules.{Put, Close, rule}
 use Rattle.layout.specs.declared.RightSide.{RightSide}
@@ -154,12 +155,9 @@ shared-slice-read-word c =
 
 sub-put-back : tie.Need-sub-put-back
 sub-put-back c =
-    let if1 = c .before .before .before .before .before .before .before .before .before .before in
-    let n = if1 .before .before in
-    let right-side = n .before .before in
-    let left-length = right-side .before in
+    let left-length = c .before .before .before .before .before .before .before .before .before .before .before .before .before .before .before in
     let start = left-length .before .before .before .before .before .before in
-    omega (arith, sizes start _ (left-length .left-length .ensures), few start _ (sym (right-side .right-side .ensures) ∙ n .n .given .1), if1 .if1 .left)
+    sizes start _ (left-length .left-length .ensures) .waits
 
 put-back-requires : tie.Need-put-back-requires
 put-back-requires c κs =
@@ -172,23 +170,7 @@ put-back-requires c κs =
     let start = left-length .before .before .before .before .before .before in
     let z = sizes start _ (left-length .left-length .ensures) in
     let e = sym (right-side .right-side .ensures) ∙ n .n .given .1 in
-    (few start _ e, (rw (word .word .ensures) (within start _ e), omega (arith, z, few start _ e, if1 .if1 .left, take-off .take-off .kept .0)))
-
-sub-t19 : tie.Need-sub-t19
-sub-t19 c =
-    let left-length = c .before .before .before .before .before .before .before .before .before .before .before .before .before .before .before .before .before .before in
-    let start = left-length .before .before .before .before .before .before in
-    sizes start _ (left-length .left-length .ensures) .waits
-
-add-t21 : tie.Need-add-t21
-add-t21 c =
-    let if1 = c .before .before .before .before .before .before .before .before .before .before .before .before .before in
-    let n = if1 .before .before in
-    let right-side = n .before .before in
-    let left-length = right-side .before in
-    let slice-known2 = left-length .before in
-    let start = slice-known2 .before .before .before .before .before in
-    omega (arith, long slice-known2, if1 .if1 .left, sizes start _ (left-length .left-length .ensures), few start _ (sym (right-side .right-side .ensures) ∙ n .n .given .1))
+    (few start _ e, (rw (word .word .ensures) (within start _ e), omega (arith, z, if1 .if1 .left, take-off .take-off .kept .0)))
 
 take-off-requires-2 : tie.Need-take-off-requires-2
 take-off-requires-2 c κs =
@@ -222,10 +204,10 @@ returns-2 c =
     let left-length = right-side .before in
     let start = left-length .before .before .before .before .before .before in
     let i = start .args .i in
+    let z = sizes start _ (left-length .left-length .ensures) in
     let r = string start _ (sym (right-side .right-side .ensures) ∙ n .n .given .1) in
     let right-start = start .pre .1 .0 i (is-rule start) .1 in
-    rw (put-back .put-back .ensures)
-    (put-step (read (start .args .image .now)) (length (start .args .bytes .now)) (given start) (facts start) i (start .pre .1 .1)
+    put-step (read (start .args .image .now)) (length (start .args .bytes .now)) (given start) (facts start) i (start .pre .1 .1)
     (record {
       first-is = refl;
       kept-is = take-off .take-off .ensures .0 ∙ ap (λ (x : ℕ). start .args .settled + 1 - x) (left-length .left-length .ensures);
@@ -233,7 +215,9 @@ returns-2 c =
       words-is = take-off .take-off .ensures .1 .1;
     }) (r .0) _ _ (r .1) (r .2)
     (rw (word .word .ensures, right-start) (put-here (start .args .image .now) (good start) i (is-rule start) (r .0) (r .1) _ (r .2)))
-    (omega (arith, sizes start _ (left-length .left-length .ensures), take-off .take-off .ensures .0, if1 .if1 .left)))
+    (omega (arith, z, take-off .take-off .ensures .0, if1 .if1 .left)) (put-back .put-back .ensures .0)
+    (length (take-off .take-off .last .0) - (start .args .waiting - 1 + n .n .given .0 .0)) (omega (arith, z, take-off .take-off .kept .0, if1 .if1 .left))
+    (put-back .put-back .ensures .1)
 
 returns-3 : tie.Need-returns-3
 returns-3 c =
@@ -294,8 +278,6 @@ rewrite-spec =
     word-requires
     sub-put-back
     put-back-requires
-    sub-t19
-    add-t21
     enum-known-v
     take-off-requires-2
     sub-t37
