@@ -51,6 +51,7 @@ pub fn rewrite(
     let first = bytes.len() - waiting;
     let size = image::left_length(image, i);
     let behind = first + 1;
+    let rest = waiting - 1;
     match image::right_side(image, i) {
         RightSide::Put(n) => {
             if behind + size < settled + 1 + n {
@@ -64,7 +65,7 @@ pub fn rewrite(
                 };
             }
             let kept = held::take_off(bytes, words, first, settled, size);
-            let held = held::put_back(image, wide::word(starts[i]), n, bytes, waiting - 1);
+            let held = held::put_back(image, wide::word(starts[i]), n, bytes, rest);
             Rewritten {
                 settled: kept,
                 waiting: held,
@@ -78,7 +79,7 @@ pub fn rewrite(
             let kept = held::take_off(bytes, words, first, settled, size);
             Rewritten {
                 settled: kept,
-                waiting: waiting - 1,
+                waiting: rest,
                 answer: VERDICT + v,
                 rule: i,
                 rewrites: 1,

@@ -21,6 +21,7 @@ pub mod FreshTheorem
 pub mod ListTheorem
 pub mod BatchTheorem
 pub mod AnswerKinds
+pub mod ByNumber
 pub mod AnswerNumbers
 pub mod Offering
 pub mod BatchChecks

@@ -23,7 +23,7 @@ use Rattle.machine.specs.Run.{Run, plus, countsOf, ended, counted, fits,
 use Rattle.machine.specs.Calls.{Outcome, outcome}
 use Rattle.machine.specs.Lent.{monitorIn, Passed, stepWaiting, stepOf, Tried, tried, addedTo, upon, answerFrom, standingAfter}
 use Rattle.machine.proofs.Sums.{plus-none, plus-assoc}
-use Rattle.machine.proofs.AnswerKinds.{verdict-from, stands-from}
+use Rattle.machine.proofs.ByNumber.{verdict-from, stands-from}
 use Rattle.machine.proofs.Machine.{step-counts}
 use Rattle.machine.proofs.Legal.{legal-active, legal-step}
 use Rattle.machine.proofs.Areas.{state-back}

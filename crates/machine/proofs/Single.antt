@@ -21,7 +21,7 @@ use Rattle.machine.specs.Lent.{monitorIn, answerFrom}
 use Rattle.machine.specs.Promise.{Ended, refusalsOf}
 use Rattle.machine.proofs.Sums.{plus-none}
 use Rattle.machine.proofs.CallTheorem.{call-theorem}
-use Rattle.machine.proofs.AnswerKinds.{answer-back}
+use Rattle.machine.proofs.ByNumber.{answer-back}
 
 -- refusals have numbers above 0
 positive : (n : ℕ) (l : List ℕ) → all (λ x. ltb 0 x) l ≡ true → List·Memᴰ n l → 0 < n

@@ -26,7 +26,7 @@ use Rattle.machine.specs.Run.{fits}
 use Rattle.machine.specs.Areas.{Monitor, headOf, areaOf, bytesOf, statesAfter, wordsOf, monitorOf, stateOf, standsBy, described}
 use Rattle.machine.specs.Calls.{sized, lentChecks}
 use Rattle.machine.specs.Lent.{monitorIn, Passed, wordBefore, Matches, stepWaiting, stepOf, Tried, tried, standingAfter}
-use Rattle.machine.proofs.AnswerKinds.{stands-after, verdict-taken}
+use Rattle.machine.proofs.ByNumber.{stands-after, verdict-taken}
 use Rattle.machine.proofs.Legal.{Legal}
 use Rattle.machine.proofs.Areas.{length-area, length-states-after, states-after-snoc, word-at}
 use Rattle.machine.proofs.Described.{Described, is-described}

@@ -98,6 +98,11 @@ left-length-requires c κs =
     let start = c .before .before .before .before .before in
     (good start, is-rule start)
 
+sub-rest : tie.Need-sub-rest
+sub-rest c =
+    let start = c .before .before .before .before .before .before in
+    sizes start _ (c .left-length .ensures) .waits
+
 right-side-requires : tie.Need-right-side-requires
 right-side-requires c κs =
     let start = c .before .before .before .before .before .before in
@@ -153,12 +158,6 @@ shared-slice-read-word c =
     let start = c .before .before .before .before .before .before .before .before .before .before .before .before .before .before .before .before .before .before .before in
     start .pre .1 .0 (start .args .i) (is-rule start) .0
 
-sub-put-back : tie.Need-sub-put-back
-sub-put-back c =
-    let left-length = c .before .before .before .before .before .before .before .before .before .before .before .before .before .before .before in
-    let start = left-length .before .before .before .before .before .before in
-    sizes start _ (left-length .left-length .ensures) .waits
-
 put-back-requires : tie.Need-put-back-requires
 put-back-requires c κs =
     let word = c .before in
@@ -178,12 +177,6 @@ take-off-requires-2 c κs =
     let start = left-length .before .before .before .before .before .before in
     let z = sizes start _ (left-length .left-length .ensures) in
     (omega (arith, z), (z .some, (z .few, (z .fits, (omega (arith, z), omega (arith, z))))))
-
-sub-t37 : tie.Need-sub-t37
-sub-t37 c =
-    let left-length = c .before .before .before .before .before .before .before .before .before .before .before in
-    let start = left-length .before .before .before .before .before .before in
-    sizes start _ (left-length .left-length .ensures) .waits
 
 add-t38 : tie.Need-add-t38
 add-t38 c =
@@ -266,6 +259,7 @@ rewrite-spec =
     sub-first
     left-length-requires
     add-behind
+    sub-rest
     right-side-requires
     enum-known-n
     add-if1
@@ -276,11 +270,9 @@ rewrite-spec =
     mul-word
     shared-slice-read-word
     word-requires
-    sub-put-back
     put-back-requires
     enum-known-v
     take-off-requires-2
-    sub-t37
     add-t38
     same-length
     same-length-2

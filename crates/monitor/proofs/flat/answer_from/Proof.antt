@@ -5,7 +5,7 @@
 use mathlib.Core.Path.{sym}
 use native.Mathlib.Omega.{arith}
 use borrow.Author.Needs.{needs}
-use Rattle.machine.proofs.AnswerKinds.{verdict-from, quiet-low}
+use Rattle.machine.proofs.ByNumber.{verdict-from, quiet-low}
 use Rattle.monitor.proofs.flat.answer_from.Statement.{statement}
 use Rattle.monitor.proofs.flat.answer_from.Tie as tie
 

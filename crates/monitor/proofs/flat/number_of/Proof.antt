@@ -5,7 +5,7 @@
 use mathlib.Core.Path.{sym, _∙_}
 use native.Mathlib.Omega.{arith}
 use borrow.Author.Needs.{needs}
-use Rattle.machine.proofs.AnswerKinds.{stands-after}
+use Rattle.machine.proofs.ByNumber.{stands-after}
 use Rattle.monitor.proofs.flat.number_of.Statement.{statement}
 use Rattle.monitor.proofs.flat.number_of.Tie as tie
 

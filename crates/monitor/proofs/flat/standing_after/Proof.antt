@@ -4,7 +4,7 @@
 
 use mathlib.Core.Path.{sym}
 use borrow.Author.Needs.{needs}
-use Rattle.machine.proofs.AnswerKinds.{stands-from, none-after}
+use Rattle.machine.proofs.ByNumber.{stands-from, none-after}
 use Rattle.monitor.proofs.flat.standing_after.Statement.{statement}
 use Rattle.monitor.proofs.flat.standing_after.Tie as tie
 

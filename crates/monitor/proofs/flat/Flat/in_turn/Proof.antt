@@ -17,7 +17,7 @@ use Rattle.machine.specs.Lent.{offersOrGoesOn}
 use Rattle.monitor.specs.Lent.{flat, countsIn, ranFrom}
 use Rattle.layout.proofs.Image.{valid-in-range}
 use Rattle.layout.proofs.States.{few-states}
-use Rattle.machine.proofs.AnswerKinds.{no-refusal}
+use Rattle.machine.proofs.ByNumber.{no-refusal}
 use Rattle.machine.proofs.Stepping.{Held, held, passed-valid, passed-table}
 use Rattle.machine.proofs.TableWords.{table-header, states-in}
 use Rattle.machine.proofs.LentRefusal.{answered-passed, answered-refused}

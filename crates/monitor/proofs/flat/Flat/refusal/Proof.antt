@@ -9,7 +9,7 @@ use borrow.Author.Tests.{not-true, not-false}
 use Rattle.layout.specs.Image.{read}
 use Rattle.layout.specs.Refusals.{answered}
 use Rattle.monitor.specs.Lent.{flatIn}
-use Rattle.machine.proofs.AnswerKinds.{stands-from, none-after}
+use Rattle.machine.proofs.ByNumber.{stands-from, none-after}
 use Rattle.machine.proofs.Deciding.{refuses-event, refuses-fuel, refuses-verdict, refuses-room, refuses-none}
 use Rattle.monitor.proofs.flat.Flat.refusal.Statement.{statement}
 use Rattle.monitor.proofs.flat.Flat.refusal.Tie as tie

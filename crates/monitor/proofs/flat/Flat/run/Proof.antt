@@ -12,7 +12,7 @@ use borrow.Author.Needs.{needs}
 use Rattle.machine.specs.Calls.{answerNumber}
 use Rattle.machine.specs.Lent.{Tried}
 use Rattle.monitor.specs.Lent.{activeIn, flatIn, countsIn, steppedFrom}
-use Rattle.machine.proofs.AnswerKinds.{is-taken, is-full, none-after, number-from}
+use Rattle.machine.proofs.ByNumber.{is-taken, is-full, none-after, number-from}
 use Rattle.machine.proofs.Running.{
   Running,
   running-first,
