@@ -9,7 +9,7 @@ use Rattle.monitor.specs.declared.Begun.{Begun}
 use Rattle.monitor.specs.declared.Returned.{Returned}
 use Rattle.monitor.specs.declared.BatchReturned.{BatchReturned}
 use Rattle.monitor.specs.declared.flat.Flat.{Flat}
-use Rattle.monitor.specs.declared.Series.{Series}
+use Rattle.monitor.specs.declared.decide.Series.{Series}
 use Rattle.layout.specs.Refusals.{refusedAs}
 use Rattle.machine.specs.Areas as Areas
 use Rattle.machine.specs.Areas.{Monitor}

@@ -17,13 +17,19 @@ ghost use Rattle.machine.specs.Lent.{Passed, Starts, rowsIn, widthIn, appended,
 ghost use Rattle.monitor.specs.Lent.{lent, flatIn, flat, countsIn, ranFrom, outcomeFrom, seriesFrom};
 use crate::Head;
 use crate::Returned;
-use crate::Series;
 use crate::flat::Flat;
 use areas::held;
 use image::wide;
 use layout::Checked;
 use machine::FUEL_MOST;
 use machine::VERDICT;
+
+// What a list of calls leads to, up to the first that is refused. The stop is 0, or that refusal.
+pub struct Series {
+    pub head: Flat,
+    pub stop: u32,
+    pub accepted: usize,
+}
 
 // Whether refusal 12 is not called for: the event of an offer is one.
 fn allowed(image: &[u8], offering: bool, event: u8) -> bool

@@ -10,7 +10,6 @@ ghost use Rattle.machine.specs.Run.{noCounts};
 ghost use Rattle.machine.specs.Calls.{freshOf, lentChecks, offerOf, goOnOf};
 ghost use Rattle.machine.specs.Batch.{batchOf};
 ghost use Rattle.monitor.specs.Lent.{headIn, lent, freshFrom, outcomeFrom, batchFrom};
-use crate::flat::Flat;
 use areas::described;
 use areas::held;
 use layout::Checked;
@@ -53,13 +52,6 @@ pub struct BatchReturned {
     pub stop: u32,
     pub accepted: usize,
     pub counts: Counts,
-}
-
-// What a list of calls leads to, up to the first that is refused. The stop is 0, or that refusal.
-pub struct Series {
-    pub head: Flat,
-    pub stop: u32,
-    pub accepted: usize,
 }
 
 // The head of a monitor that holds nothing.
