@@ -164,14 +164,17 @@ module _ {capacity : ℕ} {image table : List ℕ} {m : Monitor} {calls : List C
           omega (arith, now .steps, now .rewrites, now .put)
 
       -- It is accepted, and has the outcome o behind the counts so far.
-      module _ {o : Outcome} (made : o ≡ upon c (decided (read image) (length (n .bytes)) n (callChecks (read image) (length (n .bytes)) (n .head) call) call)) where
+      module _ {o : Outcome}
+          (made : o ≡ upon c (decided (read image) (length (n .bytes)) n (callChecks (read image) (length (n .bytes)) (n .head) call) call)) where
         abbrev one : Outcome
         one = callOf capacity image table n call
 
         is : o ≡ upon c one
         is =
             rw (now .bytes) at made
-            ∙ ap (upon c) (passed-call capacity image table n call (decided (read image) capacity n (callChecks (read image) capacity (n .head) call) call) (now .passed) refl)
+            ∙ ap (upon c)
+            (passed-call capacity image table n call (decided (read image) capacity n (callChecks (read image) capacity (n .head) call) call)
+            (now .passed) refl)
 
         done : Ended (read image .rules) capacity n call one
         done = call-theorem capacity image table n call

@@ -124,6 +124,9 @@ pub backing-next : {d : List ℕ} {end : ℕ} {s : List ℕ} {n : ℕ} {xs : Lis
 backing-next {d} {end} {s} {n} {xs} {j} i x k more place value =
     let e : end - j ≡ suc i = omega (arith, place, k .room) in
     let m : n - j ≡ suc (n - suc j) = omega arith in
+    let rest : x ∷ drop (suc (n - suc j)) s ≡ drop (n - suc j) s =
+    ap (λ (y : ℕ). y ∷ drop (suc (n - suc j)) s) value ∙ sym (drop-cons s (n - suc j) 0 (omega (arith, k .source)))
+    in
     rw add-one
     (record {
       few = omega arith;
@@ -134,7 +137,7 @@ backing-next {d} {end} {s} {n} {xs} {j} i x k more place value =
           ap (λ (l : List ℕ). set l i x)
           (k .done ∙ (λ t. paste d (e t) (drop (m t) s) j))
           ∙ one-before d i j x (drop (suc (n - suc j)) s) (omega (arith, place, k .room, k .inside))
-          ∙ (λ t. paste d (place t) ((ap (λ (y : ℕ). y ∷ drop (suc (n - suc j)) s) value ∙ sym (drop-cons s (n - suc j) 0 (omega (arith, k .source)))) t) (suc j));
+          ∙ (λ t. paste d (place t) (rest t) (suc j));
     })
 
 pub backing-length : {d : List ℕ} {end : ℕ} {s : List ℕ} {n : ℕ} {xs : List ℕ} {j : ℕ} → Backing d end s n xs j → length xs ≡ length d

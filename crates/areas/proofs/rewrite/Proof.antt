@@ -8,7 +8,6 @@ use mathlib.Core.Bool.{true}
 use mathlib.Core.List.{List}
 use native.Mathlib.Omega.{arith}
 use lib.ListN.{length, getD}
-use lib.Seq.{paste}
 use borrow.Author.Needs.{needs}
 use Rattle.rewriting.specs.Rules.{Put, Close, rule}
 use Rattle.layout.specs.declared.RightSide.{RightSide}
@@ -150,12 +149,14 @@ take-off-requires c κs =
 
 mul-word : tie.Need-mul-word
 mul-word c =
-    let start = c .before .before .before .before .before .before .before .before .before .before .before .before .before .before .before .before .before .before in
+    let take-off = c .before .before .before .before in
+    let start = take-off .before .before .before .before .before .before .before .before .before .before .before .before .before .before in
     omega (arith, start .pre .1 .0 (start .args .i) (is-rule start) .0)
 
 shared-slice-read-word : tie.Need-shared-slice-read-word
 shared-slice-read-word c =
-    let start = c .before .before .before .before .before .before .before .before .before .before .before .before .before .before .before .before .before .before .before in
+    let take-off = c .before .before .before .before .before in
+    let start = take-off .before .before .before .before .before .before .before .before .before .before .before .before .before .before in
     start .pre .1 .0 (start .args .i) (is-rule start) .0
 
 put-back-requires : tie.Need-put-back-requires

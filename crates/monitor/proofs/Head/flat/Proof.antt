@@ -3,7 +3,6 @@
 -- Assumes nothing.
 
 use mathlib.Core.Path.{refl}
-use borrow.Author.Needs.{needs}
 use Rattle.machine.specs.Run.{noCounts}
 use Rattle.monitor.proofs.Head.flat.Statement.{statement}
 use Rattle.monitor.proofs.Head.flat.Tie as tie

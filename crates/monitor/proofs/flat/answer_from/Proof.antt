@@ -3,8 +3,6 @@
 -- Assumes nothing.
 
 use mathlib.Core.Path.{sym}
-use native.Mathlib.Omega.{arith}
-use borrow.Author.Needs.{needs}
 use Rattle.machine.proofs.ByNumber.{verdict-from, quiet-low}
 use Rattle.monitor.proofs.flat.answer_from.Statement.{statement}
 use Rattle.monitor.proofs.flat.answer_from.Tie as tie

@@ -3,7 +3,6 @@
 -- Assumes nothing.
 
 use mathlib.Core.Path.{sym}
-use borrow.Author.Needs.{needs}
 use Rattle.machine.proofs.ByNumber.{stands-from, none-after}
 use Rattle.monitor.proofs.flat.standing_after.Statement.{statement}
 use Rattle.monitor.proofs.flat.standing_after.Tie as tie

@@ -2,7 +2,6 @@
 
 -- Assumes nothing.
 
-use mathlib.Core.Path.{refl}
 use borrow.Author.Needs.{needs}
 use Rattle.monitor.proofs.flat.Flat.ended.Statement.{statement}
 use Rattle.monitor.proofs.flat.Flat.ended.Tie as tie

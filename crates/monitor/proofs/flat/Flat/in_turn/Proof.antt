@@ -6,12 +6,11 @@
 
 use Prim.Native.Nat.{ℕ, suc, _+_, _-_, _≤_}
 use mathlib.Core.Path.{_≡_, sym, ap, _∙_}
-use mathlib.Core.Bool.{true}
 use native.Mathlib.Omega.{arith}
 use native.Mathlib.Numerals.{add-one}
 use lib.ListN.{length, getD}
 use borrow.Author.Needs.{needs}
-use Rattle.layout.specs.Image.{read, valid}
+use Rattle.layout.specs.Image.{read}
 use Rattle.machine.specs.Areas.{Monitor}
 use Rattle.machine.specs.Lent.{offersOrGoesOn}
 use Rattle.monitor.specs.Lent.{flat, countsIn, ranFrom}

@@ -3,8 +3,6 @@
 -- Assumes nothing.
 
 use mathlib.Core.Path.{sym, ap, _∙_}
-use native.Mathlib.Omega.{arith}
-use borrow.Author.Needs.{needs}
 use borrow.Author.Tests.{not-true, not-false}
 use Rattle.layout.specs.Image.{read}
 use Rattle.layout.specs.Refusals.{answered}

@@ -4,11 +4,9 @@
 
 -- Assumes nothing.
 
-use Prim.Native.Nat.{_+_, _-_, _<_}
+use Prim.Native.Nat.{_-_, _<_}
 use mathlib.Core.Path.{_≡_, refl, _∙_}
 use native.Mathlib.Omega.{arith}
-use lib.ListN.{length}
-use borrow.Author.Needs.{needs}
 use Rattle.machine.specs.Calls.{answerNumber}
 use Rattle.machine.specs.Lent.{Tried}
 use Rattle.monitor.specs.Lent.{activeIn, flatIn, countsIn, steppedFrom}
@@ -183,8 +181,7 @@ sub-ended-2 c =
 ended-requires-4 : tie.Need-ended-requires-4 Inv-loop μ-loop
 ended-requires-4 c κs =
     let if3 = c .before .before in
-    let start = if3 .before .before .before .before .before .before .before .before .before .before .before .before .before .before .before .before .before .before in
-    omega (arith, start .pre .1 .1 .1 .1, steps-kept if3, went if3 .fuel-left)
+    omega (arith, begun if3 .pre .1 .1 .1 .1, steps-kept if3, went if3 .fuel-left)
 
 same-length-5 : tie.Need-same-length-5 Inv-loop μ-loop
 same-length-5 c =
@@ -210,8 +207,7 @@ sub-ended-3 c =
 ended-requires-5 : tie.Need-ended-requires-5 Inv-loop μ-loop
 ended-requires-5 c κs =
     let if3 = c .before .before .before .before in
-    let start = if3 .before .before .before .before .before .before .before .before .before .before .before .before .before .before .before .before .before .before in
-    omega (arith, start .pre .1 .1 .1 .1, steps-kept if3, went if3 .fuel-left)
+    omega (arith, begun if3 .pre .1 .1 .1 .1, steps-kept if3, went if3 .fuel-left)
 
 same-length-7 : tie.Need-same-length-7 Inv-loop μ-loop
 same-length-7 c =

@@ -2,15 +2,15 @@
 
 -- Assumes nothing.
 
-use Prim.Native.Nat.{ℕ, _+_, _-_}
-use mathlib.Core.Path.{_≡_, refl, ap, _∙_}
+use Prim.Native.Nat.{ℕ, _-_}
+use mathlib.Core.Path.{_≡_, refl, ap}
 use mathlib.Core.List.{List, _∷_}
 use native.Mathlib.Omega.{arith}
 use lib.ListN.{length, getD, length-set}
 use borrow.Author.Needs.{needs}
 use Rattle.layout.specs.Image.{read}
 use Rattle.machine.specs.Areas.{Monitor, stateOf}
-use Rattle.machine.specs.Lent.{Tried, addedTo}
+use Rattle.machine.specs.Lent.{addedTo}
 use Rattle.monitor.specs.Lent.{active}
 use Rattle.machine.proofs.Stepping.{Held, held, waits, settled-step}
 use Rattle.machine.proofs.Running.{added-none, tried-counts}
@@ -189,7 +189,8 @@ returns-2 c =
           (added-none _ _ _ _
           (settled-step (read image) (length bytes) (given start) (facts start) (one start .0) (one start .1) (one start .2)
           (no-match _ _
-          (match-is (length bytes) image table (given start) (start .pre .0) (one start .0) (one start .1) (one start .2) _ next _ (match-word .match-word .ensures))
+          (match-is (length bytes) image table (given start) (start .pre .0) (one start .0) (one start .1) (one start .2) _ next _
+          (match-word .match-word .ensures))
           (if1 .if1 .left)) _ _ refl next)),
       refl,
     )
