@@ -1,17 +1,16 @@
 /*!
 Times the library against the same algorithms in safe Rust.
 
-Each side first does the work once, and all must agree. Then they take turns in short rounds on the
-same warm buffers, another one going first from round to round. The tables show the median over the
-rounds, and the library's divided by the other's.
+Both sides first do the work once and must agree in every result, and again after each run.
+[`timing`] says how they race.
 
 * [`texts`]: read_rules, against [`reader`].
 * [`tables`]: compile and check_table, against [`baseline`].
-* [`monitors`]: offers and batches, against the same monitor in safe Rust ([`monitor`]) and one that
-  looks through its string again after every rewrite ([`rescan`]).
+* [`monitors`]: offers, goes-on and batches, against the same monitor in safe Rust ([`monitor`]) and
+  one that looks through its string again after every rewrite ([`rescan`]).
 
 ```text
-cargo run --release -p bench [rounds]
+cargo run --release -p bench [rounds [runs]]
 ```
 */
 
@@ -28,23 +27,37 @@ mod timing;
 
 use std::env;
 
-/// Rounds for each race, unless the command line names another number.
+/// Rounds for each race in a run, unless the command line names another number.
 const ROUNDS: usize = 301;
+/// Runs of all races, unless the command line names another number.
+const RUNS: usize = 7;
 
 fn main() {
-    let rounds = match env::args().nth(1) {
-        None => ROUNDS,
-        Some(argument) => match argument.parse() {
-            Ok(rounds) if rounds > 0 => rounds,
-            _ => {
-                eprintln!("usage: bench [rounds]");
-                std::process::exit(2);
-            }
-        },
-    };
-    texts::measure_all(rounds);
-    println!();
-    tables::measure_all(rounds);
-    println!();
-    monitors::measure_all(rounds);
+    let [rounds, runs] = arguments().unwrap_or_else(|| {
+        eprintln!("usage: bench [rounds [runs]]");
+        std::process::exit(2);
+    });
+    let mut groups = vec![texts::races(), tables::races()];
+    groups.extend(monitors::races());
+    for run in 1..=runs {
+        for group in &mut groups {
+            group.run(rounds);
+        }
+        eprintln!("run {run} of {runs}");
+    }
+    println!("Nanoseconds and library / other: the median of {runs} runs of {rounds} rounds each,");
+    println!("and the least and the largest ratio of a run.");
+    for group in &groups {
+        group.print();
+    }
+}
+
+/// Rounds and runs by the command line.
+fn arguments() -> Option<[usize; 2]> {
+    let mut numbers = [ROUNDS, RUNS];
+    for (place, argument) in env::args().skip(1).enumerate() {
+        let number = argument.parse().ok().filter(|&number| number > 0);
+        *numbers.get_mut(place)? = number?;
+    }
+    Some(numbers)
 }

@@ -3,7 +3,7 @@ The library's monitor in safe Rust: what the benchmark measures the library agai
 
 Table, head and areas are the library's, and so are the checks: image and table, the areas' lengths,
 and head and areas themselves at each single call, and once in a batch. The functions have the
-parameters that the C functions have. A go-on is an offer without its event, and not here.
+parameters that the C functions have.
 */
 
 use crate::baseline;
@@ -363,6 +363,38 @@ pub fn offer(
     0
 }
 
+/// Runs: returns 0 or a refusal.
+#[inline(never)]
+#[allow(clippy::too_many_arguments)]
+pub fn go_on(
+    image: &[u8],
+    table: &[u16],
+    head: &mut [u64; 4],
+    bytes: &mut [u8],
+    words: &mut [u16],
+    fuel: u32,
+    out: &mut [u64; 4],
+) -> u32 {
+    *out = [0; 4];
+    let mut monitor = match Monitor::check(image, table, head, bytes, words) {
+        Ok(monitor) => monitor,
+        Err(refusal) => return refusal,
+    };
+    if fuel > MAX_FUEL {
+        return TOO_MUCH_FUEL;
+    }
+    if monitor.verdict != 0 {
+        return VERDICT_STANDS;
+    }
+    // With nothing waiting this is no symbol, and not looked at.
+    let first = monitor.bytes[monitor.begin & LAST];
+    let places = monitor.rules.places();
+    let (answer, counts) = monitor.run(&places, first, fuel);
+    *out = [answer, counts.steps, counts.rewrites, counts.put_back];
+    *head = monitor.head();
+    0
+}
+
 /// Takes events one after another and runs after each: returns 0 or a refusal.
 #[inline(never)]
 #[allow(clippy::too_many_arguments)]
@@ -481,11 +513,18 @@ mod tests {
         let mut after = memory.clone();
         let (image, table) = (&lent.image[..], &lent.table[..]);
         let Memory { head, bytes, words } = &mut after;
-        let (refusal, wanted) = match random.below(2) {
+        let (refusal, wanted) = match random.below(3) {
             0 => {
                 let wanted = naive::offer(lent, memory, event, fuel);
                 let mut out = [9; 4];
                 let refusal = offer(image, table, head, bytes, words, event, fuel, &mut out);
+                assert_eq!((refusal, out), (wanted.refusal, wanted.out));
+                (refusal, wanted.memory)
+            }
+            1 => {
+                let wanted = naive::go_on(lent, memory, fuel);
+                let mut out = [9; 4];
+                let refusal = go_on(image, table, head, bytes, words, fuel, &mut out);
                 assert_eq!((refusal, out), (wanted.refusal, wanted.out));
                 (refusal, wanted.memory)
             }

@@ -8,19 +8,20 @@ It answers nothing and checks nothing; what it shows is the price of looking aga
 use reference::{Right, Rule, RuleSet, Symbol};
 
 /// The plain rewriter, with the events that it was given so far.
-pub struct Rescan<'a> {
-    set: &'a RuleSet,
+#[derive(Clone)]
+pub struct Rescan {
+    set: RuleSet,
     /// The string.
     pub string: Vec<Symbol>,
     /// The verdict, if one stands.
     pub verdict: Option<u8>,
 }
 
-impl<'a> Rescan<'a> {
+impl Rescan {
     /// The rewriter with this string.
-    pub fn new(set: &'a RuleSet, string: &[Symbol]) -> Rescan<'a> {
+    pub fn new(set: &RuleSet, string: &[Symbol]) -> Rescan {
         Rescan {
-            set,
+            set: set.clone(),
             string: string.to_vec(),
             verdict: None,
         }

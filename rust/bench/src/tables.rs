@@ -1,22 +1,29 @@
 //! Compile and check_table: the library against [`crate::baseline`].
 
 use crate::baseline;
-use crate::timing::race_two;
+use crate::timing::{Group, Race, Side, Work};
 use reference::random::{self, Random};
 use reference::RuleSet;
 use std::hint::black_box;
 
-/// Measures compile and check_table on each rule set.
-pub fn measure_all(rounds: usize) {
-    println!("Tables: nanoseconds for one call, median of {rounds} interleaved rounds.");
-    println!();
-    println!(
-        "{:<28} {:<12} {:>7} {:>10} {:>10} {:>7}",
-        "rule set", "operation", "words", "library", "Rust", "ratio"
-    );
+/// The races of compile and check_table on each rule set.
+pub fn races() -> Group {
+    let mut races = Vec::new();
     for (name, set) in rule_sets() {
-        measure(name, &set, rounds);
+        let tables = Tables::new(&set);
+        let name = format!("{name} ({} words)", tables.words);
+        races.push(Race::new(
+            &format!("{name}: compile"),
+            "call",
+            Compile(tables.clone()),
+        ));
+        races.push(Race::new(
+            &format!("{name}: check_table"),
+            "call",
+            Check(tables),
+        ));
     }
+    Group::new("Tables", "Rust", races)
 }
 
 /// The rule sets measured, with their names.
@@ -42,46 +49,80 @@ fn middle() -> RuleSet {
     random.with_left_sides(12, lefts)
 }
 
-/// Measures both operations on one rule set and prints a line for each.
-fn measure(name: &str, set: &RuleSet, rounds: usize) {
-    let image = reference::encode(set);
-    let expected = reference::table(set);
-    let words = expected.len();
-    let mut ours = vec![0xaaaa; watcher::MAX_TABLE_WORDS];
-    let mut theirs = ours.clone();
-    assert_eq!(watcher::compile(&image, &mut ours), Ok(words));
-    assert_eq!(baseline::compile(&image, &mut theirs), Ok(words));
-    assert_eq!(ours, theirs);
-    assert_eq!(ours[..words], expected);
-
-    let times = race_two(
-        rounds,
-        || watcher::compile(black_box(&image), black_box(&mut ours)).is_ok(),
-        || baseline::compile(black_box(&image), black_box(&mut theirs)).is_ok(),
-    );
-    print_line(name, "compile", words, times);
-    assert_eq!(ours, theirs);
-
-    assert_eq!(watcher::check_table(&image, &ours), Ok(()));
-    assert_eq!(baseline::check_table(&image, &ours), Ok(()));
-    let mut changed = ours.clone();
-    changed[words - 1] ^= 1;
-    assert!(watcher::check_table(&image, &changed).is_err());
-    assert!(baseline::check_table(&image, &changed).is_err());
-
-    let times = race_two(
-        rounds,
-        || watcher::check_table(black_box(&image), black_box(&ours)).is_ok(),
-        || baseline::check_table(black_box(&image), black_box(&ours)).is_ok(),
-    );
-    print_line(name, "check_table", words, times);
+/// A rule set's image, and an area with its table.
+#[derive(Clone)]
+struct Tables {
+    image: Vec<u8>,
+    table: Vec<u16>,
+    /// The words of the table; the rest of the area stays as it is.
+    words: usize,
 }
 
-fn print_line(name: &str, operation: &str, words: usize, [library, rust]: [f64; 2]) {
-    println!(
-        "{name:<28} {operation:<12} {words:>7} {library:>10.0} {rust:>10.0} {:>7.2}",
-        library / rust
-    );
+impl Tables {
+    fn new(set: &RuleSet) -> Tables {
+        let expected = reference::table(set);
+        let words = expected.len();
+        let mut table = expected;
+        table.resize(watcher::MAX_TABLE_WORDS, 0xaaaa);
+        Tables {
+            image: reference::encode(set),
+            table,
+            words,
+        }
+    }
+}
+
+/// Compiles into the area.
+struct Compile(Tables);
+
+impl Work for Compile {
+    fn once(&mut self, side: Side) -> bool {
+        let Compile(Tables { image, table, .. }) = self;
+        match side {
+            Side::Library => watcher::compile(black_box(image), black_box(table)).is_ok(),
+            Side::Other => baseline::compile(black_box(image), black_box(table)).is_ok(),
+        }
+    }
+
+    fn expect_agreement(&mut self) {
+        let Compile(Tables {
+            image,
+            table,
+            words,
+        }) = self;
+        let mut ours = vec![0xaaaa; table.len()];
+        let mut theirs = ours.clone();
+        assert_eq!(watcher::compile(image, &mut ours), Ok(*words));
+        assert_eq!(baseline::compile(image, &mut theirs), Ok(*words));
+        assert!(ours == *table && theirs == *table);
+    }
+}
+
+/// Checks the table.
+struct Check(Tables);
+
+impl Work for Check {
+    fn once(&mut self, side: Side) -> bool {
+        let Check(Tables { image, table, .. }) = self;
+        match side {
+            Side::Library => watcher::check_table(black_box(image), black_box(table)).is_ok(),
+            Side::Other => baseline::check_table(black_box(image), black_box(table)).is_ok(),
+        }
+    }
+
+    fn expect_agreement(&mut self) {
+        let Check(Tables {
+            image,
+            table,
+            words,
+        }) = self;
+        assert_eq!(watcher::check_table(image, table), Ok(()));
+        assert_eq!(baseline::check_table(image, table), Ok(()));
+        let mut changed = table.clone();
+        changed[*words - 1] ^= 1;
+        assert!(watcher::check_table(image, &changed).is_err());
+        assert!(baseline::check_table(image, &changed).is_err());
+    }
 }
 
 #[cfg(test)]

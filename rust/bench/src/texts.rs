@@ -1,7 +1,7 @@
 //! Rule texts: the library's reader against [`crate::reader`].
 
 use crate::reader;
-use crate::timing::race_two;
+use crate::timing::{Group, Race, Side, Work};
 use reference::random::{largest, Random};
 use reference::reader::{self as naive, Name, IMAGE_AREA, MAX_TEXT_BYTES, NAME_AREA};
 use reference::texts::{tokens, Naming};
@@ -12,17 +12,14 @@ use watcher::raw;
 const SAMPLE: &[u8] =
     b"events lock take free . lock take -> held . held free -> #epsilon . take -> #fail .";
 
-/// Measures the reader on each text.
-pub fn measure_all(rounds: usize) {
-    println!("Rule texts: nanoseconds for one read, median of {rounds} interleaved rounds.");
-    println!();
-    println!(
-        "{:<36} {:>7} {:>7} {:>10} {:>10} {:>7}",
-        "text", "bytes", "tokens", "library", "Rust", "ratio"
-    );
-    for (name, text) in texts() {
-        measure(name, &text, rounds);
-    }
+/// The races of the reader on each text.
+pub fn races() -> Group {
+    let races = texts().into_iter().map(|(name, text)| {
+        let tokens = naive::runs(&text).len();
+        let name = format!("{name} ({} bytes, {tokens} tokens)", text.len());
+        Race::new(&name, "read", Reading::new(text))
+    });
+    Group::new("Rule texts", "Rust", races.collect())
 }
 
 /// The texts measured, with their names.
@@ -121,39 +118,50 @@ fn wanted(text: &[u8], areas: [usize; 2]) -> Given {
     }
 }
 
-/// Measures one text and prints its line.
-fn measure(name: &str, text: &[u8], rounds: usize) {
-    let wanted = wanted(text, [IMAGE_AREA, NAME_AREA]);
-    for read in [raw::read_rules as Read, reader::read_rules] {
-        assert!(given(read, text, [IMAGE_AREA, NAME_AREA]) == wanted);
-    }
-    let refusal = wanted.0;
-    let times = race_two(
-        rounds,
-        one_read(raw::read_rules, text, refusal),
-        one_read(reader::read_rules, text, refusal),
-    );
-    let [library, rust] = times;
-    println!(
-        "{name:<36} {:>7} {:>7} {library:>10.0} {rust:>10.0} {:>7.2}",
-        text.len(),
-        naive::runs(text).len(),
-        library / rust
-    );
+/// The readers, the library's first.
+const READERS: [Read; 2] = [raw::read_rules, reader::read_rules];
+
+/// Reads a text into areas that stay the same.
+struct Reading {
+    text: Vec<u8>,
+    image: Vec<u8>,
+    names: Vec<u8>,
+    /// What each read must give.
+    refusal: u32,
+    out: [u64; 2],
 }
 
-/// A call that reads the text into areas that stay the same, and says whether it was refused so.
-fn one_read(read: Read, text: &[u8], refusal: u32) -> impl FnMut() -> bool + '_ {
-    let (mut image, mut names) = (vec![0; IMAGE_AREA], vec![0; NAME_AREA]);
-    let mut out = [0; 2];
-    move || {
-        let found = read(
-            black_box(text),
-            black_box(&mut image),
-            black_box(&mut names),
-            black_box(&mut out),
+impl Reading {
+    fn new(text: Vec<u8>) -> Reading {
+        let (refusal, out, image, names) = wanted(&text, [IMAGE_AREA, NAME_AREA]);
+        Reading {
+            text,
+            image,
+            names,
+            refusal,
+            out,
+        }
+    }
+}
+
+impl Work for Reading {
+    fn once(&mut self, side: Side) -> bool {
+        let mut out = [0; 2];
+        let refusal = READERS[side as usize](
+            black_box(&self.text),
+            black_box(&mut self.image),
+            black_box(&mut self.names),
+            &mut out,
         );
-        found == refusal
+        refusal == self.refusal && out == self.out
+    }
+
+    fn expect_agreement(&mut self) {
+        let wanted = wanted(&self.text, [IMAGE_AREA, NAME_AREA]);
+        for read in READERS {
+            assert!(given(read, &self.text, [IMAGE_AREA, NAME_AREA]) == wanted);
+        }
+        assert!(self.image == wanted.2 && self.names == wanted.3);
     }
 }
 
