@@ -29,24 +29,13 @@ const QUIET: u64 = 0;
 const SPENT: u64 = 1;
 const FULL: u64 = 2;
 
-/// What the steps of a run did.
-#[derive(Default)]
-struct Counts {
-    steps: u64,
-    rewrites: u64,
-    put_back: u64,
-}
-
 /// A valid image and its table, taken apart.
 struct Rules<'a> {
+    image: &'a [u8],
+    /// The image by fours: its header, then the contents of each rule, at its match word.
+    entries: &'a [[u8; 4]],
     /// S, the number of symbols.
     symbols: usize,
-    /// E, the number of events.
-    events: u8,
-    /// Four bytes a rule.
-    contents: &'a [[u8; 4]],
-    /// The sides' symbols.
-    bodies: &'a [u8],
     /// The match words.
     matches: &'a [u16],
     /// The rows of next states.
@@ -56,28 +45,38 @@ struct Rules<'a> {
 impl<'a> Rules<'a> {
     /// An image and a table that were checked.
     fn new(image: &'a [u8], table: &'a [u16]) -> Rules<'a> {
-        let (contents, bodies) = image[4..].split_at(4 * usize::from(image[1]));
-        let (contents, _) = contents.as_chunks();
         let symbols = usize::from(image[0]);
         let states = usize::from(table[0]);
         let (matches, rows) = table[2..2 + states + states * symbols].split_at(states);
+        let (entries, _) = image.as_chunks();
         Rules {
+            image,
+            entries,
             symbols,
-            events: image[3],
-            contents,
-            bodies,
             matches,
             rows,
         }
     }
 
-    /// Where each rule's body begins. Apart from the rest, so that the rest can stay in registers.
+    /// E, the number of events.
+    fn events(&self) -> u8 {
+        self.image[3]
+    }
+
+    /// The four bytes of each rule.
+    fn contents(&self) -> &'a [[u8; 4]] {
+        &self.entries[1..1 + usize::from(self.image[1])]
+    }
+
+    /// Where each rule's right side begins in the image. Apart from the rest, so that the rest can
+    /// stay in registers.
     fn places(&self) -> [u16; 64] {
+        let contents = self.contents();
         let mut places = [0; 64];
-        let mut begin = 0;
-        for (place, &[left, kind, right, _]) in places.iter_mut().zip(self.contents) {
-            *place = begin;
+        let mut begin = 4 + 4 * contents.len() as u16;
+        for (place, &[left, kind, right, _]) in places.iter_mut().zip(contents) {
             begin += u16::from(left);
+            *place = begin;
             if kind == 0 {
                 begin += u16::from(right);
             }
@@ -92,7 +91,7 @@ impl<'a> Rules<'a> {
         }
         let entry = usize::try_from(rule)
             .ok()
-            .and_then(|rule| self.contents.get(rule));
+            .and_then(|rule| self.contents().get(rule));
         matches!(entry, Some(&[_, 1, number, _]) if u64::from(number) + 1 == verdict)
     }
 
@@ -103,24 +102,24 @@ impl<'a> Rules<'a> {
 
     /// Whether these words are the states after these symbols, and none of them matches.
     fn are_states(&self, symbols: &[u8], words: &[u16]) -> bool {
-        // Each word is compared with the one before it. If that is right too, all are.
+        // Each word is compared with the one before it. If that is right too, all are. What is wrong
+        // is gathered, so that the loop does not stop to look at each.
         let mut before = 0;
+        let mut wrong = 0;
         for (&symbol, &word) in symbols.iter().zip(words) {
             let place = usize::from(before) * self.symbols + usize::from(symbol);
-            if self.rows.get(place) != Some(&word) {
-                return false;
-            }
-            if self.matches.get(usize::from(word)) != Some(&0) {
-                return false;
+            match (self.rows.get(place), self.matches.get(usize::from(word))) {
+                (Some(next), Some(match_word)) => wrong |= next ^ word | match_word,
+                _ => return false,
             }
             before = word;
         }
-        true
+        wrong == 0
     }
 }
 
-/// Whether all these bytes are 0. The loop takes 64 at once and has no exit, so that it becomes vector
-/// code.
+/// Whether all these bytes are 0. The loop takes 64 at once and has no exit, so that it becomes
+/// vector code.
 fn zero_bytes(bytes: &[u8]) -> bool {
     let (chunks, rest) = bytes.as_chunks::<64>();
     let mut all = [0; 64];
@@ -129,19 +128,21 @@ fn zero_bytes(bytes: &[u8]) -> bool {
             *sum |= byte;
         }
     }
-    all.iter().chain(rest).fold(0, |sum, &byte| sum | byte) == 0
+    let or = |bytes: &[u8]| bytes.iter().fold(0, |sum, &byte| sum | byte);
+    or(&all) | or(rest) == 0
 }
 
 /// Whether all these words are 0.
 fn zero_words(words: &[u16]) -> bool {
-    let (chunks, rest) = words.as_chunks::<32>();
-    let mut all = [0; 32];
+    let (chunks, rest) = words.as_chunks::<64>();
+    let mut all = [0; 64];
     for chunk in chunks {
         for (sum, word) in all.iter_mut().zip(chunk) {
             *sum |= word;
         }
     }
-    all.iter().chain(rest).fold(0, |sum, &word| sum | word) == 0
+    let or = |words: &[u16]| words.iter().fold(0, |sum, &word| sum | word);
+    or(&all) | or(rest) == 0
 }
 
 /// A monitor whose head and areas were checked.
@@ -157,6 +158,8 @@ struct Monitor<'a> {
     verdict: u64,
     /// The verdict's rule.
     rule: u64,
+    /// The rewrites of the call.
+    rewrites: u64,
 }
 
 impl<'a> Monitor<'a> {
@@ -195,16 +198,16 @@ impl<'a> Monitor<'a> {
             begin,
             verdict,
             rule,
+            rewrites: 0,
         })
     }
 
     fn head(&self) -> [u64; 4] {
-        [
-            self.settled as u64,
-            (ROOM - self.begin) as u64,
-            self.verdict,
-            self.rule,
-        ]
+        [self.settled as u64, self.waiting(), self.verdict, self.rule]
+    }
+
+    fn waiting(&self) -> u64 {
+        (ROOM - self.begin) as u64
     }
 
     /// Refusal 14 or 15 of an event.
@@ -232,98 +235,104 @@ impl<'a> Monitor<'a> {
         first
     }
 
-    /// Runs. No verdict stands, and `first` is the first waiting symbol. The symbol that comes next is
-    /// kept beside its byte, since a byte just written is read back late.
+    /// Runs, and returns the answer and the fuel that is left. Something waits, first of all `first`,
+    /// and no verdict stands.
+    ///
+    /// Most of the time goes to waiting, so the shape is chosen for that. The symbol that comes next
+    /// is kept beside its byte, since a byte just written is read back late. Symbols are taken off and
+    /// put back one by one: so the processor guesses how many there are and goes on, where a
+    /// subtraction would wait for the lengths.
     #[inline(always)]
-    fn run(&mut self, places: &[u16; 64], first: u8, fuel: u32) -> (u64, Counts) {
-        let fuel = u64::from(fuel);
-        let mut counts = Counts::default();
+    fn run(&mut self, places: &[u16; 64], first: u8, fuel: u32) -> (u64, u32) {
+        let Monitor {
+            rules,
+            bytes,
+            words,
+            ..
+        } = self;
+        let mut fuel = fuel;
         let mut settled = self.settled;
         let mut begin = self.begin;
-        let mut state = self.state_at(settled);
         let mut symbol = first;
         let answer = loop {
-            if begin >= ROOM {
-                break QUIET;
-            }
-            if counts.steps == fuel {
+            if fuel == 0 {
                 break SPENT;
             }
-            let next = self.rules.rows[state * self.rules.symbols + usize::from(symbol)];
-            let match_word = self.rules.matches[usize::from(next)];
+            // So that the compiler knows that both are places of the areas.
+            assert!(settled <= begin && begin < ROOM);
+            let state = if settled == 0 { 0 } else { words[settled - 1] };
+            let next = rules.rows[usize::from(state) * rules.symbols + usize::from(symbol)];
+            let match_word = rules.matches[usize::from(next)];
             if match_word == 0 {
-                counts.steps += 1;
-                self.bytes[begin] = 0;
-                self.bytes[settled & LAST] = symbol;
-                self.words[settled & LAST] = next;
+                fuel -= 1;
+                bytes[begin] = 0;
+                bytes[settled] = symbol;
+                words[settled] = next;
                 begin += 1;
                 settled += 1;
-                state = usize::from(next);
-                symbol = self.bytes[begin & LAST];
-                continue;
-            }
-            let rule = usize::from(match_word - 1);
-            let [left, kind, right, _] = self.rules.contents[rule];
-            let taken_off = usize::from(left) - 1;
-            if kind == 1 {
-                counts.steps += 1;
-                counts.rewrites += 1;
-                self.bytes[begin] = 0;
+                if begin == ROOM {
+                    break QUIET;
+                }
+                symbol = bytes[begin];
+            } else {
+                let [left, kind, right, _] = rules.entries[usize::from(match_word)];
+                // There are `begin - settled` free places. The symbols taken off make more.
+                if kind == 0 && usize::from(right) > begin - settled + usize::from(left) {
+                    break FULL;
+                }
+                fuel -= 1;
+                self.rewrites += 1;
+                bytes[begin] = 0;
                 begin += 1;
-                settled = self.take_off(settled, taken_off);
-                self.verdict = u64::from(right) + 1;
-                self.rule = rule as u64;
-                break 16 + u64::from(right);
+                // All but the last one, which is not settled yet: at most seven.
+                for taken in 1..8 {
+                    if left <= taken {
+                        break;
+                    }
+                    settled -= 1;
+                    bytes[settled & LAST] = 0;
+                    words[settled & LAST] = 0;
+                }
+                if kind == 1 {
+                    self.verdict = u64::from(right) + 1;
+                    self.rule = u64::from(match_word) - 1;
+                    break 16 + u64::from(right);
+                }
+                if right == 0 {
+                    if begin == ROOM {
+                        break QUIET;
+                    }
+                    symbol = bytes[begin];
+                } else {
+                    let place = usize::from(places[usize::from(match_word - 1) & 63]);
+                    let right = &rules.image[place..][..usize::from(right)];
+                    // The last first, so that what comes next is at hand at the end.
+                    for &back in right.iter().rev().take(8) {
+                        begin -= 1;
+                        bytes[begin & LAST] = back;
+                        symbol = back;
+                    }
+                }
             }
-            let length = usize::from(right);
-            // There are `begin - settled` free places. The symbols taken off make more.
-            if length > begin - settled + usize::from(left) {
-                break FULL;
-            }
-            counts.steps += 1;
-            counts.rewrites += 1;
-            counts.put_back += length as u64;
-            self.bytes[begin] = 0;
-            settled = self.take_off(settled, taken_off);
-            begin = begin + 1 - length;
-            let body = usize::from(places[rule & 63]) + usize::from(left);
-            let right = &self.rules.bodies[body..body + length];
-            // At most eight: so the loop stays short code.
-            for (place, &symbol) in (begin..).zip(right.iter().take(8)) {
-                self.bytes[place & LAST] = symbol;
-            }
-            symbol = match right.first() {
-                Some(&first) => first,
-                None => self.bytes[begin & LAST],
-            };
-            state = self.state_at(settled);
         };
         self.settled = settled;
         self.begin = begin;
-        (answer, counts)
+        (answer, fuel)
     }
 
-    /// The state after `settled` symbols.
+    /// A single call's run: answer, steps, rewrites, symbols put back.
     #[inline(always)]
-    fn state_at(&self, settled: usize) -> usize {
-        if settled == 0 {
-            0
-        } else {
-            usize::from(self.words[(settled - 1) & LAST])
+    fn run_once(&mut self, first: u8, fuel: u32) -> [u64; 4] {
+        let waiting = self.waiting();
+        if waiting == 0 {
+            return [QUIET, 0, 0, 0];
         }
-    }
-
-    /// Takes so many of the last settled symbols off, and returns how many are left.
-    #[inline(always)]
-    fn take_off(&mut self, settled: usize, count: usize) -> usize {
-        let mut settled = settled;
-        // At most seven: so the loop stays short code.
-        for _ in 0..count & 7 {
-            settled -= 1;
-            self.bytes[settled & LAST] = 0;
-            self.words[settled & LAST] = 0;
-        }
-        settled
+        let places = self.rules.places();
+        let (answer, left) = self.run(&places, first, fuel);
+        let steps = u64::from(fuel - left);
+        // Each step takes one waiting symbol.
+        let put_back = self.waiting() + steps - waiting;
+        [answer, steps, self.rewrites, put_back]
     }
 }
 
@@ -346,7 +355,7 @@ pub fn offer(
         Ok(monitor) => monitor,
         Err(refusal) => return refusal,
     };
-    if event >= monitor.rules.events {
+    if event >= monitor.rules.events() {
         return NO_EVENT;
     }
     if fuel > MAX_FUEL {
@@ -356,9 +365,7 @@ pub fn offer(
         return refusal;
     }
     let first = monitor.take(event);
-    let places = monitor.rules.places();
-    let (answer, counts) = monitor.run(&places, first, fuel);
-    *out = [answer, counts.steps, counts.rewrites, counts.put_back];
+    *out = monitor.run_once(first, fuel);
     *head = monitor.head();
     0
 }
@@ -388,9 +395,7 @@ pub fn go_on(
     }
     // With nothing waiting this is no symbol, and not looked at.
     let first = monitor.bytes[monitor.begin & LAST];
-    let places = monitor.rules.places();
-    let (answer, counts) = monitor.run(&places, first, fuel);
-    *out = [answer, counts.steps, counts.rewrites, counts.put_back];
+    *out = monitor.run_once(first, fuel);
     *head = monitor.head();
     0
 }
@@ -420,12 +425,14 @@ pub fn batch(
     if events.len() > MAX_EVENTS || answers.len() < events.len() {
         return BATCH_LENGTH;
     }
+    let waiting = monitor.waiting();
     let places = monitor.rules.places();
     let mut stop = 0;
     let mut accepted = 0;
-    let mut sums = Counts::default();
+    let mut steps = 0;
+    let events_below = monitor.rules.events();
     for (&event, place) in events.iter().zip(answers) {
-        if event >= monitor.rules.events {
+        if event >= events_below {
             stop = NO_EVENT;
             break;
         }
@@ -434,20 +441,14 @@ pub fn batch(
             break;
         }
         let first = monitor.take(event);
-        let (answer, counts) = monitor.run(&places, first, fuel);
+        let (answer, left) = monitor.run(&places, first, fuel);
         *place = answer as u8;
         accepted += 1;
-        sums.steps += counts.steps;
-        sums.rewrites += counts.rewrites;
-        sums.put_back += counts.put_back;
+        steps += u64::from(fuel - left);
     }
-    *out = [
-        stop.into(),
-        accepted,
-        sums.steps,
-        sums.rewrites,
-        sums.put_back,
-    ];
+    // Each step takes one waiting symbol, and each event is one.
+    let put_back = monitor.waiting() + steps - waiting - accepted;
+    *out = [stop.into(), accepted, steps, monitor.rewrites, put_back];
     *head = monitor.head();
     0
 }

@@ -78,7 +78,8 @@ impl Race {
         };
         race.work.expect_agreement();
         for side in SIDES {
-            while race.turn(side) < TURN {
+            // The fastest of a few turns, since one may be interrupted.
+            while (0..5).map(|_| race.turn(side)).min() < Some(TURN) {
                 race.calls[side as usize] *= 2;
             }
         }
