@@ -102,8 +102,8 @@ impl<'a> Rules<'a> {
 
     /// Whether these words are the states after these symbols, and none of them matches.
     fn are_states(&self, symbols: &[u8], words: &[u16]) -> bool {
-        // Each word is compared with the one before it. If that is right too, all are. What is wrong
-        // is gathered, so that the loop does not stop to look at each.
+        // Each word is compared with the one before it. If that is right too, all are. What is
+        // wrong is gathered, so that the loop does not stop to look at each.
         let mut before = 0;
         let mut wrong = 0;
         for (&symbol, &word) in symbols.iter().zip(words) {
@@ -235,13 +235,13 @@ impl<'a> Monitor<'a> {
         first
     }
 
-    /// Runs, and returns the answer and the fuel that is left. Something waits, first of all `first`,
-    /// and no verdict stands.
+    /// Runs, and returns the answer and the fuel that is left. Something waits, first of all
+    /// `first`, and no verdict stands.
     ///
-    /// Most of the time goes to waiting, so the shape is chosen for that. The symbol that comes next
-    /// is kept beside its byte, since a byte just written is read back late. Symbols are taken off and
-    /// put back one by one: so the processor guesses how many there are and goes on, where a
-    /// subtraction would wait for the lengths.
+    /// Most of the time goes to waiting, so the shape is chosen for that. The symbol that comes
+    /// next is kept beside its byte, since a byte just written is read back late. Symbols are taken
+    /// off and put back one by one: so the processor guesses how many there are and goes on, where
+    /// a subtraction would wait for the lengths.
     #[inline(always)]
     fn run(&mut self, places: &[u16; 64], first: u8, fuel: u32) -> (u64, u32) {
         let Monitor {

@@ -352,8 +352,8 @@ fn queue() -> RuleSet {
     }
 }
 
-/// The largest table: 64 left sides of eight symbols. Each of the first 32 becomes one of the others,
-/// and those vanish.
+/// The largest table: 64 left sides of eight symbols. Each of the first 32 becomes one of the
+/// others, and those vanish.
 fn eights() -> RuleSet {
     let mut set = largest();
     for rule in 0..32 {

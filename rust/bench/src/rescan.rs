@@ -27,8 +27,8 @@ impl Rescan {
         }
     }
 
-    /// Takes events one after another and after each makes up to `fuel` rewrites. Returns the number
-    /// of rewrites.
+    /// Takes events one after another and after each makes up to `fuel` rewrites. Returns the
+    /// number of rewrites.
     #[inline(never)]
     pub fn batch(&mut self, events: &[Symbol], fuel: u32) -> u64 {
         let mut rewrites = 0;
@@ -65,8 +65,8 @@ impl Rescan {
         true
     }
 
-    /// The rule and the end of the occurrence that ends first, of these begins first, of these has the
-    /// lowest rule.
+    /// The rule and the end of the occurrence that ends first, of these begins first, of these has
+    /// the lowest rule.
     fn first_occurrence(&self) -> Option<(usize, usize)> {
         for (place, symbol) in self.string.iter().enumerate() {
             let end = place + 1;

@@ -3,12 +3,12 @@ Races between the library and another way to do the same work.
 
 A race is run in short rounds, so that a round that the machine interrupts is one of many. In each
 round both sides have a turn, one right behind the other, and from round to round another one goes
-first. The ratio of a run is the median of its rounds' ratios: what slows the machine down for longer
-than a round slows both sides of a round. Both sides work on the same buffers, so that neither is
-better placed.
+first. The ratio of a run is the median of its rounds' ratios: what slows the machine down for
+longer than a round slows both sides of a round. Both sides work on the same buffers, so that
+neither is better placed.
 
-A run of all races is made several times. What is shown is the median over the runs, and beside it the
-least and the largest ratio: how far it moves.
+A run of all races is made several times. What is shown is the median over the runs, and beside it
+the least and the largest ratio: how far it moves.
 */
 
 use std::hint::black_box;
