@@ -1,8 +1,9 @@
 /*!
 The reader of rule texts in safe Rust: what the benchmark measures the library against.
 
-One pass over the text. Names and image are built in local arrays and copied out when the whole text is
-good. A name is looked up among the slots from the first to the last.
+One pass over the text. Names and image are built in local arrays and copied out when the whole text
+is good. A name is looked up among those so far from the first to the last, by a word in which most
+differ, and is then compared whole.
 */
 
 /// Refusal 1: over 16,384 bytes.
@@ -56,9 +57,82 @@ fn class(byte: u8) -> u8 {
     CLASSES[usize::from(byte)]
 }
 
-enum Token<'a> {
-    Name(&'a [u8]),
-    Word(&'a [u8]),
+/// A name: its bytes and then zeros, in three words. Words are compared at once. They are loaded
+/// from the text as they stand, where bytes that were just written would be read back late.
+#[derive(Clone, Copy)]
+struct Name([u64; 3]);
+
+impl Name {
+    const NONE: Name = Name([0; 3]);
+
+    /// The name of the first `length` of these bytes.
+    #[inline(always)]
+    fn new(bytes: &[u8; MAX_NAME], length: usize) -> Name {
+        let (words, _) = bytes.as_chunks();
+        let length = length as u32;
+        Name([
+            first_bytes(u64::from_le_bytes(words[0]), length),
+            first_bytes(u64::from_le_bytes(words[1]), length.saturating_sub(8)),
+            first_bytes(u64::from_le_bytes(words[2]), length.saturating_sub(16)),
+        ])
+    }
+
+    /// The name with these bytes, for names that are known.
+    const fn of(bytes: &[u8]) -> Name {
+        let mut words = [0; 3];
+        let mut place = 0;
+        while place < bytes.len() {
+            words[place / 8] |= (bytes[place] as u64) << (8 * (place % 8));
+            place += 1;
+        }
+        Name(words)
+    }
+
+    /// Whether it is the other name. Not `==`, which becomes a call.
+    #[inline(always)]
+    fn is(&self, other: &Name) -> bool {
+        let (Name([a, b, c]), Name([d, e, f])) = (self, other);
+        (a ^ d) | (b ^ e) | (c ^ f) == 0
+    }
+
+    /// A word in which names mostly differ.
+    #[inline(always)]
+    fn key(&self) -> u64 {
+        let Name([first, second, third]) = self;
+        first ^ second.rotate_left(20) ^ third.rotate_left(40)
+    }
+
+    /// The slot: length byte, name, zeros.
+    fn slot(&self) -> Slot {
+        let mut slot = [0; 1 + MAX_NAME];
+        let (words, _) = slot[1..].as_chunks_mut();
+        for (bytes, word) in words.iter_mut().zip(self.0) {
+            *bytes = word.to_le_bytes();
+        }
+        // No byte of a name is 0.
+        let length = |word: u64| 8 - word.leading_zeros() as u8 / 8;
+        slot[0] = self.0.map(length).iter().sum();
+        slot
+    }
+}
+
+/// The first `count` bytes of a word, and zeros.
+#[inline(always)]
+fn first_bytes(word: u64, count: u32) -> u64 {
+    match count {
+        0..8 => word & ((1 << (8 * count)) - 1),
+        _ => word,
+    }
+}
+
+const EVENTS: Name = Name::of(b"events");
+const EPSILON: Name = Name::of(b"epsilon");
+const FAIL: Name = Name::of(b"fail");
+const SUCCEED: Name = Name::of(b"succeed");
+
+enum Token {
+    Name(Name),
+    Word(Name),
     Arrow,
     Stop,
     End,
@@ -75,7 +149,8 @@ struct Tokens<'a> {
 
 impl<'a> Tokens<'a> {
     /// The next token, or refusal 3.
-    fn next(&mut self) -> Result<Token<'a>, u32> {
+    #[inline(always)]
+    fn next(&mut self) -> Result<Token, u32> {
         let text = self.text;
         let mut begin = self.next;
         while begin < text.len() && class(text[begin]) == SEPARATOR {
@@ -90,12 +165,12 @@ impl<'a> Tokens<'a> {
             b'.' => (Token::Stop, 1),
             b'-' if rest.get(1) == Some(&b'>') => (Token::Arrow, 2),
             b'#' => {
-                let name = name(&rest[1..])?;
-                (Token::Word(name), 1 + name.len())
+                let (name, length) = name(&rest[1..])?;
+                (Token::Word(name), 1 + length)
             }
             _ => {
-                let name = name(rest)?;
-                (Token::Name(name), name.len())
+                let (name, length) = name(rest)?;
+                (Token::Name(name), length)
             }
         };
         match rest.get(length) {
@@ -109,53 +184,74 @@ impl<'a> Tokens<'a> {
 }
 
 /// The longest name that `rest` begins with, or refusal 3. What follows may be a byte more of it.
-fn name(rest: &[u8]) -> Result<&[u8], u32> {
-    let rest = &rest[..rest.len().min(MAX_NAME)];
-    let length = rest
+#[inline(always)]
+fn name(rest: &[u8]) -> Result<(Name, usize), u32> {
+    let mut padded = [0; MAX_NAME];
+    let bytes = match rest.first_chunk::<MAX_NAME>() {
+        Some(bytes) => bytes,
+        None => {
+            padded[..rest.len()].copy_from_slice(rest);
+            &padded
+        }
+    };
+    let length = bytes
         .iter()
         .position(|&byte| class(byte) < LETTER)
-        .unwrap_or(rest.len());
-    if length == 0 || class(rest[0]) != LETTER {
+        .unwrap_or(MAX_NAME);
+    if length == 0 || class(bytes[0]) != LETTER {
         return Err(NO_TOKEN);
     }
-    Ok(&rest[..length])
-}
-
-fn slot(name: &[u8]) -> Slot {
-    let mut slot = [0; 1 + MAX_NAME];
-    slot[0] = name.len() as u8;
-    slot[1..=name.len()].copy_from_slice(name);
-    slot
+    Ok((Name::new(bytes, length), length))
 }
 
 /// Names with a number each.
 struct Names<const N: usize> {
-    slots: [Slot; N],
+    names: [Name; N],
+    keys: [u64; N],
     count: usize,
 }
 
 impl<const N: usize> Names<N> {
-    fn find(&self, slot: &Slot) -> Option<usize> {
-        // Other slots mostly differ in the last byte of the name.
-        let last = usize::from(slot[0]).min(MAX_NAME);
-        self.slots[..self.count]
-            .iter()
-            .position(|other| other[last] == slot[last] && other == slot)
+    fn new() -> Names<N> {
+        Names {
+            names: [Name::NONE; N],
+            keys: [0; N],
+            count: 0,
+        }
+    }
+
+    #[inline(always)]
+    fn find(&self, name: &Name) -> Option<usize> {
+        let key = name.key();
+        let names = &self.names[..self.count];
+        let keys = &self.keys[..self.count];
+        keys.iter()
+            .zip(names)
+            .position(|(&other_key, other)| other_key == key && other.is(name))
     }
 
     /// The name's number, the next one if it is new; or refusal 5.
-    fn number(&mut self, slot: &Slot) -> Result<u8, u32> {
-        if let Some(number) = self.find(slot) {
+    #[inline(always)]
+    fn number(&mut self, name: &Name) -> Result<u8, u32> {
+        if let Some(number) = self.find(name) {
             return Ok(number as u8);
         }
-        self.add(slot)
+        self.add(name)
     }
 
-    fn add(&mut self, slot: &Slot) -> Result<u8, u32> {
+    /// Writes the slots of the names that there are.
+    fn write(&self, slots: &mut [Slot]) {
+        for (slot, name) in slots.iter_mut().zip(&self.names[..self.count]) {
+            *slot = name.slot();
+        }
+    }
+
+    fn add(&mut self, name: &Name) -> Result<u8, u32> {
         if self.count == N {
             return Err(TOO_MANY);
         }
-        self.slots[self.count] = *slot;
+        self.names[self.count] = *name;
+        self.keys[self.count] = name.key();
         self.count += 1;
         Ok((self.count - 1) as u8)
     }
@@ -175,39 +271,35 @@ struct Reading {
 impl Reading {
     fn new() -> Reading {
         let mut reading = Reading {
-            symbols: Names {
-                slots: [[0; 1 + MAX_NAME]; MAX_SYMBOLS],
-                count: 0,
-            },
-            verdicts: Names {
-                slots: [[0; 1 + MAX_NAME]; MAX_VERDICTS],
-                count: 2,
-            },
+            symbols: Names::new(),
+            verdicts: Names::new(),
             events: 0,
             contents: [[0; 4]; MAX_RULES],
             rules: 0,
             bodies: [0; MAX_RULES * 2 * MAX_SIDE],
             bodies_len: 0,
         };
-        reading.verdicts.slots[0] = slot(b"fail");
-        reading.verdicts.slots[1] = slot(b"succeed");
+        for (place, name) in [FAIL, SUCCEED].iter().enumerate() {
+            reading.verdicts.names[place] = *name;
+            reading.verdicts.keys[place] = name.key();
+        }
+        reading.verdicts.count = 2;
         reading
     }
 
     /// Reads the whole text, or says why it breaks at the last token taken.
     fn read(&mut self, tokens: &mut Tokens) -> Result<(), u32> {
         match tokens.next()? {
-            Token::Name(b"events") => {}
+            Token::Name(name) if name.is(&EVENTS) => {}
             _ => return Err(MISPLACED),
         }
         loop {
             match tokens.next()? {
                 Token::Name(name) => {
-                    let slot = slot(name);
-                    if self.symbols.find(&slot).is_some() {
+                    if self.symbols.find(&name).is_some() {
                         return Err(EVENT_TWICE);
                     }
-                    self.symbols.add(&slot)?;
+                    self.symbols.add(&name)?;
                     self.events += 1;
                 }
                 Token::Stop if self.events > 0 => break,
@@ -217,14 +309,14 @@ impl Reading {
         loop {
             match tokens.next()? {
                 Token::End => return Ok(()),
-                Token::Name(name) => self.rule(tokens, name)?,
+                Token::Name(name) => self.rule(tokens, &name)?,
                 _ => return Err(MISPLACED),
             }
         }
     }
 
     /// Reads the rule that begins with this name.
-    fn rule(&mut self, tokens: &mut Tokens, first: &[u8]) -> Result<(), u32> {
+    fn rule(&mut self, tokens: &mut Tokens, first: &Name) -> Result<(), u32> {
         if self.rules == MAX_RULES {
             return Err(TOO_MANY);
         }
@@ -233,14 +325,15 @@ impl Reading {
             _ => return Err(MISPLACED),
         };
         let (kind, right) = match tokens.next()? {
-            Token::Name(name) => match self.side(tokens, name)? {
+            Token::Name(name) => match self.side(tokens, &name)? {
                 (right, Token::Stop) => (0, right),
                 _ => return Err(MISPLACED),
             },
             Token::Word(word) => {
-                let right = match word {
-                    b"epsilon" => (0, 0),
-                    _ => (1, self.verdicts.number(&slot(word))?),
+                let right = if word.is(&EPSILON) {
+                    (0, 0)
+                } else {
+                    (1, self.verdicts.number(&word)?)
                 };
                 match tokens.next()? {
                     Token::Stop => right,
@@ -255,13 +348,13 @@ impl Reading {
     }
 
     /// Reads the side that begins with this name: its length, and the token behind it.
-    fn side<'a>(&mut self, tokens: &mut Tokens<'a>, first: &[u8]) -> Result<(u8, Token<'a>), u32> {
+    fn side(&mut self, tokens: &mut Tokens, first: &Name) -> Result<(u8, Token), u32> {
         self.symbol(first)?;
         let mut length = 1;
         loop {
             match tokens.next()? {
                 Token::Name(_) if length == MAX_SIDE as u8 => return Err(TOO_MANY),
-                Token::Name(name) => self.symbol(name)?,
+                Token::Name(name) => self.symbol(&name)?,
                 token => return Ok((length, token)),
             }
             length += 1;
@@ -269,8 +362,9 @@ impl Reading {
     }
 
     /// Takes a name as the next symbol of the bodies.
-    fn symbol(&mut self, name: &[u8]) -> Result<(), u32> {
-        self.bodies[self.bodies_len] = self.symbols.number(&slot(name))?;
+    #[inline(always)]
+    fn symbol(&mut self, name: &Name) -> Result<(), u32> {
+        self.bodies[self.bodies_len] = self.symbols.number(name)?;
         self.bodies_len += 1;
         Ok(())
     }
@@ -289,16 +383,17 @@ impl Reading {
         head.copy_from_slice(&header.map(|count| count as u8));
         contents.copy_from_slice(self.contents[..self.rules].as_flattened());
         bodies.copy_from_slice(&self.bodies[..self.bodies_len]);
-        let symbols = self.symbols.slots.as_flattened();
-        names[..symbols.len()].copy_from_slice(symbols);
-        let verdicts = self.verdicts.slots.as_flattened();
-        names[symbols.len()..][..verdicts.len()].copy_from_slice(verdicts);
+        let (slots, _) = names[..SLOTS * size_of::<Slot>()].as_chunks_mut::<{ 1 + MAX_NAME }>();
+        slots.fill([0; 1 + MAX_NAME]);
+        let (symbols, verdicts) = slots.split_at_mut(MAX_SYMBOLS);
+        self.symbols.write(symbols);
+        self.verdicts.write(verdicts);
         length
     }
 }
 
-/// Writes image and names of a text: returns 0 or a refusal. Afterwards `out` holds the image's length
-/// and 0; beside a refusal 0 and its place.
+/// Writes image and names of a text: returns 0 or a refusal. Afterwards `out` holds the image's
+/// length and 0; beside a refusal 0 and its place.
 // Not inlined, as the library is not: the benchmark's loop must not see what is called.
 #[inline(never)]
 pub fn read_rules(text: &[u8], image: &mut [u8], names: &mut [u8], out: &mut [u64; 2]) -> u32 {
