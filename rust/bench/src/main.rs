@@ -1,13 +1,16 @@
 /*!
-Times the library against the same algorithms in safe Rust.
+Times the library against the same work in safe Rust, written twice.
 
-Both sides first do the work once and must agree in every result, and again after each run.
+* [`plain`] is the library's own algorithms, written plainly.
+* [`tuned`] is as fast as we could make safe Rust, with other algorithms where they are faster.
+
+All sides first do the work once and must agree in every result, and again after each run.
 [`timing`] says how they race.
 
-* [`texts`]: read_rules, against [`reader`].
-* [`tables`]: compile and check_table, against [`baseline`].
-* [`monitors`]: offers, goes-on and batches, against the same monitor in safe Rust ([`monitor`]) and
-  one that looks through its string again after every rewrite ([`rescan`]).
+* [`texts`] has read_rules.
+* [`tables`] has compile and check_table.
+* [`monitors`] has offers, goes-on and batches, and races the library also against a monitor that
+  looks through its string again after every rewrite ([`rescan`]).
 
 ```text
 cargo run --release -p bench [rounds [runs]]
@@ -16,14 +19,32 @@ cargo run --release -p bench [rounds [runs]]
 
 #![forbid(unsafe_code)]
 
-mod baseline;
-mod monitor;
 mod monitors;
-mod reader;
 mod rescan;
 mod tables;
 mod texts;
 mod timing;
+
+/// The library's own algorithms in safe Rust, written plainly.
+mod plain {
+    pub mod monitor;
+    pub mod reader;
+    pub mod tables;
+}
+
+/// Safe Rust as fast as we could make it.
+mod tuned {
+    pub mod monitor;
+    pub mod reader;
+    pub mod tables;
+}
+
+/// What is the same in both.
+mod shared {
+    pub mod monitor;
+    pub mod reader;
+    pub mod tables;
+}
 
 use std::env;
 

@@ -1,8 +1,10 @@
-//! The monitor: the library against [`crate::monitor`] and [`crate::rescan`].
+//! The monitor: the library against [`crate::plain`], [`crate::tuned`] and [`crate::rescan`].
 
-use crate::monitor;
+use crate::plain::monitor::Plain;
 use crate::rescan::Rescan;
-use crate::timing::{Group, Race, Side, Work};
+use crate::shared::monitor::{self, Kind};
+use crate::timing::{Group, Side, Work, BASELINES, LIBRARY};
+use crate::tuned::monitor::Tuned;
 use reference::monitor::{Lent, Memory, State, ROOM};
 use reference::random::{largest, sample, Random};
 use reference::{string, Right, RuleSet, Symbol};
@@ -42,18 +44,23 @@ type Batch = fn(
 ) -> u32;
 
 /// The monitors, the library's first.
-const MONITORS: [Functions; 2] = [
+const MONITORS: [Functions; 3] = [
     Functions {
         offer: raw::offer,
         go_on: raw::go_on,
         batch: raw::batch,
     },
-    Functions {
-        offer: monitor::offer,
-        go_on: monitor::go_on,
-        batch: monitor::batch,
-    },
+    functions::<Plain>(),
+    functions::<Tuned>(),
 ];
+
+const fn functions<K: Kind>() -> Functions {
+    Functions {
+        offer: monitor::offer::<K>,
+        go_on: monitor::go_on::<K>,
+        batch: monitor::batch::<K>,
+    }
+}
 
 /// A call of a monitor.
 #[derive(Clone, Debug)]
@@ -73,9 +80,9 @@ struct Lendings {
 }
 
 impl Call {
-    /// Makes the call, and says whether it was accepted, and all events of a batch.
+    /// Makes the call, and returns its refusal.
     #[inline]
-    fn make(&self, functions: &Functions, lent: &Lent, lendings: &mut Lendings) -> bool {
+    fn make(&self, functions: &Functions, lent: &Lent, lendings: &mut Lendings) -> u32 {
         let image = black_box(&lent.image[..]);
         let table = black_box(&lent.table[..]);
         let Lendings {
@@ -86,18 +93,20 @@ impl Call {
         let [answer @ .., _] = out;
         match self {
             Call::Offer(event, fuel) => {
-                (functions.offer)(image, table, head, bytes, words, *event, *fuel, answer) == 0
+                (functions.offer)(image, table, head, bytes, words, *event, *fuel, answer)
             }
-            Call::GoOn(fuel) => {
-                (functions.go_on)(image, table, head, bytes, words, *fuel, answer) == 0
-            }
-            Call::Batch(events, fuel) => {
-                let refusal = (functions.batch)(
-                    image, table, head, bytes, words, events, *fuel, answers, out,
-                );
-                refusal == 0 && out[0] == 0
-            }
+            Call::GoOn(fuel) => (functions.go_on)(image, table, head, bytes, words, *fuel, answer),
+            Call::Batch(events, fuel) => (functions.batch)(
+                image, table, head, bytes, words, events, *fuel, answers, out,
+            ),
         }
+    }
+
+    /// Makes the call, and says whether it was accepted, and all events of a batch.
+    #[inline]
+    fn goes_well(&self, functions: &Functions, lent: &Lent, lendings: &mut Lendings) -> bool {
+        let refusal = self.make(functions, lent, lendings);
+        refusal == 0 && (!matches!(self, Call::Batch(..)) || lendings.out[0] == 0)
     }
 }
 
@@ -181,10 +190,10 @@ fn go_back(back: Back, begin: &Memory, memory: &mut Memory) {
 
 impl Work for Day {
     fn once(&mut self, side: Side) -> bool {
-        let functions = &MONITORS[side as usize];
+        let functions = &MONITORS[side];
         let mut well = true;
         for call in &self.calls {
-            well &= call.make(functions, &self.lent, &mut self.lendings);
+            well &= call.goes_well(functions, &self.lent, &mut self.lendings);
         }
         go_back(self.back, &self.begin, &mut self.lendings.memory);
         well
@@ -192,15 +201,16 @@ impl Work for Day {
 
     fn expect_agreement(&mut self) {
         assert!(self.lendings.memory == self.begin);
-        let mut ours = self.lendings.clone();
-        let mut theirs = self.lendings.clone();
+        let mut sides = MONITORS.map(|functions| (functions, self.lendings.clone()));
         for call in &self.calls {
-            for (functions, lendings) in MONITORS.iter().zip([&mut ours, &mut theirs]) {
+            for (functions, lendings) in &mut sides {
                 lendings.out = [0; 5];
-                assert!(call.make(functions, &self.lent, lendings), "{call:?}");
+                assert!(call.goes_well(functions, &self.lent, lendings), "{call:?}");
             }
-            assert!(ours == theirs, "{call:?}");
+            let [ours, others @ ..] = &sides;
+            assert!(others.iter().all(|other| other.1 == ours.1), "{call:?}");
         }
+        let [(_, ours), ..] = &mut sides;
         self.go_back(&mut ours.memory);
         assert!(ours.memory == self.begin);
     }
@@ -212,20 +222,17 @@ impl Work for Day {
 
 /// All races of the monitor.
 pub fn races() -> Vec<Group> {
-    let races = |days: Vec<(&str, &'static str, Day)>| {
-        let races = days.into_iter();
-        races
-            .map(|(name, unit, day)| Race::new(name, unit, day))
-            .collect()
+    let group = |title, days: Vec<(&str, &'static str, Day)>| {
+        let mut group = Group::new(title, BASELINES);
+        for (name, unit, day) in days {
+            group.add(name, unit, day);
+        }
+        group
     };
     vec![
-        Group::new("Monitor", "Rust", races(days())),
-        Group::new(
-            "Calls without a step",
-            "Rust",
-            races(calls_without_a_step()),
-        ),
-        Group::new("Monitor, batches of 1,000", "rescanning", rescanning()),
+        group("Monitor", days()),
+        group("Calls without a step", calls_without_a_step()),
+        rescanning(),
     ]
 }
 
@@ -417,20 +424,20 @@ fn batches(events: &[Symbol], fuel: u32) -> Vec<Call> {
 }
 
 /// The races against a monitor that looks through its string again after every rewrite.
-fn rescanning() -> Vec<Race> {
-    [
+fn rescanning() -> Group {
+    let mut group = Group::new("Monitor, batches of 1,000", &["rescanning"]);
+    for (name, begin) in [
         ("lock take free, nothing held", State::default()),
         ("lock take free, 1,000 held", settled(&[FREE; 1_000])),
-    ]
-    .map(|(name, begin)| {
+    ] {
         let set = sample();
         let work = Rescanning {
             rescan: Rescan::new(&set, &begin.string()),
             day: Day::new(&Lent::of(&set), &begin, batches(&cycles(), FUEL)),
         };
-        Race::new(name, "event", work)
-    })
-    .into()
+        group.add(name, "event", work);
+    }
+    group
 }
 
 /// Batches of the library against another monitor, which takes fewer events, since it takes long.
@@ -447,8 +454,8 @@ impl Rescanning {
 impl Work for Rescanning {
     fn once(&mut self, side: Side) -> bool {
         match side {
-            Side::Library => self.day.once(side),
-            Side::Other => {
+            LIBRARY => self.day.once(side),
+            _ => {
                 let Call::Batch(events, fuel) = &self.day.calls[0] else {
                     return false;
                 };
@@ -466,7 +473,7 @@ impl Work for Rescanning {
         // Each event by itself, so that the strings in between are compared too.
         for &event in &events[..Self::EVENTS] {
             let call = Call::Batch(vec![event], *fuel);
-            assert!(call.make(&MONITORS[0], &self.day.lent, &mut lendings));
+            assert!(call.goes_well(&MONITORS[LIBRARY], &self.day.lent, &mut lendings));
             assert_eq!(rescan.batch(&[event], *fuel), lendings.out[3]);
             let [settled, waiting, verdict, _] = lendings.memory.head;
             assert_eq!((waiting, verdict), (0, 0));
@@ -477,8 +484,8 @@ impl Work for Rescanning {
 
     fn units(&self, side: Side) -> usize {
         match side {
-            Side::Library => self.day.units,
-            Side::Other => Self::EVENTS,
+            LIBRARY => self.day.units,
+            _ => Self::EVENTS,
         }
     }
 }
@@ -487,6 +494,7 @@ impl Work for Rescanning {
 mod tests {
     use super::*;
     use reference::monitor as naive;
+    use reference::random::Habit;
 
     /// What a day does, by the reference.
     #[derive(Debug, Default, PartialEq)]
@@ -498,29 +506,45 @@ mod tests {
         waited: u64,
     }
 
-    /// Makes the calls of a day by the reference and expects the same of both sides.
+    /// Makes the calls of a day by the reference and expects the same of all sides.
     fn walk(name: &str, day: &Day) -> Sums {
         let mut sums = Sums::default();
-        let mut both = [day.lendings.clone(), day.lendings.clone()];
         let mut lendings = day.lendings.clone();
         for call in &day.calls {
-            let counts = give(call, &day.lent, &mut lendings);
-            sums.steps += counts[0];
-            sums.rewrites += counts[1];
-            sums.put_back += counts[2];
+            assert_eq!(compare(call, &day.lent, &mut lendings), 0, "{name}");
+            let [stop, a, b, c, d] = lendings.out;
+            let [steps, rewrites, put_back] = match call {
+                Call::Batch(..) => {
+                    assert_eq!(stop, 0, "{name}");
+                    [b, c, d]
+                }
+                _ => [a, b, c],
+            };
+            sums.steps += steps;
+            sums.rewrites += rewrites;
+            sums.put_back += put_back;
             sums.waited = sums.waited.max(lendings.memory.head[1]);
-            for (functions, given) in MONITORS.iter().zip(&mut both) {
-                assert!(call.make(functions, &day.lent, given), "{name}");
-                assert!(*given == lendings, "{name}: {call:?}");
-            }
         }
         day.go_back(&mut lendings.memory);
         assert!(lendings.memory == day.begin, "{name}");
         sums
     }
 
-    /// Makes a call by the reference, and returns steps, rewrites and symbols put back.
-    fn give(call: &Call, lent: &Lent, lendings: &mut Lendings) -> [u64; 3] {
+    /// Makes a call by the reference, expects the same of all sides, and returns the refusal.
+    fn compare(call: &Call, lent: &Lent, lendings: &mut Lendings) -> u32 {
+        let before = lendings.clone();
+        let refusal = give(call, lent, lendings);
+        for (side, functions) in MONITORS.iter().enumerate() {
+            let mut given = before.clone();
+            let found = call.make(functions, lent, &mut given);
+            assert_eq!(found, refusal, "side {side}: {call:?}");
+            assert!(given == *lendings, "side {side}: {call:?}");
+        }
+        refusal
+    }
+
+    /// Makes a call by the reference, and returns its refusal.
+    fn give(call: &Call, lent: &Lent, lendings: &mut Lendings) -> u32 {
         let memory = &lendings.memory;
         let (refusal, after) = match call {
             Call::Batch(events, fuel) => {
@@ -540,12 +564,67 @@ mod tests {
                 (outcome.refusal, outcome.memory)
             }
         };
-        assert_eq!(refusal, 0);
         lendings.memory = after;
-        let [_, a, b, c, d] = lendings.out;
-        match call {
-            Call::Batch(..) => [b, c, d],
-            _ => [a, b, c],
+        refusal
+    }
+
+    /// Each side is what the reference says, so that all sides of a race do the same work: lists of
+    /// calls, some of them on damaged heads and areas.
+    #[test]
+    fn sides_are_the_reference() {
+        let mut random = Random::new(17);
+        let mut seen = [0; 17];
+        for round in 0..1_200 {
+            let set = Habit::ALL[round % Habit::ALL.len()].rule_set(&mut random);
+            let lent = Lent::of(&set);
+            let mut memory = Memory::empty();
+            if round % 5 == 0 {
+                let length = random.within(2_030, ROOM);
+                memory = waiting(&random.string(length, set.symbols)).lay_out(&lent);
+            }
+            for _ in 0..12 {
+                let good = memory.clone();
+                if random.once_in(4) {
+                    damage(&mut random, &mut memory);
+                }
+                let call = call(&mut random, &set);
+                let mut lendings = Lendings {
+                    memory,
+                    answers: vec![0x77; random.within(3, 5)],
+                    out: [9; 5],
+                };
+                let refusal = compare(&call, &lent, &mut lendings);
+                seen[refusal as usize] += 1;
+                memory = if refusal == 0 { lendings.memory } else { good };
+            }
+        }
+        for refusal in [0, 10, 11, 12, 13, 14, 15, 16] {
+            assert!(seen[refusal] > 50, "{refusal}: {seen:?}");
+        }
+    }
+
+    /// A call with an event, or a batch of four.
+    fn call(random: &mut Random, set: &RuleSet) -> Call {
+        let fuel = [0, 1, 3, 30, 65_536][random.below(5)];
+        match random.below(3) {
+            0 => Call::Offer(random.below(usize::from(set.events) + 1) as Symbol, fuel),
+            1 => Call::GoOn(fuel),
+            _ => Call::Batch(random.string(4, set.events), fuel),
+        }
+    }
+
+    fn damage(random: &mut Random, memory: &mut Memory) {
+        let place = match random.below(3) {
+            0 => random.below(4),
+            1 => ROOM - 1 - random.below(4),
+            _ => random.below(ROOM),
+        };
+        match random.below(5) {
+            0 => memory.bytes[place] = random.below(6) as u8,
+            1 => memory.words[place] = random.below(6) as u16,
+            2 => memory.head[random.below(4)] = random.below(5) as u64,
+            3 => memory.head[random.below(4)] = random.bits(),
+            _ => memory.words.truncate(place),
         }
     }
 

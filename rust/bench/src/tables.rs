@@ -1,29 +1,35 @@
-//! Compile and check_table: the library against [`crate::baseline`].
+//! Compile and check_table: the library against [`plain::tables`] and [`tuned::tables`].
 
-use crate::baseline;
-use crate::timing::{Group, Race, Side, Work};
+use crate::timing::{Group, Side, Work, BASELINES};
+use crate::{plain, tuned};
 use reference::random::{self, Random};
 use reference::RuleSet;
 use std::hint::black_box;
+use watcher::raw;
+
+type Compiler = fn(&[u8], &mut [u16], &mut [u64; 1]) -> u32;
+type Checker = fn(&[u8], &[u16]) -> u32;
+
+/// The ways to compile, the library's first.
+const COMPILERS: [Compiler; 3] = [raw::compile, plain::tables::compile, tuned::tables::compile];
+
+/// The ways to check a table, the library's first.
+const CHECKERS: [Checker; 3] = [
+    raw::check_table,
+    plain::tables::check_table,
+    tuned::tables::check_table,
+];
 
 /// The races of compile and check_table on each rule set.
 pub fn races() -> Group {
-    let mut races = Vec::new();
+    let mut group = Group::new("Tables", BASELINES);
     for (name, set) in rule_sets() {
         let tables = Tables::new(&set);
         let name = format!("{name} ({} words)", tables.words);
-        races.push(Race::new(
-            &format!("{name}: compile"),
-            "call",
-            Compile(tables.clone()),
-        ));
-        races.push(Race::new(
-            &format!("{name}: check_table"),
-            "call",
-            Check(tables),
-        ));
+        group.add(&format!("{name}: compile"), "call", Compile(tables.clone()));
+        group.add(&format!("{name}: check_table"), "call", Check(tables));
     }
-    Group::new("Tables", "Rust", races)
+    group
 }
 
 /// The rule sets measured, with their names.
@@ -78,10 +84,8 @@ struct Compile(Tables);
 impl Work for Compile {
     fn once(&mut self, side: Side) -> bool {
         let Compile(Tables { image, table, .. }) = self;
-        match side {
-            Side::Library => watcher::compile(black_box(image), black_box(table)).is_ok(),
-            Side::Other => baseline::compile(black_box(image), black_box(table)).is_ok(),
-        }
+        let mut out = [0];
+        COMPILERS[side](black_box(image), black_box(table), &mut out) == 0
     }
 
     fn expect_agreement(&mut self) {
@@ -90,11 +94,12 @@ impl Work for Compile {
             table,
             words,
         }) = self;
-        let mut ours = vec![0xaaaa; table.len()];
-        let mut theirs = ours.clone();
-        assert_eq!(watcher::compile(image, &mut ours), Ok(*words));
-        assert_eq!(baseline::compile(image, &mut theirs), Ok(*words));
-        assert!(ours == *table && theirs == *table);
+        for compile in COMPILERS {
+            let mut area = vec![0xaaaa; table.len()];
+            let mut out = [0];
+            assert_eq!(compile(image, &mut area, &mut out), 0);
+            assert!(out == [*words as u64] && area == *table);
+        }
     }
 }
 
@@ -104,10 +109,7 @@ struct Check(Tables);
 impl Work for Check {
     fn once(&mut self, side: Side) -> bool {
         let Check(Tables { image, table, .. }) = self;
-        match side {
-            Side::Library => watcher::check_table(black_box(image), black_box(table)).is_ok(),
-            Side::Other => baseline::check_table(black_box(image), black_box(table)).is_ok(),
-        }
+        CHECKERS[side](black_box(image), black_box(table)) == 0
     }
 
     fn expect_agreement(&mut self) {
@@ -116,12 +118,12 @@ impl Work for Check {
             table,
             words,
         }) = self;
-        assert_eq!(watcher::check_table(image, table), Ok(()));
-        assert_eq!(baseline::check_table(image, table), Ok(()));
         let mut changed = table.clone();
         changed[*words - 1] ^= 1;
-        assert!(watcher::check_table(image, &changed).is_err());
-        assert!(baseline::check_table(image, &changed).is_err());
+        for check_table in CHECKERS {
+            assert_eq!(check_table(image, table), 0);
+            assert_ne!(check_table(image, &changed), 0);
+        }
     }
 }
 
@@ -130,9 +132,9 @@ mod tests {
     use super::*;
     use reference::random::Shape;
 
-    /// The baseline is what the reference says, so that both sides of the race do the same work.
+    /// Each side is what the reference says, so that all sides of a race do the same work.
     #[test]
-    fn baseline_is_the_reference() {
+    fn sides_are_the_reference() {
         let mut random = Random::new(7);
         let mut refused = 0;
         let mut differing = 0;
@@ -144,9 +146,7 @@ mod tests {
             let mut table = reference::table(&set);
             let place = random.below(table.len());
             table[place] = random.below(table[0].into()) as u16;
-            let expected = reference::check_table(&image, &table);
-            differing += usize::from(expected.is_err());
-            assert_eq!(baseline::check_table(&image, &table), expected);
+            differing += usize::from(compare_checks(&image, &table) != 0);
 
             let place = random.below(image.len());
             image[place] = random.below(40) as u8;
@@ -160,24 +160,35 @@ mod tests {
         }
     }
 
+    /// Compares the checks of a table, and returns the refusal.
+    fn compare_checks(image: &[u8], table: &[u16]) -> u32 {
+        let expected = reference::check_table(image, table).err().unwrap_or(0);
+        for check_table in CHECKERS {
+            assert_eq!(check_table(image, table), expected);
+        }
+        expected
+    }
+
     /// Compares compile and check_table on one image, with areas around the length needed.
     fn compare(image: &[u8], more: usize) {
         let needed = reference::parse(image).map_or(4, |set| reference::table_len(&set));
         for area in [needed - 1, needed + more] {
             let before = vec![0xa5a5; area];
-            let mut after = before.clone();
-            let expected = reference::compile(image, area);
-            let mut wanted = before;
-            if let Ok(table) = &expected {
-                wanted[..table.len()].copy_from_slice(table);
+            let mut wanted = before.clone();
+            let (refusal, words) = match reference::compile(image, area) {
+                Ok(table) => {
+                    wanted[..table.len()].copy_from_slice(&table);
+                    (0, table.len() as u64)
+                }
+                Err(refusal) => (refusal, 0),
+            };
+            for compile in COMPILERS {
+                let mut after = before.clone();
+                let mut out = [9];
+                assert_eq!(compile(image, &mut after, &mut out), refusal);
+                assert_eq!((out, &after), ([words], &wanted));
             }
-            let found = baseline::compile(image, &mut after);
-            assert_eq!(found, expected.map(|table| table.len()));
-            assert_eq!(after, wanted);
-            assert_eq!(
-                baseline::check_table(image, &after),
-                reference::check_table(image, &after)
-            );
+            compare_checks(image, &wanted);
         }
     }
 }

@@ -1,7 +1,7 @@
-//! Rule texts: the library's reader against [`crate::reader`].
+//! Rule texts: the library's reader against [`plain::reader`] and [`tuned::reader`].
 
-use crate::reader;
-use crate::timing::{Group, Race, Side, Work};
+use crate::timing::{Group, Side, Work, BASELINES};
+use crate::{plain, tuned};
 use reference::random::{largest, Random};
 use reference::reader::{self as naive, Name, IMAGE_AREA, MAX_TEXT_BYTES, NAME_AREA};
 use reference::texts::{tokens, Naming};
@@ -14,12 +14,13 @@ const SAMPLE: &[u8] =
 
 /// The races of the reader on each text.
 pub fn races() -> Group {
-    let races = texts().into_iter().map(|(name, text)| {
+    let mut group = Group::new("Rule texts", BASELINES);
+    for (name, text) in texts() {
         let tokens = naive::runs(&text).len();
         let name = format!("{name} ({} bytes, {tokens} tokens)", text.len());
-        Race::new(&name, "read", Reading::new(text))
-    });
-    Group::new("Rule texts", "Rust", races.collect())
+        group.add(&name, "read", Reading::new(text));
+    }
+    group
 }
 
 /// The texts measured, with their names.
@@ -91,7 +92,7 @@ fn filled(tokens: &[Vec<u8>]) -> Vec<u8> {
     text
 }
 
-/// A reader, the library's or that in safe Rust.
+/// A reader, the library's or one in safe Rust.
 type Read = fn(&[u8], &mut [u8], &mut [u8], &mut [u64; 2]) -> u32;
 
 /// What a reader gives: the refusal, `out`, and both areas.
@@ -119,7 +120,11 @@ fn wanted(text: &[u8], areas: [usize; 2]) -> Given {
 }
 
 /// The readers, the library's first.
-const READERS: [Read; 2] = [raw::read_rules, reader::read_rules];
+const READERS: [Read; 3] = [
+    raw::read_rules,
+    plain::reader::read_rules,
+    tuned::reader::read_rules,
+];
 
 /// Reads a text into areas that stay the same.
 struct Reading {
@@ -147,7 +152,7 @@ impl Reading {
 impl Work for Reading {
     fn once(&mut self, side: Side) -> bool {
         let mut out = [0; 2];
-        let refusal = READERS[side as usize](
+        let refusal = READERS[side](
             black_box(&self.text),
             black_box(&mut self.image),
             black_box(&mut self.names),
@@ -171,22 +176,24 @@ mod tests {
     use reference::random::{Habit, Shape};
     use reference::texts::{self, Spacing};
 
-    /// Compares the baseline with the reference, and returns the refusal.
+    /// Compares all sides with the reference, and returns the refusal.
     fn compare(text: &[u8], areas: [usize; 2]) -> u32 {
         let wanted = wanted(text, areas);
-        assert!(
-            given(reader::read_rules, text, areas) == wanted,
-            "refusal {}, place {}: {}",
-            wanted.0,
-            wanted.1[1],
-            text.escape_ascii()
-        );
+        for (side, read) in READERS.into_iter().enumerate() {
+            assert!(
+                given(read, text, areas) == wanted,
+                "side {side}, refusal {}, place {}: {}",
+                wanted.0,
+                wanted.1[1],
+                text.escape_ascii()
+            );
+        }
         wanted.0
     }
 
-    /// The baseline is what the reference says, so that both sides of the race do the same work.
+    /// Each side is what the reference says, so that all sides of a race do the same work.
     #[test]
-    fn baseline_is_the_reference() {
+    fn sides_are_the_reference() {
         let mut random = Random::new(31);
         let mut seen = [0; 7];
         let mut count = |refusal: u32| seen[refusal as usize] += 1;
@@ -232,9 +239,9 @@ mod tests {
         }
     }
 
-    /// Each limit of the baseline from both sides.
+    /// Each limit, with as many and with one more.
     #[test]
-    fn limits_of_the_baseline() {
+    fn limits() {
         let areas = [IMAGE_AREA, NAME_AREA];
         for count in [1, 7, 8, 9, 13, 14, 15, 24, 25, 31, 32, 33, 63, 64, 65] {
             let names = |prefix: &str| -> Vec<String> {

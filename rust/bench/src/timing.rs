@@ -1,11 +1,12 @@
 /*!
-Races between the library and another way to do the same work.
+Races between the library and other ways to do the same work.
 
 A race is run in short rounds, so that a round that the machine interrupts is one of many. In each
-round both sides have a turn, one right behind the other, and from round to round another one goes
+round all sides have a turn, one right behind the other, and from round to round another one goes
 first. The ratio of a run is the median of its rounds' ratios: what slows the machine down for
-longer than a round slows both sides of a round. Both sides work on the same buffers, so that
-neither is better placed.
+longer than a round slows all sides of a round. All sides work on the same buffers, so that none is
+better placed. In a turn the calls are made twice, and only the second time counts: at first the
+processor still guesses branches by what the other sides did, and took up to half as long again.
 
 A run of all races is made several times. What is shown is the median over the runs, and beside it
 the least and the largest ratio: how far it moves.
@@ -17,24 +18,22 @@ use std::time::{Duration, Instant};
 /// How long the calls of one side take in a round, at least; mostly less than twice as long.
 const TURN: Duration = Duration::from_micros(150);
 
-/// Who does the work.
-#[derive(Clone, Copy)]
-pub enum Side {
-    /// The library.
-    Library,
-    /// What it is measured against.
-    Other,
-}
+/// Who does the work: the library is side 0, and behind it comes what it is measured against.
+pub type Side = usize;
 
-const SIDES: [Side; 2] = [Side::Library, Side::Other];
+/// The library's side.
+pub const LIBRARY: Side = 0;
 
-/// Work that both sides can do.
+/// What the library is mostly measured against: sides 1 and 2.
+pub const BASELINES: &[&str] = &["plain", "tuned"];
+
+/// Work that all sides can do.
 pub trait Work {
     /// Does the work once, and says whether all went well. Afterwards everything is as it was
     /// before, so that it can be done again. This is what is timed.
     fn once(&mut self, side: Side) -> bool;
 
-    /// Expects that both sides give and leave the same.
+    /// Expects that all sides give and leave the same.
     fn expect_agreement(&mut self);
 
     /// How many units one call has: events, say. Times are shown for one unit.
@@ -52,113 +51,135 @@ pub trait Work {
     }
 }
 
-/// Two times, the library's first.
-type Times = [f64; 2];
+/// What a run gave: for each side its time, and the ratio of the library's time to it.
+type Run = Vec<(f64, f64)>;
 
 /// A race: a row of a table.
-pub struct Race {
+struct Race {
     name: String,
     unit: &'static str,
     work: Box<dyn Work>,
     /// The calls of each side in a round.
-    calls: [u32; 2],
-    /// For each run the sides' times and their ratio.
-    runs: Vec<(Times, f64)>,
+    calls: Vec<u32>,
+    runs: Vec<Run>,
 }
 
 impl Race {
-    /// A race, not run yet.
-    pub fn new(name: &str, unit: &'static str, work: impl Work + 'static) -> Race {
-        let mut race = Race {
-            name: name.to_string(),
-            unit,
-            work: Box::new(work),
-            calls: [1; 2],
-            runs: Vec::new(),
-        };
-        race.work.expect_agreement();
-        for side in SIDES {
-            // The fastest of a few turns, since one may be interrupted.
-            while (0..5).map(|_| race.turn(side)).min() < Some(TURN) {
-                race.calls[side as usize] *= 2;
-            }
-        }
-        race
-    }
-
-    /// The time of the calls of a side in one round, each of which must go well.
+    /// The time of the calls of a side in one round, each of which must go well. They are made
+    /// once before, untimed.
     fn turn(&mut self, side: Side) -> Duration {
-        let calls = self.calls[side as usize];
+        let mut well = self.work.often(side, self.calls[side]);
         let start = Instant::now();
-        let well = self.work.often(side, calls);
+        well &= self.work.often(side, self.calls[side]);
         let time = start.elapsed();
         assert!(well, "{}", self.name);
         time
     }
 
+    /// Doubles the calls of a side until they take long enough.
+    fn set_calls(&mut self, side: Side) {
+        // The fastest of a few turns, since one may be interrupted.
+        while (0..5).map(|_| self.turn(side)).min() < Some(TURN) {
+            self.calls[side] *= 2;
+        }
+    }
+
     /// The nanoseconds for one unit in a turn of this side.
     fn time(&mut self, side: Side) -> f64 {
-        let units = f64::from(self.calls[side as usize]) * self.work.units(side) as f64;
+        let units = f64::from(self.calls[side]) * self.work.units(side) as f64;
         self.turn(side).as_secs_f64() * 1e9 / units
     }
 
     /// Makes a run of so many rounds.
     fn run(&mut self, rounds: usize) {
-        // Turns that are not counted warm the buffers.
-        for side in SIDES {
-            self.turn(side);
-        }
-        let mut times = [vec![], vec![]];
-        let mut ratios = Vec::with_capacity(rounds);
+        let sides = self.calls.len();
+        let mut times = vec![Vec::with_capacity(rounds); sides];
         for round in 0..rounds {
-            let mut pair = [0.0; 2];
-            for turn in 0..2 {
-                let side = SIDES[(round + turn) % 2];
-                pair[side as usize] = self.time(side);
+            for side in order(round, sides) {
+                times[side].push(self.time(side));
             }
-            let [library, other] = pair;
-            times[0].push(library);
-            times[1].push(other);
-            ratios.push(library / other);
         }
         self.work.expect_agreement();
-        self.runs.push((times.map(median), median(ratios)));
+        let of_side = |side: &Vec<f64>| {
+            let pairs = times[LIBRARY].iter().zip(side);
+            let ratio = median(pairs.map(|(library, other)| library / other).collect());
+            (median(side.clone()), ratio)
+        };
+        self.runs.push(times.iter().map(of_side).collect());
     }
 
-    /// The row: name, unit, times, and the ratio with its least and its largest.
-    fn row(&self) -> String {
-        let of_runs = |value: fn(&(Times, f64)) -> f64| self.runs.iter().map(value).collect();
-        let mut ratios: Vec<f64> = of_runs(|run| run.1);
-        ratios.sort_unstable_by(f64::total_cmp);
-        let library = figure(median(of_runs(|run| run.0[0])));
-        let other = figure(median(of_runs(|run| run.0[1])));
-        let [least, ratio, largest] = [0, ratios.len() / 2, ratios.len() - 1].map(|i| ratios[i]);
-        // Ratios far below 1 with the digits that they have.
-        let digits = if ratio < 0.1 { 4 } else { 2 };
-        format!(
-            "{:<60} {:<8} {library:>9} {other:>10} {ratio:>7.digits$} {least:>7.digits$} \
-             {largest:>7.digits$}",
-            self.name, self.unit
-        )
+    /// The row: name, unit, the library's time, and of each other side its time, and the ratio with
+    /// its least and its largest.
+    fn row(&self, others: &[&str]) -> String {
+        let time = |side: Side| figure(median(self.runs.iter().map(|run| run[side].0).collect()));
+        let mut row = format!("{:<60} {:<7} {:>8}", self.name, self.unit, time(LIBRARY));
+        for (other, name) in others.iter().enumerate() {
+            let side = LIBRARY + 1 + other;
+            let mut ratios: Vec<f64> = self.runs.iter().map(|run| run[side].1).collect();
+            ratios.sort_unstable_by(f64::total_cmp);
+            let shown = [ratios.len() / 2, 0, ratios.len() - 1].map(|place| ratios[place]);
+            // Ratios far below 1 with the digits that they have.
+            let digits = if shown[0] < 0.1 { 4 } else { 2 };
+            let shown = shown.map(|ratio| format!("{ratio:.digits$}"));
+            row += &columns(name, &time(side), shown.each_ref().map(String::as_str));
+        }
+        row
     }
+}
+
+/// The sides in the order of their turns in a round: each one goes first, then the same backwards.
+fn order(round: usize, sides: usize) -> impl Iterator<Item = Side> {
+    let backwards = round / sides % 2 == 1;
+    (0..sides).map(move |turn| {
+        let side = (round + turn) % sides;
+        if backwards {
+            sides - 1 - side
+        } else {
+            side
+        }
+    })
+}
+
+/// The columns of a side other than the library.
+fn columns(name: &str, time: &str, ratios: [&str; 3]) -> String {
+    let [ratio, least, most] = ratios;
+    let width = name.len().max(8);
+    format!("  {time:>width$} {ratio:>6} {least:>6} {most:>6}")
 }
 
 /// Races that are shown together.
 pub struct Group {
     title: &'static str,
     /// What the library is measured against.
-    other: &'static str,
+    others: &'static [&'static str],
     races: Vec<Race>,
 }
 
 impl Group {
-    /// Races with what stands above them.
-    pub fn new(title: &'static str, other: &'static str, races: Vec<Race>) -> Group {
+    /// A group without races.
+    pub fn new(title: &'static str, others: &'static [&'static str]) -> Group {
         Group {
             title,
-            other,
-            races,
+            others,
+            races: Vec::new(),
         }
+    }
+
+    /// Adds a race, not run yet.
+    pub fn add(&mut self, name: &str, unit: &'static str, work: impl Work + 'static) {
+        let sides = 1 + self.others.len();
+        let mut race = Race {
+            name: name.to_string(),
+            unit,
+            work: Box::new(work),
+            calls: vec![1; sides],
+            runs: Vec::new(),
+        };
+        race.work.expect_agreement();
+        for side in 0..sides {
+            race.set_calls(side);
+        }
+        self.races.push(race);
     }
 
     /// Makes a run of so many rounds of each race.
@@ -170,12 +191,13 @@ impl Group {
 
     /// Prints the table of these races.
     pub fn print(&self) {
-        println!(
-            "\n{:<60} {:<8} {:>9} {:>10} {:>7} {:>7} {:>7}",
-            self.title, "for one", "library", self.other, "ratio", "least", "largest"
-        );
+        let mut head = format!("{:<60} {:<7} {:>8}", self.title, "for one", "library");
+        for name in self.others {
+            head += &columns(name, name, ["ratio", "least", "most"]);
+        }
+        println!("\n{head}");
         for race in &self.races {
-            println!("{}", race.row());
+            println!("{}", race.row(self.others));
         }
     }
 }
@@ -192,5 +214,26 @@ fn figure(time: f64) -> String {
         format!("{time:.1}")
     } else {
         format!("{time:.0}")
+    }
+}
+
+#[cfg(test)]
+mod tests {
+    use super::*;
+
+    /// In six rounds of three sides each order is there once, and nobody has two turns in a row.
+    #[test]
+    fn orders() {
+        let orders: Vec<Vec<Side>> = (0..6).map(|round| order(round, 3).collect()).collect();
+        let turns: Vec<Side> = (0..7).flat_map(|round| order(round, 3)).collect();
+        assert!(turns.windows(2).all(|pair| pair[0] != pair[1]));
+        let mut sorted = orders.clone();
+        sorted.sort();
+        sorted.dedup();
+        assert_eq!(sorted.len(), 6, "{orders:?}");
+        for mut order in orders {
+            order.sort();
+            assert_eq!(order, [0, 1, 2]);
+        }
     }
 }

@@ -1,73 +1,19 @@
 /*!
-The library's algorithm in safe Rust: what the benchmark measures the library against.
+Tables, tuned: as fast as we could make safe Rust.
 
-A trie of the left sides is built node by node, in the order of the states' numbers. Compile goes
-through its nodes by depth: each row is that of its failure state with the node's own children
-written over it. The check builds the same trie and then looks at each word of the table once or
-twice.
+The trie is the library's, but its nodes are arrays of eight words, so that one bounds check is
+enough for a node, and the root's children are found by their symbol at once. Compile is another
+algorithm: it sorts the nodes by depth, and each row is a copy of its failure state's row with the
+node's own children written over it, so that no row is cleared first. The check is the library's.
 */
 
-/// Refusal 7: the image breaks the layout or a range.
-pub const BAD_IMAGE: u32 = 7;
-/// Refusal 8: the table area is shorter than the words needed.
-pub const SHORT_AREA: u32 = 8;
-/// Refusal 9: the table is not that of the image.
-pub const OTHER_TABLE: u32 = 9;
+use crate::shared::tables::*;
 
-/// The most symbols that a side has.
-const MAX_SIDE: usize = 8;
 /// The most symbols that there are.
 const MAX_SYMBOLS: usize = 32;
 
-/// The nodes of the largest trie: the root and 64 left sides of 8 symbols.
-const NODES: usize = 513;
-/// The nodes of the trie of a rule set whose bodies have less than 64 symbols.
-const FEW_NODES: usize = 64;
-
-/// A node of the trie. An array, so that one bounds check is enough for all its words.
-type Node = [u16; 8];
-
-// Where the words of a node are.
-const PARENT: usize = 0;
-const SYMBOL: usize = 1;
-const DEPTH: usize = 2;
-const YOUNGEST_CHILD: usize = 3;
-const OLDER_SIBLING: usize = 4;
-const CHILDREN: usize = 5;
-const MATCH: usize = 6;
-const FAILURE: usize = 7;
-
-/// Whether the image keeps the layout and the ranges.
-fn is_valid(image: &[u8]) -> bool {
-    let [s, r, v, e, rest @ ..] = image else {
-        return false;
-    };
-    if !((1..=32).contains(s) && *r <= 64 && (2..=16).contains(v) && (1..=*s).contains(e)) {
-        return false;
-    }
-    let contents_len = 4 * usize::from(*r);
-    if rest.len() < contents_len {
-        return false;
-    }
-    let (contents, bodies) = rest.split_at(contents_len);
-    let mut bodies_len = 0;
-    for entry in contents.chunks_exact(4) {
-        let (left, kind, right, zero) = (entry[0], entry[1], entry[2], entry[3]);
-        if !(1..=8).contains(&left) || zero != 0 {
-            return false;
-        }
-        bodies_len += usize::from(left);
-        match kind {
-            0 if right <= 8 => bodies_len += usize::from(right),
-            1 if right < *v => {}
-            _ => return false,
-        }
-    }
-    if bodies.len() != bodies_len {
-        return false;
-    }
-    bodies.iter().fold(0, |most, &symbol| symbol.max(most)) < *s
-}
+/// A node of the trie.
+type Node = [u16; NODE];
 
 /// Builds the trie of a valid image's left sides, in a trie of zeros, and returns the number of
 /// nodes. The root may have many children, so these are found by their symbol; those of other nodes
@@ -138,37 +84,30 @@ fn failure(trie: &[Node], rows: &[u16], s: usize, q: usize) -> usize {
     }
 }
 
-/// Writes the table of an image and returns the number of words written, or a refusal.
+/// Writes the table of an image: returns 0 or a refusal. Afterwards `out` holds the number of words
+/// written.
 // Not inlined, as the library is not: the benchmark's loop must not see what is called.
 #[inline(never)]
-pub fn compile(image: &[u8], table: &mut [u16]) -> Result<usize, u32> {
-    if !is_valid(image) {
-        return Err(BAD_IMAGE);
-    }
-    if is_small(image) {
-        compile_with::<FEW_NODES>(image, table)
-    } else {
-        compile_with::<NODES>(image, table)
+pub fn compile(image: &[u8], table: &mut [u16], out: &mut [u64; 1]) -> u32 {
+    *out = [0];
+    match size(image) {
+        Size::Bad => BAD_IMAGE,
+        Size::Small => compile_with::<FEW_NODES>(image, table, out),
+        Size::Large => compile_with::<NODES>(image, table, out),
     }
 }
 
-/// Whether the bodies of a valid image have less than 64 symbols.
-fn is_small(image: &[u8]) -> bool {
-    image.len() - (4 + 4 * usize::from(image[1])) < 64
-}
-
-/// The same of a valid image, with room for so many nodes.
-fn compile_with<const N: usize>(image: &[u8], table: &mut [u16]) -> Result<usize, u32> {
-    let mut trie = [[0; 8]; N];
+/// The same of a valid image, with room for so many nodes. Not inlined, so that few nodes need a
+/// small frame only.
+#[inline(never)]
+fn compile_with<const N: usize>(image: &[u8], table: &mut [u16], out: &mut [u64; 1]) -> u32 {
+    let mut trie = [[0; NODE]; N];
     let n = build(image, &mut trie);
     let s = usize::from(image[0]);
-    let words = 2 + n + n * s;
-    if table.len() < words {
-        return Err(SHORT_AREA);
-    }
-    let (head, rows) = table[..words].split_at_mut(2 + n);
-    head[0] = n as u16;
-    head[1] = s as u16;
+    let Some(parts) = begin(table, n, s) else {
+        return SHORT_AREA;
+    };
+    let rows = parts.rows;
     let trie = &mut trie[..n];
     let mut by_depth = [0; N];
     sort_by_depth(trie, &mut by_depth);
@@ -187,10 +126,11 @@ fn compile_with<const N: usize>(image: &[u8], table: &mut [u16]) -> Result<usize
         copy(row, from);
         write_children(trie, rows, s, q);
     }
-    for (word, node) in head[2..].iter_mut().zip(trie) {
+    for (word, node) in parts.matches.iter_mut().zip(trie) {
         *word = node[MATCH];
     }
-    Ok(words)
+    *out = [parts.words as u64];
+    0
 }
 
 /// The nodes in the order of their depths.
@@ -222,18 +162,6 @@ fn write_children(trie: &[Node], rows: &mut [u16], s: usize, q: usize) {
     }
 }
 
-/// Rows `q` and `f`, which differ, the first of them to be written.
-#[inline(always)]
-fn two_rows(rows: &mut [u16], s: usize, q: usize, f: usize) -> (&mut [u16], &[u16]) {
-    if f < q {
-        let (before, after) = rows.split_at_mut(q * s);
-        (&mut after[..s], &before[f * s..][..s])
-    } else {
-        let (before, after) = rows.split_at_mut(f * s);
-        (&mut before[q * s..][..s], &after[..s])
-    }
-}
-
 /// Copies a row. By eights: a call for so few words takes longer.
 #[inline(always)]
 fn copy(row: &mut [u16], from: &[u16]) {
@@ -247,43 +175,35 @@ fn copy(row: &mut [u16], from: &[u16]) {
     }
 }
 
-/// Whether the table begins with the words that compile gives for the image, or a refusal.
+/// Whether the table begins with the words that compile gives for the image: returns 0 or a
+/// refusal.
 #[inline(never)]
-pub fn check_table(image: &[u8], table: &[u16]) -> Result<(), u32> {
-    if !is_valid(image) {
-        return Err(BAD_IMAGE);
-    }
-    if is_small(image) {
-        check_with::<FEW_NODES>(image, table)
-    } else {
-        check_with::<NODES>(image, table)
+pub fn check_table(image: &[u8], table: &[u16]) -> u32 {
+    match size(image) {
+        Size::Bad => BAD_IMAGE,
+        Size::Small => check_with::<FEW_NODES>(image, table),
+        Size::Large => check_with::<NODES>(image, table),
     }
 }
 
 /// The same of a valid image, with room for so many nodes.
-fn check_with<const N: usize>(image: &[u8], table: &[u16]) -> Result<(), u32> {
-    let mut trie = [[0; 8]; N];
+fn check_with<const N: usize>(image: &[u8], table: &[u16]) -> u32 {
+    let mut trie = [[0; NODE]; N];
     let n = build(image, &mut trie);
     let s = usize::from(image[0]);
     if is_table_of(&mut trie[..n], s, table) {
-        Ok(())
+        0
     } else {
-        Err(OTHER_TABLE)
+        OTHER_TABLE
     }
 }
 
 /// Whether the table begins with that of a trie over `s` symbols.
 fn is_table_of(trie: &mut [Node], s: usize, table: &[u16]) -> bool {
     let n = trie.len();
-    let words = 2 + n + n * s;
-    if table.len() < words || usize::from(table[0]) != n || usize::from(table[1]) != s {
+    let Some((matches, rows)) = parts(table, n, s, trie[0][CHILDREN]) else {
         return false;
-    }
-    let (matches, rows) = table[2..words].split_at(n);
-    let leaving: u16 = rows[..s].iter().map(|&word| u16::from(word != 0)).sum();
-    if matches[0] != 0 || leaving != trie[0][CHILDREN] {
-        return false;
-    }
+    };
     for q in 1..n {
         let node = &trie[q];
         let parent = usize::from(node[PARENT]);
@@ -300,19 +220,9 @@ fn is_table_of(trie: &mut [Node], s: usize, table: &[u16]) -> bool {
             0 => matches[f],
             own => own,
         };
-        if matches[q] != match_word {
-            return false;
-        }
-        if differing(&rows[q * s..][..s], &rows[f * s..][..s]) != node[CHILDREN] {
+        if matches[q] != match_word || differing(rows, s, q, f) != node[CHILDREN] {
             return false;
         }
     }
     true
-}
-
-/// In how many words two rows differ, counted in 16 bits, so that the loop compares as many words
-/// at once as it can.
-#[inline(always)]
-fn differing(row: &[u16], other: &[u16]) -> u16 {
-    row.iter().zip(other).map(|(a, b)| u16::from(a != b)).sum()
 }
