@@ -1,9 +1,9 @@
 //! Compile and check_table: the library against [`plain::tables`] and [`tuned::tables`].
 
-use crate::timing::{Group, Side, Work, BASELINES};
+use crate::timing::{many, Group, Pool, Side, Work, BASELINES};
 use crate::{plain, tuned};
 use reference::random::{self, Random};
-use reference::RuleSet;
+use reference::{Right, RuleSet, Symbol};
 use std::hint::black_box;
 use watcher::raw;
 
@@ -20,20 +20,28 @@ const CHECKERS: [Checker; 3] = [
     tuned::tables::check_table,
 ];
 
-/// The races of compile and check_table on each rule set.
+/// The races of compile and check_table on each kind of rule sets.
 pub fn races() -> Group {
     let mut group = Group::new("Tables", BASELINES);
     for (name, set) in rule_sets() {
-        let tables = Tables::new(&set);
-        let name = format!("{name} ({} words)", tables.words);
-        group.add(&format!("{name}: compile"), "call", Compile(tables.clone()));
-        group.add(&format!("{name}: check_table"), "call", Check(tables));
+        let tables = variants(&set);
+        let name = format!("{name} ({} words)", tables[0].table.len());
+        group.add(
+            &format!("{name}: compile"),
+            "call",
+            Compile::new(tables.clone()),
+        );
+        group.add(
+            &format!("{name}: check_table"),
+            "call",
+            Check(Pool::new(tables)),
+        );
     }
     group
 }
 
-/// The rule sets measured, with their names.
-pub fn rule_sets() -> Vec<(&'static str, RuleSet)> {
+/// The rule sets of which those measured are variants, with their names.
+fn rule_sets() -> Vec<(&'static str, RuleSet)> {
     vec![
         ("sample", random::sample()),
         ("middle: 20 rules, S = 12", middle()),
@@ -55,74 +63,116 @@ fn middle() -> RuleSet {
     random.with_left_sides(12, lefts)
 }
 
-/// A rule set's image, and an area with its table.
+/// The rule set with its symbols exchanged and its rules in another order. Its table is as large.
+fn exchanged(random: &mut Random, set: &RuleSet) -> RuleSet {
+    let mut symbols: Vec<Symbol> = (0..set.symbols).collect();
+    shuffle(random, &mut symbols);
+    let exchange = |side: &mut Vec<Symbol>| {
+        for symbol in side {
+            *symbol = symbols[usize::from(*symbol)];
+        }
+    };
+    let mut set = set.clone();
+    for rule in &mut set.rules {
+        exchange(&mut rule.left);
+        if let Right::Symbols(right) = &mut rule.right {
+            exchange(right);
+        }
+    }
+    shuffle(random, &mut set.rules);
+    set
+}
+
+fn shuffle<T>(random: &mut Random, things: &mut [T]) {
+    for place in 1..things.len() {
+        things.swap(place, random.within(0, place));
+    }
+}
+
+/// A rule set's image and its table.
 #[derive(Clone)]
 struct Tables {
     image: Vec<u8>,
     table: Vec<u16>,
-    /// The words of the table; the rest of the area stays as it is.
-    words: usize,
 }
 
 impl Tables {
     fn new(set: &RuleSet) -> Tables {
-        let expected = reference::table(set);
-        let words = expected.len();
-        let mut table = expected;
-        table.resize(watcher::MAX_TABLE_WORDS, 0xaaaa);
         Tables {
             image: reference::encode(set),
-            table,
-            words,
+            table: reference::table(set),
         }
     }
 }
 
-/// Compiles into the area.
-struct Compile(Tables);
+/// A pool's worth of variants of a rule set.
+fn variants(set: &RuleSet) -> Vec<Tables> {
+    let mut random = Random::new(21);
+    let bytes = |tables: &Tables| tables.image.len() + 2 * tables.table.len();
+    many(bytes, || Tables::new(&exchanged(&mut random, set)))
+}
+
+/// Compiles one image of a pool after another into the same area.
+struct Compile {
+    tables: Pool<Tables>,
+    /// What lies behind the table stays as it is.
+    area: Vec<u16>,
+}
+
+impl Compile {
+    fn new(tables: Vec<Tables>) -> Compile {
+        Compile {
+            area: Compile::area(&tables[0].table),
+            tables: Pool::new(tables),
+        }
+    }
+
+    /// An area with this table.
+    fn area(table: &[u16]) -> Vec<u16> {
+        let mut area = vec![0xaaaa; watcher::MAX_TABLE_WORDS];
+        area[..table.len()].copy_from_slice(table);
+        area
+    }
+}
 
 impl Work for Compile {
     fn once(&mut self, side: Side) -> bool {
-        let Compile(Tables { image, table, .. }) = self;
+        let image = &self.tables.next(side).image;
         let mut out = [0];
-        COMPILERS[side](black_box(image), black_box(table), &mut out) == 0
+        COMPILERS[side](black_box(image), black_box(&mut self.area), &mut out) == 0
     }
 
     fn expect_agreement(&mut self) {
-        let Compile(Tables {
-            image,
-            table,
-            words,
-        }) = self;
-        for compile in COMPILERS {
-            let mut area = vec![0xaaaa; table.len()];
-            let mut out = [0];
-            assert_eq!(compile(image, &mut area, &mut out), 0);
-            assert!(out == [*words as u64] && area == *table);
+        for Tables { image, table } in self.tables.all() {
+            let wanted = Compile::area(table);
+            for compile in COMPILERS {
+                let mut area = Compile::area(&[]);
+                let mut out = [0];
+                assert_eq!(compile(image, &mut area, &mut out), 0);
+                assert!(out == [table.len() as u64] && area == wanted);
+            }
         }
+        assert!(self.area == Compile::area(&self.tables.last().table));
     }
 }
 
-/// Checks the table.
-struct Check(Tables);
+/// Checks one table of a pool after another.
+struct Check(Pool<Tables>);
 
 impl Work for Check {
     fn once(&mut self, side: Side) -> bool {
-        let Check(Tables { image, table, .. }) = self;
+        let Tables { image, table } = self.0.next(side);
         CHECKERS[side](black_box(image), black_box(table)) == 0
     }
 
     fn expect_agreement(&mut self) {
-        let Check(Tables {
-            image,
-            table,
-            words,
-        }) = self;
-        let mut changed = table.clone();
-        changed[*words - 1] ^= 1;
-        for check_table in CHECKERS {
-            assert_eq!(check_table(image, table), 0);
-            assert_ne!(check_table(image, &changed), 0);
+        for Tables { image, table } in self.0.all() {
+            let mut changed = table.clone();
+            *changed.last_mut().expect("a word") ^= 1;
+            for check_table in CHECKERS {
+                assert_eq!(check_table(image, table), 0);
+                assert_ne!(check_table(image, &changed), 0);
+            }
         }
     }
 }
@@ -156,7 +206,24 @@ mod tests {
         assert!((200..550).contains(&refused), "{refused} refused");
         assert!(differing > 200, "{differing} tables differed");
         for (_, set) in rule_sets() {
-            compare(&reference::encode(&set), 0);
+            for Tables { image, .. } in variants(&set).iter().take(16) {
+                compare(image, 0);
+            }
+        }
+    }
+
+    /// A rule set has many variants, and their tables are all as long.
+    #[test]
+    fn the_tables_measured() {
+        for (name, set) in rule_sets() {
+            let tables = variants(&set);
+            for next in &tables {
+                assert_eq!(next.table.len(), tables[0].table.len(), "{name}");
+            }
+            let mut images: Vec<_> = tables.into_iter().map(|tables| tables.image).collect();
+            images.sort();
+            images.dedup();
+            assert!(images.len() > 14, "{name}: {}", images.len());
         }
     }
 

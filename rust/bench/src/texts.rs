@@ -1,79 +1,118 @@
 //! Rule texts: the library's reader against [`plain::reader`] and [`tuned::reader`].
 
-use crate::timing::{Group, Side, Work, BASELINES};
+use crate::timing::{many, Group, Pool, Side, Work, BASELINES};
 use crate::{plain, tuned};
-use reference::random::{largest, Random};
+use reference::random::{sample, Random};
 use reference::reader::{self as naive, Name, IMAGE_AREA, MAX_TEXT_BYTES, NAME_AREA};
 use reference::texts::{tokens, Naming};
-use reference::{Right, RuleSet};
+use reference::{string, RuleSet};
 use std::hint::black_box;
 use watcher::raw;
 
-const SAMPLE: &[u8] =
-    b"events lock take free . lock take -> held . held free -> #epsilon . take -> #fail .";
-
-/// The races of the reader on each text.
+/// The races of the reader on each kind of texts.
 pub fn races() -> Group {
     let mut group = Group::new("Rule texts", BASELINES);
-    for (name, text) in texts() {
-        let tokens = naive::runs(&text).len();
-        let name = format!("{name} ({} bytes, {tokens} tokens)", text.len());
-        group.add(&name, "read", Reading::new(text));
+    for (name, texts) in kinds() {
+        let tokens = naive::runs(&texts[0]).len();
+        let bytes: usize = texts.iter().map(Vec::len).sum();
+        let bytes = (bytes + texts.len() / 2) / texts.len();
+        let name = format!("{name} ({bytes} bytes, {tokens} tokens)");
+        group.add(&name, "read", Reading::new(texts));
     }
     group
 }
 
-/// The texts measured, with their names.
-fn texts() -> Vec<(&'static str, Vec<u8>)> {
-    let mut random = Random::new(30);
-    let short = Naming::Short.names(&mut random, 32, &[]);
-    let middle: Vec<Name> = Naming::Longest
-        .names(&mut random, 32, &[])
-        .into_iter()
-        .map(|name| name[..14].to_vec())
-        .collect();
-    let alike: Vec<Name> = (0..32)
-        .map(|number| format!("event_name_{number:03}").into_bytes())
-        .collect();
-    let long = Naming::Longest.names(&mut random, 32, &[]);
-    let largest = largest();
-    let full = filled(&tokens(&largest, &middle, &[]));
-    // The same with a `->` for the last `.`, and a space less before it.
-    let mut broken = full.clone();
-    broken[MAX_TEXT_BYTES - 2..].copy_from_slice(b"->");
+/// The kinds of texts measured, with their names. Each text has names of its own, and all but those
+/// with the sample's rules have rules of their own.
+fn kinds() -> Vec<(&'static str, Vec<Vec<u8>>)> {
+    let eights = |random: &mut Random| rules(random, 8, 8);
     vec![
-        ("sample", SAMPLE.to_vec()),
+        (
+            "sample, names of 3 to 5 bytes",
+            texts(|random| {
+                let names = names(random, 4, 3, 5);
+                tokens(&sample(), &names, &[b"fail".to_vec()]).join(&b' ')
+            }),
+        ),
         (
             "64 × 8 → 8, short names",
-            tokens(&largest, &short, &[]).join(&b' '),
+            texts(|random| tokens(&eights(random), &names(random, 32, 1, 2), &[]).join(&b' ')),
         ),
         (
             "the same, with separators",
-            filled(&tokens(&largest, &short, &[])),
+            texts(|random| filled(&tokens(&eights(random), &names(random, 32, 1, 2), &[]))),
         ),
-        ("64 × 8 → 8, names of 14 bytes", full),
+        (
+            "64 × 8 → 8, names of 14 bytes",
+            texts(|random| filled(&tokens(&eights(random), &names(random, 32, 14, 14), &[]))),
+        ),
         (
             "the same, names alike",
-            filled(&tokens(&largest, &alike, &[])),
+            texts(|random| filled(&tokens(&eights(random), &alike(random), &[]))),
         ),
         (
             "64 × 5 → 4, names of 24 bytes",
-            filled(&tokens(&shortened(&largest), &long, &[])),
+            texts(|random| {
+                let rules = rules(random, 5, 4);
+                filled(&tokens(&rules, &names(random, 32, 24, 24), &[]))
+            }),
         ),
-        ("64 × 8 → 8, the last token breaks", broken),
+        (
+            "64 × 8 → 8, the last token breaks",
+            texts(|random| {
+                let rules = eights(random);
+                let mut text = filled(&tokens(&rules, &names(random, 32, 14, 14), &[]));
+                // A `->` for the last `.`, and a space less before it.
+                text[MAX_TEXT_BYTES - 2..].copy_from_slice(b"->");
+                text
+            }),
+        ),
     ]
 }
 
-/// The rule set with five symbols on the left and four on the right.
-fn shortened(set: &RuleSet) -> RuleSet {
-    let mut set = set.clone();
-    for rule in &mut set.rules {
-        rule.left.truncate(5);
-        if let Right::Symbols(right) = &mut rule.right {
-            right.truncate(4);
+/// A pool's worth of texts.
+fn texts(text: impl Fn(&mut Random) -> Vec<u8>) -> Vec<Vec<u8>> {
+    let mut random = Random::new(30);
+    many(Vec::len, || text(&mut random))
+}
+
+/// 64 rules over 32 events, with so many symbols on the left and on the right.
+fn rules(random: &mut Random, left: usize, right: usize) -> RuleSet {
+    let mut side = |length| random.string(length, 32);
+    RuleSet {
+        symbols: 32,
+        events: 32,
+        verdicts: 2,
+        rules: (0..64).map(|_| string(&side(left), &side(right))).collect(),
+    }
+}
+
+/// So many different names of `least` to `most` bytes.
+fn names(random: &mut Random, count: usize, least: usize, most: usize) -> Vec<Name> {
+    different(count, || {
+        let mut name = Naming::Longest.names(random, 1, &[]).remove(0);
+        name.truncate(random.within(least, most));
+        name
+    })
+}
+
+/// 32 different names that begin with the same eleven bytes.
+fn alike(random: &mut Random) -> Vec<Name> {
+    different(32, || {
+        format!("event_name_{:03}", random.below(1_000)).into_bytes()
+    })
+}
+
+/// So many different ones of the names drawn.
+fn different(count: usize, mut draw: impl FnMut() -> Name) -> Vec<Name> {
+    let mut names = Vec::new();
+    while names.len() < count {
+        let name = draw();
+        if !names.contains(&name) {
+            names.push(name);
         }
     }
-    set
+    names
 }
 
 /// The tokens as a text of 16,384 bytes, with the separators spread evenly among them.
@@ -126,9 +165,9 @@ const READERS: [Read; 3] = [
     tuned::reader::read_rules,
 ];
 
-/// Reads a text into areas that stay the same.
+/// Reads one text of a pool after another into areas that stay the same.
 struct Reading {
-    text: Vec<u8>,
+    texts: Pool<Vec<u8>>,
     image: Vec<u8>,
     names: Vec<u8>,
     /// What each read must give.
@@ -137,10 +176,10 @@ struct Reading {
 }
 
 impl Reading {
-    fn new(text: Vec<u8>) -> Reading {
-        let (refusal, out, image, names) = wanted(&text, [IMAGE_AREA, NAME_AREA]);
+    fn new(texts: Vec<Vec<u8>>) -> Reading {
+        let (refusal, out, image, names) = wanted(&texts[0], [IMAGE_AREA, NAME_AREA]);
         Reading {
-            text,
+            texts: Pool::new(texts),
             image,
             names,
             refusal,
@@ -153,7 +192,7 @@ impl Work for Reading {
     fn once(&mut self, side: Side) -> bool {
         let mut out = [0; 2];
         let refusal = READERS[side](
-            black_box(&self.text),
+            black_box(self.texts.next(side)),
             black_box(&mut self.image),
             black_box(&mut self.names),
             &mut out,
@@ -162,11 +201,15 @@ impl Work for Reading {
     }
 
     fn expect_agreement(&mut self) {
-        let wanted = wanted(&self.text, [IMAGE_AREA, NAME_AREA]);
-        for read in READERS {
-            assert!(given(read, &self.text, [IMAGE_AREA, NAME_AREA]) == wanted);
+        for text in self.texts.all() {
+            let wanted = wanted(text, [IMAGE_AREA, NAME_AREA]);
+            assert!((wanted.0, wanted.1) == (self.refusal, self.out));
+            for read in READERS {
+                assert!(given(read, text, [IMAGE_AREA, NAME_AREA]) == wanted);
+            }
         }
-        assert!(self.image == wanted.2 && self.names == wanted.3);
+        let (.., image, names) = wanted(self.texts.last(), [IMAGE_AREA, NAME_AREA]);
+        assert!(self.image == image && self.names == names);
     }
 }
 
@@ -234,8 +277,8 @@ mod tests {
             count(compare(text.as_bytes(), [IMAGE_AREA, NAME_AREA]));
         }
         assert!(seen.iter().all(|&count| count > 0), "{seen:?}");
-        for (_, text) in super::texts() {
-            compare(&text, [IMAGE_AREA, NAME_AREA]);
+        for text in kinds().iter().flat_map(|(_, texts)| texts) {
+            compare(text, [IMAGE_AREA, NAME_AREA]);
         }
     }
 
@@ -270,16 +313,28 @@ mod tests {
         }
     }
 
-    /// All texts but the last are good, and the last one breaks at its last token.
+    /// The texts of a kind all differ, and have all their symbols in use. Those of the last kind
+    /// break at their last token, and all others are good.
     #[test]
     fn the_texts_measured() {
-        let mut texts = super::texts();
-        let (_, broken) = texts.pop().expect("a text");
-        assert_eq!(broken.len(), MAX_TEXT_BYTES);
-        let (refusal, [_, place], ..) = wanted(&broken, [IMAGE_AREA, NAME_AREA]);
-        assert_eq!((refusal, place as usize), (4, MAX_TEXT_BYTES - 2));
-        for (name, text) in texts {
-            assert_eq!(wanted(&text, [IMAGE_AREA, NAME_AREA]).0, 0, "{name}");
+        let mut kinds = kinds();
+        let (_, broken) = kinds.pop().expect("a kind");
+        for text in broken {
+            assert_eq!(text.len(), MAX_TEXT_BYTES);
+            let (refusal, [_, place], ..) = wanted(&text, [IMAGE_AREA, NAME_AREA]);
+            assert_eq!((refusal, place as usize), (4, MAX_TEXT_BYTES - 2));
+        }
+        for (name, mut texts) in kinds {
+            for text in &texts {
+                let reading = naive::read_rules(text, IMAGE_AREA, NAME_AREA).expect(name);
+                let symbols = if name.starts_with("sample") { 4 } else { 32 };
+                assert_eq!(reading.symbols.len(), symbols, "{name}");
+            }
+            let count = texts.len();
+            assert!(count >= 32, "{name}: {count}");
+            texts.sort();
+            texts.dedup();
+            assert_eq!(texts.len(), count, "{name}");
         }
     }
 }

@@ -5,8 +5,13 @@ A race is run in short rounds, so that a round that the machine interrupts is on
 round all sides have a turn, one right behind the other, and from round to round another one goes
 first. The ratio of a run is the median of its rounds' ratios: what slows the machine down for
 longer than a round slows all sides of a round. All sides work on the same buffers, so that none is
-better placed. In a turn the calls are made twice, and only the second time counts: at first the
-processor still guesses branches by what the other sides did, and took up to half as long again.
+better placed. All calls of a turn count, also the first ones, when the processor still guesses
+branches by what the other sides did: a call elsewhere seldom follows itself either.
+
+A processor learns by heart what it is given over and over, and a rule text is read once, at a
+program's start. So texts and rule sets come in a [`Pool`] of many of a kind, of which each call has
+the next one. With one text over and over readers took up to nearly half less time, with one rule
+set compile took up to two thirds less, and ratios were others.
 
 A run of all races is made several times. What is shown is the median over the runs, and beside it
 the least and the largest ratio: how far it moves.
@@ -17,6 +22,13 @@ use std::time::{Duration, Instant};
 
 /// How long the calls of one side take in a round, at least; mostly less than twice as long.
 const TURN: Duration = Duration::from_micros(150);
+
+/// The bytes of a pool: few enough for a core's second cache, and too many to be learned by heart.
+/// On texts half as many and twice as many gave the same times.
+const POOL_BYTES: usize = 512 << 10;
+
+/// The most things in a pool.
+const POOL_MOST: usize = 1_024;
 
 /// Who does the work: the library is side 0, and behind it comes what it is measured against.
 pub type Side = usize;
@@ -29,8 +41,8 @@ pub const BASELINES: &[&str] = &["plain", "tuned"];
 
 /// Work that all sides can do.
 pub trait Work {
-    /// Does the work once, and says whether all went well. Afterwards everything is as it was
-    /// before, so that it can be done again. This is what is timed.
+    /// Does the work once, on the side's next thing of a pool if there is one, and says whether all
+    /// went well. Afterwards it can be done again. This is what is timed.
     fn once(&mut self, side: Side) -> bool;
 
     /// Expects that all sides give and leave the same.
@@ -51,6 +63,53 @@ pub trait Work {
     }
 }
 
+/// A pool's worth of things of about so many bytes.
+pub fn many<T>(bytes: impl Fn(&T) -> usize, mut thing: impl FnMut() -> T) -> Vec<T> {
+    let mut things = vec![thing()];
+    let count = (POOL_BYTES / bytes(&things[0])).min(POOL_MOST);
+    things.resize_with(count, thing);
+    things
+}
+
+/// Different things of one kind to work on. All sides go through them in the same order, over and
+/// over, each at its own pace.
+pub struct Pool<T> {
+    things: Vec<T>,
+    /// Where each side is.
+    places: [usize; 1 + BASELINES.len()],
+    /// The place of the thing given last.
+    last: usize,
+}
+
+impl<T> Pool<T> {
+    /// A pool of these things, at least one.
+    pub fn new(things: Vec<T>) -> Pool<T> {
+        Pool {
+            things,
+            places: [0; 1 + BASELINES.len()],
+            last: 0,
+        }
+    }
+
+    /// The next thing for this side.
+    pub fn next(&mut self, side: Side) -> &T {
+        self.last = self.places[side];
+        let next = self.last + 1;
+        self.places[side] = if next < self.things.len() { next } else { 0 };
+        &self.things[self.last]
+    }
+
+    /// The thing given last, at first the first one.
+    pub fn last(&self) -> &T {
+        &self.things[self.last]
+    }
+
+    /// All things.
+    pub fn all(&self) -> &[T] {
+        &self.things
+    }
+}
+
 /// What a run gave: for each side its time, and the ratio of the library's time to it.
 type Run = Vec<(f64, f64)>;
 
@@ -65,12 +124,10 @@ struct Race {
 }
 
 impl Race {
-    /// The time of the calls of a side in one round, each of which must go well. They are made
-    /// once before, untimed.
+    /// The time of the calls of a side in one round, each of which must go well.
     fn turn(&mut self, side: Side) -> Duration {
-        let mut well = self.work.often(side, self.calls[side]);
         let start = Instant::now();
-        well &= self.work.often(side, self.calls[side]);
+        let well = self.work.often(side, self.calls[side]);
         let time = start.elapsed();
         assert!(well, "{}", self.name);
         time
@@ -220,6 +277,35 @@ fn figure(time: f64) -> String {
 #[cfg(test)]
 mod tests {
     use super::*;
+
+    /// Each side goes through a pool in the same order, whatever the others do.
+    #[test]
+    fn pools() {
+        let mut number = 0;
+        let things = many(
+            |_| POOL_BYTES / 3,
+            || {
+                number += 1;
+                number
+            },
+        );
+        let mut pool = Pool::new(things);
+        assert_eq!((pool.all(), pool.last()), (&[1, 2, 3][..], &1));
+        for (side, wanted) in [
+            (0, 1),
+            (0, 2),
+            (1, 1),
+            (0, 3),
+            (2, 1),
+            (0, 1),
+            (1, 2),
+            (0, 2),
+        ] {
+            assert_eq!(*pool.next(side), wanted);
+            assert_eq!(*pool.last(), wanted);
+        }
+        assert_eq!(many(|_| 1, || 0).len(), POOL_MOST);
+    }
 
     /// In six rounds of three sides each order is there once, and nobody has two turns in a row.
     #[test]
