@@ -39,10 +39,9 @@ mod tuned {
     pub mod tables;
 }
 
-/// What is the same in both.
+/// What is the same in both. Their readers share nothing.
 mod shared {
     pub mod monitor;
-    pub mod reader;
     pub mod tables;
 }
 

@@ -9,6 +9,10 @@ use reference::{string, RuleSet};
 use std::hint::black_box;
 use watcher::raw;
 
+/// The specification's sample.
+const SAMPLE: &[u8] =
+    b"events lock take free . lock take -> held . held free -> #epsilon . take -> #fail .";
+
 /// The races of the reader on each kind of texts.
 pub fn races() -> Group {
     let mut group = Group::new("Rule texts", BASELINES);
@@ -22,14 +26,17 @@ pub fn races() -> Group {
     group
 }
 
-/// The kinds of texts measured, with their names. Each text has names of its own, and all but those
-/// with the sample's rules have rules of their own.
+/// The kinds of texts measured, with their names. The sample is one text, read over and over, since
+/// it is the specification's. Of all other kinds there are many texts: each has names of its own,
+/// and all but those with the sample's rules have rules of their own.
 fn kinds() -> Vec<(&'static str, Vec<Vec<u8>>)> {
     let eights = |random: &mut Random| rules(random, 8, 8);
     vec![
+        ("the sample", vec![SAMPLE.to_vec()]),
         (
-            "sample, names of 3 to 5 bytes",
+            "the sample's rules, other names",
             texts(|random| {
+                // As long as the sample's, or a byte shorter or longer.
                 let names = names(random, 4, 3, 5);
                 tokens(&sample(), &names, &[b"fail".to_vec()]).join(&b' ')
             }),
@@ -313,8 +320,9 @@ mod tests {
         }
     }
 
-    /// The texts of a kind all differ, and have all their symbols in use. Those of the last kind
-    /// break at their last token, and all others are good.
+    /// The first kind is the sample, one text, and the second has many with the same rules. The
+    /// texts of a kind all differ, and have all their symbols in use. Those of the last kind break
+    /// at their last token, and all others are good.
     #[test]
     fn the_texts_measured() {
         let mut kinds = kinds();
@@ -324,14 +332,18 @@ mod tests {
             let (refusal, [_, place], ..) = wanted(&text, [IMAGE_AREA, NAME_AREA]);
             assert_eq!((refusal, place as usize), (4, MAX_TEXT_BYTES - 2));
         }
-        for (name, mut texts) in kinds {
+        for (kind, (name, mut texts)) in kinds.into_iter().enumerate() {
             for text in &texts {
                 let reading = naive::read_rules(text, IMAGE_AREA, NAME_AREA).expect(name);
-                let symbols = if name.starts_with("sample") { 4 } else { 32 };
+                let symbols = if kind < 2 { 4 } else { 32 };
                 assert_eq!(reading.symbols.len(), symbols, "{name}");
+                assert!(kind >= 2 || reading.set == sample(), "{name}");
             }
             let count = texts.len();
-            assert!(count >= 32, "{name}: {count}");
+            assert!(
+                if kind == 0 { count == 1 } else { count >= 32 },
+                "{name}: {count}"
+            );
             texts.sort();
             texts.dedup();
             assert_eq!(texts.len(), count, "{name}");

@@ -10,8 +10,9 @@ branches by what the other sides did: a call elsewhere seldom follows itself eit
 
 A processor learns by heart what it is given over and over, and a rule text is read once, at a
 program's start. So texts and rule sets come in a [`Pool`] of many of a kind, of which each call has
-the next one. With one text over and over readers took up to nearly half less time, with one rule
-set compile took up to two thirds less, and ratios were others.
+the next one; only the text of the specification's sample is a pool of one. With one text over and
+over readers took up to nearly half less time, with one rule set compile took up to two thirds less,
+and ratios were others.
 
 A run of all races is made several times. What is shown is the median over the runs, and beside it
 the least and the largest ratio: how far it moves.
