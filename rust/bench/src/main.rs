@@ -1,50 +1,83 @@
 /*!
-Times the library against the same algorithms in safe Rust.
+Times the library against the same work in safe Rust, written twice.
 
-Each side first does the work once, and all must agree. Then they take turns in short rounds on the
-same warm buffers, another one going first from round to round. The tables show the median over the
-rounds, and the library's divided by the other's.
+* [`plain`] is the library's own algorithms, written plainly.
+* [`tuned`] is as fast as we could make safe Rust, with other algorithms where they are faster.
 
-* [`texts`]: read_rules, against [`reader`].
-* [`tables`]: compile and check_table, against [`baseline`].
-* [`monitors`]: offers and batches, against the same monitor in safe Rust ([`monitor`]) and one that
+All sides first do the work once and must agree in every result, and again after each run.
+[`timing`] says how they race.
+
+* [`texts`] has read_rules.
+* [`tables`] has compile and check_table.
+* [`monitors`] has offers, goes-on and batches, and races the library also against a monitor that
   looks through its string again after every rewrite ([`rescan`]).
 
 ```text
-cargo run --release -p bench [rounds]
+cargo run --release -p bench [rounds [runs]]
 ```
 */
 
 #![forbid(unsafe_code)]
 
-mod baseline;
-mod monitor;
 mod monitors;
-mod reader;
 mod rescan;
 mod tables;
 mod texts;
 mod timing;
 
+/// The library's own algorithms in safe Rust, written plainly.
+mod plain {
+    pub mod monitor;
+    pub mod reader;
+    pub mod tables;
+}
+
+/// Safe Rust as fast as we could make it.
+mod tuned {
+    pub mod monitor;
+    pub mod reader;
+    pub mod tables;
+}
+
+/// What is the same in both. Their readers share nothing.
+mod shared {
+    pub mod monitor;
+    pub mod tables;
+}
+
 use std::env;
 
-/// Rounds for each race, unless the command line names another number.
+/// Rounds for each race in a run, unless the command line names another number.
 const ROUNDS: usize = 301;
+/// Runs of all races, unless the command line names another number.
+const RUNS: usize = 7;
 
 fn main() {
-    let rounds = match env::args().nth(1) {
-        None => ROUNDS,
-        Some(argument) => match argument.parse() {
-            Ok(rounds) if rounds > 0 => rounds,
-            _ => {
-                eprintln!("usage: bench [rounds]");
-                std::process::exit(2);
-            }
-        },
-    };
-    texts::measure_all(rounds);
-    println!();
-    tables::measure_all(rounds);
-    println!();
-    monitors::measure_all(rounds);
+    let [rounds, runs] = arguments().unwrap_or_else(|| {
+        eprintln!("usage: bench [rounds [runs]]");
+        std::process::exit(2);
+    });
+    let mut groups = vec![texts::races(), tables::races()];
+    groups.extend(monitors::races());
+    for run in 1..=runs {
+        for group in &mut groups {
+            group.run(rounds);
+        }
+        eprintln!("run {run} of {runs}");
+    }
+    println!("Nanoseconds and library / other: the median of {runs} runs of {rounds} rounds each,");
+    println!("and the least and the largest ratio of a run.");
+    for group in &groups {
+        group.print();
+    }
+}
+
+/// Rounds and runs by the command line.
+fn arguments() -> Option<[usize; 2]> {
+    let mut numbers = [ROUNDS, RUNS];
+    for (place, argument) in env::args().skip(1).enumerate() {
+        let number = argument.parse().ok().filter(|&number| number > 0);
+        *numbers.get_mut(place)? = number?;
+    }
+    Some(numbers)
 }

@@ -8,26 +8,27 @@ It answers nothing and checks nothing; what it shows is the price of looking aga
 use reference::{Right, Rule, RuleSet, Symbol};
 
 /// The plain rewriter, with the events that it was given so far.
-pub struct Rescan<'a> {
-    set: &'a RuleSet,
+#[derive(Clone)]
+pub struct Rescan {
+    set: RuleSet,
     /// The string.
     pub string: Vec<Symbol>,
     /// The verdict, if one stands.
     pub verdict: Option<u8>,
 }
 
-impl<'a> Rescan<'a> {
+impl Rescan {
     /// The rewriter with this string.
-    pub fn new(set: &'a RuleSet, string: &[Symbol]) -> Rescan<'a> {
+    pub fn new(set: &RuleSet, string: &[Symbol]) -> Rescan {
         Rescan {
-            set,
+            set: set.clone(),
             string: string.to_vec(),
             verdict: None,
         }
     }
 
-    /// Takes events one after another and after each makes up to `fuel` rewrites. Returns the number
-    /// of rewrites.
+    /// Takes events one after another and after each makes up to `fuel` rewrites. Returns the
+    /// number of rewrites.
     #[inline(never)]
     pub fn batch(&mut self, events: &[Symbol], fuel: u32) -> u64 {
         let mut rewrites = 0;
@@ -64,8 +65,8 @@ impl<'a> Rescan<'a> {
         true
     }
 
-    /// The rule and the end of the occurrence that ends first, of these begins first, of these has the
-    /// lowest rule.
+    /// The rule and the end of the occurrence that ends first, of these begins first, of these has
+    /// the lowest rule.
     fn first_occurrence(&self) -> Option<(usize, usize)> {
         for (place, symbol) in self.string.iter().enumerate() {
             let end = place + 1;

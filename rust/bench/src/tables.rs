@@ -1,26 +1,47 @@
-//! Compile and check_table: the library against [`crate::baseline`].
+//! Compile and check_table: the library against [`plain::tables`] and [`tuned::tables`].
 
-use crate::baseline;
-use crate::timing::race_two;
+use crate::timing::{many, Group, Pool, Side, Work, BASELINES};
+use crate::{plain, tuned};
 use reference::random::{self, Random};
-use reference::RuleSet;
+use reference::{Right, RuleSet, Symbol};
 use std::hint::black_box;
+use watcher::raw;
 
-/// Measures compile and check_table on each rule set.
-pub fn measure_all(rounds: usize) {
-    println!("Tables: nanoseconds for one call, median of {rounds} interleaved rounds.");
-    println!();
-    println!(
-        "{:<28} {:<12} {:>7} {:>10} {:>10} {:>7}",
-        "rule set", "operation", "words", "library", "Rust", "ratio"
-    );
+type Compiler = fn(&[u8], &mut [u16], &mut [u64; 1]) -> u32;
+type Checker = fn(&[u8], &[u16]) -> u32;
+
+/// The ways to compile, the library's first.
+const COMPILERS: [Compiler; 3] = [raw::compile, plain::tables::compile, tuned::tables::compile];
+
+/// The ways to check a table, the library's first.
+const CHECKERS: [Checker; 3] = [
+    raw::check_table,
+    plain::tables::check_table,
+    tuned::tables::check_table,
+];
+
+/// The races of compile and check_table on each kind of rule sets.
+pub fn races() -> Group {
+    let mut group = Group::new("Tables", BASELINES);
     for (name, set) in rule_sets() {
-        measure(name, &set, rounds);
+        let tables = variants(&set);
+        let name = format!("{name} ({} words)", tables[0].table.len());
+        group.add(
+            &format!("{name}: compile"),
+            "call",
+            Compile::new(tables.clone()),
+        );
+        group.add(
+            &format!("{name}: check_table"),
+            "call",
+            Check(Pool::new(tables)),
+        );
     }
+    group
 }
 
-/// The rule sets measured, with their names.
-pub fn rule_sets() -> Vec<(&'static str, RuleSet)> {
+/// The rule sets of which those measured are variants, with their names.
+fn rule_sets() -> Vec<(&'static str, RuleSet)> {
     vec![
         ("sample", random::sample()),
         ("middle: 20 rules, S = 12", middle()),
@@ -42,46 +63,118 @@ fn middle() -> RuleSet {
     random.with_left_sides(12, lefts)
 }
 
-/// Measures both operations on one rule set and prints a line for each.
-fn measure(name: &str, set: &RuleSet, rounds: usize) {
-    let image = reference::encode(set);
-    let expected = reference::table(set);
-    let words = expected.len();
-    let mut ours = vec![0xaaaa; watcher::MAX_TABLE_WORDS];
-    let mut theirs = ours.clone();
-    assert_eq!(watcher::compile(&image, &mut ours), Ok(words));
-    assert_eq!(baseline::compile(&image, &mut theirs), Ok(words));
-    assert_eq!(ours, theirs);
-    assert_eq!(ours[..words], expected);
-
-    let times = race_two(
-        rounds,
-        || watcher::compile(black_box(&image), black_box(&mut ours)).is_ok(),
-        || baseline::compile(black_box(&image), black_box(&mut theirs)).is_ok(),
-    );
-    print_line(name, "compile", words, times);
-    assert_eq!(ours, theirs);
-
-    assert_eq!(watcher::check_table(&image, &ours), Ok(()));
-    assert_eq!(baseline::check_table(&image, &ours), Ok(()));
-    let mut changed = ours.clone();
-    changed[words - 1] ^= 1;
-    assert!(watcher::check_table(&image, &changed).is_err());
-    assert!(baseline::check_table(&image, &changed).is_err());
-
-    let times = race_two(
-        rounds,
-        || watcher::check_table(black_box(&image), black_box(&ours)).is_ok(),
-        || baseline::check_table(black_box(&image), black_box(&ours)).is_ok(),
-    );
-    print_line(name, "check_table", words, times);
+/// The rule set with its symbols exchanged and its rules in another order. Its table is as large.
+fn exchanged(random: &mut Random, set: &RuleSet) -> RuleSet {
+    let mut symbols: Vec<Symbol> = (0..set.symbols).collect();
+    shuffle(random, &mut symbols);
+    let exchange = |side: &mut Vec<Symbol>| {
+        for symbol in side {
+            *symbol = symbols[usize::from(*symbol)];
+        }
+    };
+    let mut set = set.clone();
+    for rule in &mut set.rules {
+        exchange(&mut rule.left);
+        if let Right::Symbols(right) = &mut rule.right {
+            exchange(right);
+        }
+    }
+    shuffle(random, &mut set.rules);
+    set
 }
 
-fn print_line(name: &str, operation: &str, words: usize, [library, rust]: [f64; 2]) {
-    println!(
-        "{name:<28} {operation:<12} {words:>7} {library:>10.0} {rust:>10.0} {:>7.2}",
-        library / rust
-    );
+fn shuffle<T>(random: &mut Random, things: &mut [T]) {
+    for place in 1..things.len() {
+        things.swap(place, random.within(0, place));
+    }
+}
+
+/// A rule set's image and its table.
+#[derive(Clone)]
+struct Tables {
+    image: Vec<u8>,
+    table: Vec<u16>,
+}
+
+impl Tables {
+    fn new(set: &RuleSet) -> Tables {
+        Tables {
+            image: reference::encode(set),
+            table: reference::table(set),
+        }
+    }
+}
+
+/// A pool's worth of variants of a rule set.
+fn variants(set: &RuleSet) -> Vec<Tables> {
+    let mut random = Random::new(21);
+    let bytes = |tables: &Tables| tables.image.len() + 2 * tables.table.len();
+    many(bytes, || Tables::new(&exchanged(&mut random, set)))
+}
+
+/// Compiles one image of a pool after another into the same area.
+struct Compile {
+    tables: Pool<Tables>,
+    /// What lies behind the table stays as it is.
+    area: Vec<u16>,
+}
+
+impl Compile {
+    fn new(tables: Vec<Tables>) -> Compile {
+        Compile {
+            area: Compile::area(&tables[0].table),
+            tables: Pool::new(tables),
+        }
+    }
+
+    /// An area with this table.
+    fn area(table: &[u16]) -> Vec<u16> {
+        let mut area = vec![0xaaaa; watcher::MAX_TABLE_WORDS];
+        area[..table.len()].copy_from_slice(table);
+        area
+    }
+}
+
+impl Work for Compile {
+    fn once(&mut self, side: Side) -> bool {
+        let image = &self.tables.next(side).image;
+        let mut out = [0];
+        COMPILERS[side](black_box(image), black_box(&mut self.area), &mut out) == 0
+    }
+
+    fn expect_agreement(&mut self) {
+        for Tables { image, table } in self.tables.all() {
+            let wanted = Compile::area(table);
+            for compile in COMPILERS {
+                let mut area = Compile::area(&[]);
+                let mut out = [0];
+                assert_eq!(compile(image, &mut area, &mut out), 0);
+                assert!(out == [table.len() as u64] && area == wanted);
+            }
+        }
+        assert!(self.area == Compile::area(&self.tables.last().table));
+    }
+}
+
+/// Checks one table of a pool after another.
+struct Check(Pool<Tables>);
+
+impl Work for Check {
+    fn once(&mut self, side: Side) -> bool {
+        let Tables { image, table } = self.0.next(side);
+        CHECKERS[side](black_box(image), black_box(table)) == 0
+    }
+
+    fn expect_agreement(&mut self) {
+        for Tables { image, table } in self.0.all() {
+            let mut changed = table.clone();
+            *changed.last_mut().expect("a word") ^= 1;
+            for check_table in CHECKERS {
+                assert_eq!(check_table(image, table), 0);
+                assert_ne!(check_table(image, &changed), 0);
+            }
+        }
+    }
 }
 
 #[cfg(test)]
@@ -89,9 +182,9 @@ mod tests {
     use super::*;
     use reference::random::Shape;
 
-    /// The baseline is what the reference says, so that both sides of the race do the same work.
+    /// Each side is what the reference says, so that all sides of a race do the same work.
     #[test]
-    fn baseline_is_the_reference() {
+    fn sides_are_the_reference() {
         let mut random = Random::new(7);
         let mut refused = 0;
         let mut differing = 0;
@@ -103,9 +196,7 @@ mod tests {
             let mut table = reference::table(&set);
             let place = random.below(table.len());
             table[place] = random.below(table[0].into()) as u16;
-            let expected = reference::check_table(&image, &table);
-            differing += usize::from(expected.is_err());
-            assert_eq!(baseline::check_table(&image, &table), expected);
+            differing += usize::from(compare_checks(&image, &table) != 0);
 
             let place = random.below(image.len());
             image[place] = random.below(40) as u8;
@@ -115,8 +206,34 @@ mod tests {
         assert!((200..550).contains(&refused), "{refused} refused");
         assert!(differing > 200, "{differing} tables differed");
         for (_, set) in rule_sets() {
-            compare(&reference::encode(&set), 0);
+            for Tables { image, .. } in variants(&set).iter().take(16) {
+                compare(image, 0);
+            }
         }
+    }
+
+    /// A rule set has many variants, and their tables are all as long.
+    #[test]
+    fn the_tables_measured() {
+        for (name, set) in rule_sets() {
+            let tables = variants(&set);
+            for next in &tables {
+                assert_eq!(next.table.len(), tables[0].table.len(), "{name}");
+            }
+            let mut images: Vec<_> = tables.into_iter().map(|tables| tables.image).collect();
+            images.sort();
+            images.dedup();
+            assert!(images.len() > 14, "{name}: {}", images.len());
+        }
+    }
+
+    /// Compares the checks of a table, and returns the refusal.
+    fn compare_checks(image: &[u8], table: &[u16]) -> u32 {
+        let expected = reference::check_table(image, table).err().unwrap_or(0);
+        for check_table in CHECKERS {
+            assert_eq!(check_table(image, table), expected);
+        }
+        expected
     }
 
     /// Compares compile and check_table on one image, with areas around the length needed.
@@ -124,19 +241,21 @@ mod tests {
         let needed = reference::parse(image).map_or(4, |set| reference::table_len(&set));
         for area in [needed - 1, needed + more] {
             let before = vec![0xa5a5; area];
-            let mut after = before.clone();
-            let expected = reference::compile(image, area);
-            let mut wanted = before;
-            if let Ok(table) = &expected {
-                wanted[..table.len()].copy_from_slice(table);
+            let mut wanted = before.clone();
+            let (refusal, words) = match reference::compile(image, area) {
+                Ok(table) => {
+                    wanted[..table.len()].copy_from_slice(&table);
+                    (0, table.len() as u64)
+                }
+                Err(refusal) => (refusal, 0),
+            };
+            for compile in COMPILERS {
+                let mut after = before.clone();
+                let mut out = [9];
+                assert_eq!(compile(image, &mut after, &mut out), refusal);
+                assert_eq!((out, &after), ([words], &wanted));
             }
-            let found = baseline::compile(image, &mut after);
-            assert_eq!(found, expected.map(|table| table.len()));
-            assert_eq!(after, wanted);
-            assert_eq!(
-                baseline::check_table(image, &after),
-                reference::check_table(image, &after)
-            );
+            compare_checks(image, &wanted);
         }
     }
 }

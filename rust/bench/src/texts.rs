@@ -1,81 +1,125 @@
-//! Rule texts: the library's reader against [`crate::reader`].
+//! Rule texts: the library's reader against [`plain::reader`] and [`tuned::reader`].
 
-use crate::reader;
-use crate::timing::race_two;
-use reference::random::{largest, Random};
+use crate::timing::{many, Group, Pool, Side, Work, BASELINES};
+use crate::{plain, tuned};
+use reference::random::{sample, Random};
 use reference::reader::{self as naive, Name, IMAGE_AREA, MAX_TEXT_BYTES, NAME_AREA};
 use reference::texts::{tokens, Naming};
-use reference::{Right, RuleSet};
+use reference::{string, RuleSet};
 use std::hint::black_box;
 use watcher::raw;
 
+/// The specification's sample.
 const SAMPLE: &[u8] =
     b"events lock take free . lock take -> held . held free -> #epsilon . take -> #fail .";
 
-/// Measures the reader on each text.
-pub fn measure_all(rounds: usize) {
-    println!("Rule texts: nanoseconds for one read, median of {rounds} interleaved rounds.");
-    println!();
-    println!(
-        "{:<36} {:>7} {:>7} {:>10} {:>10} {:>7}",
-        "text", "bytes", "tokens", "library", "Rust", "ratio"
-    );
-    for (name, text) in texts() {
-        measure(name, &text, rounds);
+/// The races of the reader on each kind of texts.
+pub fn races() -> Group {
+    let mut group = Group::new("Rule texts", BASELINES);
+    for (name, texts) in kinds() {
+        let tokens = naive::runs(&texts[0]).len();
+        let bytes: usize = texts.iter().map(Vec::len).sum();
+        let bytes = (bytes + texts.len() / 2) / texts.len();
+        let name = format!("{name} ({bytes} bytes, {tokens} tokens)");
+        group.add(&name, "read", Reading::new(texts));
     }
+    group
 }
 
-/// The texts measured, with their names.
-fn texts() -> Vec<(&'static str, Vec<u8>)> {
-    let mut random = Random::new(30);
-    let short = Naming::Short.names(&mut random, 32, &[]);
-    let middle: Vec<Name> = Naming::Longest
-        .names(&mut random, 32, &[])
-        .into_iter()
-        .map(|name| name[..14].to_vec())
-        .collect();
-    let alike: Vec<Name> = (0..32)
-        .map(|number| format!("event_name_{number:03}").into_bytes())
-        .collect();
-    let long = Naming::Longest.names(&mut random, 32, &[]);
-    let largest = largest();
-    let full = filled(&tokens(&largest, &middle, &[]));
-    // The same with a `->` for the last `.`, and a space less before it.
-    let mut broken = full.clone();
-    broken[MAX_TEXT_BYTES - 2..].copy_from_slice(b"->");
+/// The kinds of texts measured, with their names. The sample is one text, read over and over, since
+/// it is the specification's. Of all other kinds there are many texts: each has names of its own,
+/// and all but those with the sample's rules have rules of their own.
+fn kinds() -> Vec<(&'static str, Vec<Vec<u8>>)> {
+    let eights = |random: &mut Random| rules(random, 8, 8);
     vec![
-        ("sample", SAMPLE.to_vec()),
+        ("the sample", vec![SAMPLE.to_vec()]),
+        (
+            "the sample's rules, other names",
+            texts(|random| {
+                // As long as the sample's, or a byte shorter or longer.
+                let names = names(random, 4, 3, 5);
+                tokens(&sample(), &names, &[b"fail".to_vec()]).join(&b' ')
+            }),
+        ),
         (
             "64 × 8 → 8, short names",
-            tokens(&largest, &short, &[]).join(&b' '),
+            texts(|random| tokens(&eights(random), &names(random, 32, 1, 2), &[]).join(&b' ')),
         ),
         (
             "the same, with separators",
-            filled(&tokens(&largest, &short, &[])),
+            texts(|random| filled(&tokens(&eights(random), &names(random, 32, 1, 2), &[]))),
         ),
-        ("64 × 8 → 8, names of 14 bytes", full),
+        (
+            "64 × 8 → 8, names of 14 bytes",
+            texts(|random| filled(&tokens(&eights(random), &names(random, 32, 14, 14), &[]))),
+        ),
         (
             "the same, names alike",
-            filled(&tokens(&largest, &alike, &[])),
+            texts(|random| filled(&tokens(&eights(random), &alike(random), &[]))),
         ),
         (
             "64 × 5 → 4, names of 24 bytes",
-            filled(&tokens(&shortened(&largest), &long, &[])),
+            texts(|random| {
+                let rules = rules(random, 5, 4);
+                filled(&tokens(&rules, &names(random, 32, 24, 24), &[]))
+            }),
         ),
-        ("64 × 8 → 8, the last token breaks", broken),
+        (
+            "64 × 8 → 8, the last token breaks",
+            texts(|random| {
+                let rules = eights(random);
+                let mut text = filled(&tokens(&rules, &names(random, 32, 14, 14), &[]));
+                // A `->` for the last `.`, and a space less before it.
+                text[MAX_TEXT_BYTES - 2..].copy_from_slice(b"->");
+                text
+            }),
+        ),
     ]
 }
 
-/// The rule set with five symbols on the left and four on the right.
-fn shortened(set: &RuleSet) -> RuleSet {
-    let mut set = set.clone();
-    for rule in &mut set.rules {
-        rule.left.truncate(5);
-        if let Right::Symbols(right) = &mut rule.right {
-            right.truncate(4);
+/// A pool's worth of texts.
+fn texts(text: impl Fn(&mut Random) -> Vec<u8>) -> Vec<Vec<u8>> {
+    let mut random = Random::new(30);
+    many(Vec::len, || text(&mut random))
+}
+
+/// 64 rules over 32 events, with so many symbols on the left and on the right.
+fn rules(random: &mut Random, left: usize, right: usize) -> RuleSet {
+    let mut side = |length| random.string(length, 32);
+    RuleSet {
+        symbols: 32,
+        events: 32,
+        verdicts: 2,
+        rules: (0..64).map(|_| string(&side(left), &side(right))).collect(),
+    }
+}
+
+/// So many different names of `least` to `most` bytes.
+fn names(random: &mut Random, count: usize, least: usize, most: usize) -> Vec<Name> {
+    different(count, || {
+        let mut name = Naming::Longest.names(random, 1, &[]).remove(0);
+        name.truncate(random.within(least, most));
+        name
+    })
+}
+
+/// 32 different names that begin with the same eleven bytes.
+fn alike(random: &mut Random) -> Vec<Name> {
+    different(32, || {
+        format!("event_name_{:03}", random.below(1_000)).into_bytes()
+    })
+}
+
+/// So many different ones of the names drawn.
+fn different(count: usize, mut draw: impl FnMut() -> Name) -> Vec<Name> {
+    let mut names = Vec::new();
+    while names.len() < count {
+        let name = draw();
+        if !names.contains(&name) {
+            names.push(name);
         }
     }
-    set
+    names
 }
 
 /// The tokens as a text of 16,384 bytes, with the separators spread evenly among them.
@@ -94,7 +138,7 @@ fn filled(tokens: &[Vec<u8>]) -> Vec<u8> {
     text
 }
 
-/// A reader, the library's or that in safe Rust.
+/// A reader, the library's or one in safe Rust.
 type Read = fn(&[u8], &mut [u8], &mut [u8], &mut [u64; 2]) -> u32;
 
 /// What a reader gives: the refusal, `out`, and both areas.
@@ -121,39 +165,58 @@ fn wanted(text: &[u8], areas: [usize; 2]) -> Given {
     }
 }
 
-/// Measures one text and prints its line.
-fn measure(name: &str, text: &[u8], rounds: usize) {
-    let wanted = wanted(text, [IMAGE_AREA, NAME_AREA]);
-    for read in [raw::read_rules as Read, reader::read_rules] {
-        assert!(given(read, text, [IMAGE_AREA, NAME_AREA]) == wanted);
-    }
-    let refusal = wanted.0;
-    let times = race_two(
-        rounds,
-        one_read(raw::read_rules, text, refusal),
-        one_read(reader::read_rules, text, refusal),
-    );
-    let [library, rust] = times;
-    println!(
-        "{name:<36} {:>7} {:>7} {library:>10.0} {rust:>10.0} {:>7.2}",
-        text.len(),
-        naive::runs(text).len(),
-        library / rust
-    );
+/// The readers, the library's first.
+const READERS: [Read; 3] = [
+    raw::read_rules,
+    plain::reader::read_rules,
+    tuned::reader::read_rules,
+];
+
+/// Reads one text of a pool after another into areas that stay the same.
+struct Reading {
+    texts: Pool<Vec<u8>>,
+    image: Vec<u8>,
+    names: Vec<u8>,
+    /// What each read must give.
+    refusal: u32,
+    out: [u64; 2],
 }
 
-/// A call that reads the text into areas that stay the same, and says whether it was refused so.
-fn one_read(read: Read, text: &[u8], refusal: u32) -> impl FnMut() -> bool + '_ {
-    let (mut image, mut names) = (vec![0; IMAGE_AREA], vec![0; NAME_AREA]);
-    let mut out = [0; 2];
-    move || {
-        let found = read(
-            black_box(text),
-            black_box(&mut image),
-            black_box(&mut names),
-            black_box(&mut out),
+impl Reading {
+    fn new(texts: Vec<Vec<u8>>) -> Reading {
+        let (refusal, out, image, names) = wanted(&texts[0], [IMAGE_AREA, NAME_AREA]);
+        Reading {
+            texts: Pool::new(texts),
+            image,
+            names,
+            refusal,
+            out,
+        }
+    }
+}
+
+impl Work for Reading {
+    fn once(&mut self, side: Side) -> bool {
+        let mut out = [0; 2];
+        let refusal = READERS[side](
+            black_box(self.texts.next(side)),
+            black_box(&mut self.image),
+            black_box(&mut self.names),
+            &mut out,
         );
-        found == refusal
+        refusal == self.refusal && out == self.out
+    }
+
+    fn expect_agreement(&mut self) {
+        for text in self.texts.all() {
+            let wanted = wanted(text, [IMAGE_AREA, NAME_AREA]);
+            assert!((wanted.0, wanted.1) == (self.refusal, self.out));
+            for read in READERS {
+                assert!(given(read, text, [IMAGE_AREA, NAME_AREA]) == wanted);
+            }
+        }
+        let (.., image, names) = wanted(self.texts.last(), [IMAGE_AREA, NAME_AREA]);
+        assert!(self.image == image && self.names == names);
     }
 }
 
@@ -163,22 +226,24 @@ mod tests {
     use reference::random::{Habit, Shape};
     use reference::texts::{self, Spacing};
 
-    /// Compares the baseline with the reference, and returns the refusal.
+    /// Compares all sides with the reference, and returns the refusal.
     fn compare(text: &[u8], areas: [usize; 2]) -> u32 {
         let wanted = wanted(text, areas);
-        assert!(
-            given(reader::read_rules, text, areas) == wanted,
-            "refusal {}, place {}: {}",
-            wanted.0,
-            wanted.1[1],
-            text.escape_ascii()
-        );
+        for (side, read) in READERS.into_iter().enumerate() {
+            assert!(
+                given(read, text, areas) == wanted,
+                "side {side}, refusal {}, place {}: {}",
+                wanted.0,
+                wanted.1[1],
+                text.escape_ascii()
+            );
+        }
         wanted.0
     }
 
-    /// The baseline is what the reference says, so that both sides of the race do the same work.
+    /// Each side is what the reference says, so that all sides of a race do the same work.
     #[test]
-    fn baseline_is_the_reference() {
+    fn sides_are_the_reference() {
         let mut random = Random::new(31);
         let mut seen = [0; 7];
         let mut count = |refusal: u32| seen[refusal as usize] += 1;
@@ -219,14 +284,14 @@ mod tests {
             count(compare(text.as_bytes(), [IMAGE_AREA, NAME_AREA]));
         }
         assert!(seen.iter().all(|&count| count > 0), "{seen:?}");
-        for (_, text) in super::texts() {
-            compare(&text, [IMAGE_AREA, NAME_AREA]);
+        for text in kinds().iter().flat_map(|(_, texts)| texts) {
+            compare(text, [IMAGE_AREA, NAME_AREA]);
         }
     }
 
-    /// Each limit of the baseline from both sides.
+    /// Each limit, with as many and with one more.
     #[test]
-    fn limits_of_the_baseline() {
+    fn limits() {
         let areas = [IMAGE_AREA, NAME_AREA];
         for count in [1, 7, 8, 9, 13, 14, 15, 24, 25, 31, 32, 33, 63, 64, 65] {
             let names = |prefix: &str| -> Vec<String> {
@@ -255,16 +320,33 @@ mod tests {
         }
     }
 
-    /// All texts but the last are good, and the last one breaks at its last token.
+    /// The first kind is the sample, one text, and the second has many with the same rules. The
+    /// texts of a kind all differ, and have all their symbols in use. Those of the last kind break
+    /// at their last token, and all others are good.
     #[test]
     fn the_texts_measured() {
-        let mut texts = super::texts();
-        let (_, broken) = texts.pop().expect("a text");
-        assert_eq!(broken.len(), MAX_TEXT_BYTES);
-        let (refusal, [_, place], ..) = wanted(&broken, [IMAGE_AREA, NAME_AREA]);
-        assert_eq!((refusal, place as usize), (4, MAX_TEXT_BYTES - 2));
-        for (name, text) in texts {
-            assert_eq!(wanted(&text, [IMAGE_AREA, NAME_AREA]).0, 0, "{name}");
+        let mut kinds = kinds();
+        let (_, broken) = kinds.pop().expect("a kind");
+        for text in broken {
+            assert_eq!(text.len(), MAX_TEXT_BYTES);
+            let (refusal, [_, place], ..) = wanted(&text, [IMAGE_AREA, NAME_AREA]);
+            assert_eq!((refusal, place as usize), (4, MAX_TEXT_BYTES - 2));
+        }
+        for (kind, (name, mut texts)) in kinds.into_iter().enumerate() {
+            for text in &texts {
+                let reading = naive::read_rules(text, IMAGE_AREA, NAME_AREA).expect(name);
+                let symbols = if kind < 2 { 4 } else { 32 };
+                assert_eq!(reading.symbols.len(), symbols, "{name}");
+                assert!(kind >= 2 || reading.set == sample(), "{name}");
+            }
+            let count = texts.len();
+            assert!(
+                if kind == 0 { count == 1 } else { count >= 32 },
+                "{name}: {count}"
+            );
+            texts.sort();
+            texts.dedup();
+            assert_eq!(texts.len(), count, "{name}");
         }
     }
 }

@@ -1,8 +1,9 @@
 /*!
-The reader of rule texts in safe Rust: what the benchmark measures the library against.
+The reader of rule texts, written plainly: the library's algorithm, as it stood before the tuned one
+was written.
 
-One pass over the text. Names and image are built in local arrays and copied out when the whole text is
-good. A name is looked up among the slots from the first to the last.
+One pass over the text. Names and image are built in local arrays and copied out when the whole text
+is good. A name is looked up among the slots from the first to the last.
 */
 
 /// Refusal 1: over 16,384 bytes.
@@ -297,8 +298,8 @@ impl Reading {
     }
 }
 
-/// Writes image and names of a text: returns 0 or a refusal. Afterwards `out` holds the image's length
-/// and 0; beside a refusal 0 and its place.
+/// Writes image and names of a text: returns 0 or a refusal. Afterwards `out` holds the image's
+/// length and 0; beside a refusal 0 and its place.
 // Not inlined, as the library is not: the benchmark's loop must not see what is called.
 #[inline(never)]
 pub fn read_rules(text: &[u8], image: &mut [u8], names: &mut [u8], out: &mut [u64; 2]) -> u32 {
