@@ -1,8 +1,6 @@
 // What the monitor does with its two areas: writes, the check that they are as described, and a rewrite. What these functions ask of
 // their caller, the checks of a call have shown; the crate monitor is the only one that calls them.
-ghost use Prim.Native.Nat.{_+_, _≤_, _<_};
 ghost use mathlib.Core.Path.{_≡_};
-ghost use mathlib.Core.Bool.{true};
 ghost use mathlib.Core.Option.{some};
 ghost use lib.ListN.{length};
 ghost use Rattle.layout.specs.Image.{read};

@@ -9,7 +9,6 @@ ghost use lib.ListN.{length, getD};
 ghost use Rattle.layout.specs.Image.{read, valid};
 ghost use Rattle.layout.specs.Refusals.{refusal, answered};
 ghost use Rattle.layout.specs.declared.Checked.{Checked};
-ghost use Rattle.machine.specs.declared.Standing.{Standing};
 ghost use Rattle.machine.specs.Run.{noCounts};
 ghost use Rattle.machine.specs.Calls.{callChecks, callOf, decided, answerNumber};
 ghost use Rattle.machine.specs.Batch.{eventsMost, inTurn, batched};

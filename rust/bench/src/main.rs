@@ -39,9 +39,10 @@ mod tuned {
     pub mod tables;
 }
 
-/// What is the same in both. Their readers share nothing.
+/// What is the same in both. Of the readers that is limits and classes alone.
 mod shared {
     pub mod monitor;
+    pub mod reader;
     pub mod tables;
 }
 

@@ -6,52 +6,7 @@ One pass over the text. Names and image are built in local arrays and copied out
 is good. A name is looked up among the slots from the first to the last.
 */
 
-/// Refusal 1: over 16,384 bytes.
-const LONG_TEXT: u32 = 1;
-/// Refusal 2: image area under 1,284 or name area under 1,200.
-const SHORT_TEXT_AREA: u32 = 2;
-/// Refusal 3: not a token.
-const NO_TOKEN: u32 = 3;
-/// Refusal 4: not allowed here, or the text ended.
-const MISPLACED: u32 = 4;
-/// Refusal 5: the ninth name of a side, the 33rd symbol, the first name of rule 65, the 15th other
-/// word.
-const TOO_MANY: u32 = 5;
-/// Refusal 6: an event named twice.
-const EVENT_TWICE: u32 = 6;
-
-const MAX_TEXT: usize = 16_384;
-const MAX_IMAGE: usize = 1_284;
-const MAX_NAME: usize = 24;
-const MAX_SIDE: usize = 8;
-const MAX_RULES: usize = 64;
-const MAX_SYMBOLS: usize = 32;
-const MAX_VERDICTS: usize = 16;
-const SLOTS: usize = MAX_SYMBOLS + MAX_VERDICTS;
-
-/// A slot: length byte, name, zeros.
-type Slot = [u8; 1 + MAX_NAME];
-
-// What a byte may be.
-const OTHER: u8 = 0;
-const SEPARATOR: u8 = 1;
-const LETTER: u8 = 2;
-const LATER: u8 = 3;
-
-const CLASSES: [u8; 256] = {
-    let mut classes = [OTHER; 256];
-    let mut byte = 0;
-    while byte < 256 {
-        classes[byte] = match byte as u8 {
-            b' ' | b'\t' | b'\r' | b'\n' => SEPARATOR,
-            b'A'..=b'Z' | b'a'..=b'z' => LETTER,
-            b'0'..=b'9' | b'_' => LATER,
-            _ => OTHER,
-        };
-        byte += 1;
-    }
-    classes
-};
+use crate::shared::reader::*;
 
 fn class(byte: u8) -> u8 {
     CLASSES[usize::from(byte)]
