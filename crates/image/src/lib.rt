@@ -9,6 +9,7 @@ ghost use Rattle.rewriting.specs.Rules.{rule};
 ghost use Rattle.layout.specs.ImageCheck.{Decides, Header, bodySize, firstSize, announced};
 ghost use Rattle.layout.specs.Image.{body, read, valid};
 ghost use Rattle.layout.specs.Places.{rightSideOf};
+ghost use Rattle.layout.specs.Words.{root};
 use layout::RightSide;
 
 pub mod wide;
@@ -51,7 +52,7 @@ fn body_size(verdicts: u8, left: u8, kind: u8, n: u8, last: u8) -> u8
     if 8 < left {
         return 0;
     }
-    if last != 0 {
+    if 1 < last {
         return 0;
     }
     if kind == 0 {
@@ -173,6 +174,28 @@ pub fn left_length(image: &[u8], i: usize) -> usize
     ensures { λ r. ⌜ r ≡ length (rule (read (now (image .entry)) .rules) i .left) ⌝ }
 {
     wide::byte(image[4 + 4 * i])
+}
+
+// Whether rule i has the mark.
+pub fn is_marked(image: &[u8], i: usize) -> bool
+    requires { ⌜ valid (now image) ≡ true ⌝ }
+    requires { ⌜ i < length (read (now image) .rules) ⌝ }
+    ensures { λ r. ⌜ r ≡ rule (read (now (image .entry)) .rules) i .marked ⌝ }
+{
+    image[7 + 4 * i] == 1
+}
+
+// The number of the empty string's state: 1 where a rule has the mark, else 0.
+pub fn root(image: &[u8]) -> usize
+    requires { ⌜ valid (now image) ≡ true ⌝ }
+    ensures { λ r. ⌜ r ≡ root (read (now (image .entry)) .rules) ⌝ }
+{
+    for i in 0..rules(image) {
+        if is_marked(image, i) {
+            return 1;
+        }
+    }
+    0
 }
 
 // The right side of rule i.

@@ -3,7 +3,7 @@
 // Document 01's longest image, and its longest table.
 pub const IMAGE_BYTES: usize = 1284;
 
-pub const TABLE_WORDS: usize = 16931;
+pub const TABLE_WORDS: usize = 16964;
 
 // A right side: the number of its symbols, or its verdict.
 pub enum RightSide {

@@ -34,6 +34,7 @@ impl Reader {
               left = self .left;
               side = self .side;
               kind = self .kind;
+              mark = self .mark;
             } ⌝ }
     {
         Reader {
@@ -46,6 +47,7 @@ impl Reader {
             left: self.left,
             side: self.side,
             kind: self.kind,
+            mark: self.mark,
         }
     }
 
@@ -103,6 +105,15 @@ impl Reader {
         Taken::Goes(next)
     }
 
+    // A rule's first name.
+    fn left_symbol(self, x: &[u8], symbols: &mut [u8], bodies: &mut [u8]) -> Taken
+    {
+        if 64 <= self.rules {
+            return Taken::Breaks(5);
+        }
+        self.side_symbol(Place::Left, x, symbols, bodies)
+    }
+
     // A name.
     fn name(self, x: &[u8], symbols: &mut [u8], bodies: &mut [u8]) -> Taken
         requires held { ⌜ Held self ⌝ }
@@ -116,12 +127,8 @@ impl Reader {
         match place {
             Place::First => self.first(x),
             Place::Events => self.event(x, symbols),
-            Place::Between => {
-                if 64 <= self.rules {
-                    return Taken::Breaks(5);
-                }
-                self.side_symbol(Place::Left, x, symbols, bodies)
-            }
+            Place::Between => self.left_symbol(x, symbols, bodies),
+            Place::Marked => self.left_symbol(x, symbols, bodies),
             Place::Left => self.side_symbol(Place::Left, x, symbols, bodies),
             Place::Right => self.side_symbol(Place::Right, x, symbols, bodies),
             Place::Ending => Taken::Breaks(4),
@@ -183,6 +190,21 @@ impl Reader {
         }
     }
 
+    // `^`
+    fn mark(self) -> Taken
+        ensures { λ r. ⌜ ((a b c d : List ℕ) → Takes (λ s. mark s (s .place)) self a b c d r a b c d) ⌝ }
+    {
+        let place = self.place;
+        match place {
+            Place::Between => {
+                let mut next = self.at(Place::Marked);
+                next.mark = 1;
+                Taken::Goes(next)
+            }
+            _ => Taken::Breaks(4),
+        }
+    }
+
     // The end of the list of events.
     fn close_events(self) -> Taken
         ensures { λ r. ⌜ ((a b c d : List ℕ) → self .place ≡ Place.Events → Takes (λ s. stop s (s .place)) self a b c d r a b c d) ⌝ }
@@ -205,12 +227,13 @@ impl Reader {
         contents[at] = self.left;
         contents[at + 1] = self.kind;
         contents[at + 2] = self.side;
-        contents[at + 3] = 0;
+        contents[at + 3] = self.mark;
         let mut next = self.at(Place::Between);
         next.rules = self.rules + 1;
         next.left = 0;
         next.side = 0;
         next.kind = 0;
+        next.mark = 0;
         Taken::Goes(next)
     }
 
@@ -258,6 +281,7 @@ impl Reader {
             Kind::Word => self.word(x, words),
             Kind::Arrow => self.arrow(),
             Kind::Stop => self.stop(contents),
+            Kind::Mark => self.mark(),
             Kind::None => Taken::Breaks(3),
         }
     }

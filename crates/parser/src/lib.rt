@@ -25,13 +25,14 @@ pub enum Place {
     First,
     Events,
     Between,
+    Marked,
     Left,
     Right,
     Ending,
 }
 
 // What has been read: the place, how many symbols, words, events and rules there are, how many bytes their bodies have, and
-// of the rule begun the length of its left side, that of the side that is open or the verdict, and the kind.
+// of the rule begun the length of its left side, that of the side that is open or the verdict, the kind, and the mark.
 pub struct Reader {
     pub place: Place,
     pub symbols: usize,
@@ -42,6 +43,7 @@ pub struct Reader {
     pub left: u8,
     pub side: u8,
     pub kind: u8,
+    pub mark: u8,
 }
 
 // What a token makes of what has been read: it goes on, or the text breaks here, by this refusal.
@@ -78,6 +80,7 @@ fn begin(words: &mut [u8]) -> Reader
         left: 0,
         side: 0,
         kind: 0,
+        mark: 0,
     }
 }
 

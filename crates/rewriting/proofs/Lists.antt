@@ -11,7 +11,7 @@ use lib.Dec.{eqb, leb, ltb}
 use lib.ListN.{length, getD, drop, length-append, length-drop, List·getD-append}
 use lib.Seq.{getD-at, getD-append-add}
 use borrow.Author.Tests.{eqb-true, eqb-false, eq-eqb, leb-true, ltb-true, ltb-false, lt-ltb}
-use Rattle.rewriting.specs.Lists.{all, same, prefix, between, below, upTo, over}
+use Rattle.rewriting.specs.Lists.{all, alike, same, prefix, between, below, upTo, over}
 
 -- a number below n + 1 is below n, or n; two numbers are equal, or not
 pub last-or : (n c : ℕ) → c < suc n → (c < n) ⊎ (c ≡ n)
@@ -49,6 +49,19 @@ or-left a b p = rw p
 pub or-right : (a b : Bool) → b ≡ true → (a || b) ≡ true
 or-right true b p = refl
 or-right false b p = p
+
+pub not-true : false ≡ true → ⊥
+not-true e = let z : _≡_ {A = ℕ} 0 1 = cc in omega arith
+
+pub alike-eq : (a b : Bool) → alike a b ≡ true → a ≡ b
+alike-eq true true e = refl
+alike-eq true false e = sym e
+alike-eq false true e = e
+alike-eq false false e = refl
+
+pub eq-alike : (a b : Bool) → a ≡ b → alike a b ≡ true
+eq-alike true b e = sym e
+eq-alike false b e = rw (← e)
 
 module _ {A : Type 0} (test : A → Bool) where
   pub all-append : (xs ys : List A) → all test xs ≡ true → all test ys ≡ true → all test (xs ++ ys) ≡ true

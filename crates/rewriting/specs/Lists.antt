@@ -1,6 +1,6 @@
 -- Tests on lists that the definitions share, and writing into a longer area.
 use Prim.Native.Nat.{ℕ, zero, suc}
-use mathlib.Core.Bool.{Bool, true, false, _&&_, _||_}
+use mathlib.Core.Bool.{Bool, true, false, not, _&&_, _||_}
 use mathlib.Core.List.{List, [], _∷_, _++_}
 use lib.Dec.{eqb, leb, ltb}
 use lib.ListN.{length, drop}
@@ -15,6 +15,11 @@ module _ {A : Type 0} where
   abbrev pub any : (A → Bool) → List A → Bool
   any test [] = false
   any test (x ∷ xs) = test x || any test xs
+
+-- the two answers are equal
+abbrev pub alike : Bool → Bool → Bool
+alike true b = b
+alike false b = not b
 
 -- the two lists are equal
 abbrev pub same : List ℕ → List ℕ → Bool

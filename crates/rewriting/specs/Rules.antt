@@ -1,6 +1,6 @@
 -- Rules and rule sets, and the ranges that document 01 gives them.
 use Prim.Native.Nat.{ℕ}
-use mathlib.Core.Bool.{Bool, _&&_}
+use mathlib.Core.Bool.{Bool, true, false, _&&_}
 use mathlib.Core.List.{List, []}
 use lib.Dec.{leb, ltb}
 use lib.ListN.{length, getD}
@@ -17,14 +17,19 @@ unfoldable pub symbolsOf : Right → List ℕ
 symbolsOf (Put v) = v
 symbolsOf (Close v) = []
 
--- left side → right side
+-- left side → right side. Document 02, No. 1: with a mark, the left side "occurs only at the string's first symbol".
 pub record Rule : Type 0 where
+  pub marked : Bool
   pub left : List ℕ
   pub right : Right
 
+-- a rule without a mark, and the same with one
 infix 20 _⇒_
 abbrev pub _⇒_ : List ℕ → Right → Rule
-left ⇒ right = record { left = left; right = right }
+left ⇒ right = record { marked = false; left = left; right = right }
+
+abbrev pub atStart : Rule → Rule
+atStart r = record { marked = true; left = r .left; right = r .right }
 
 -- "A symbol is a number 0..S−1 ..; the first E .. are events. There are 0..64 rules": S, E, V, and the rules in their order
 pub record RuleSet : Type 0 where

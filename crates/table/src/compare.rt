@@ -37,14 +37,14 @@ fn differences(rows: &[u16], s: usize, q: usize, f: usize) -> u16
 }
 
 // How many words of the root's row lead away from it.
-fn transitions(rows: &[u16], s: usize) -> u16
+fn transitions(rows: &[u16], s: usize, root: usize) -> u16
     requires few { ⌜ s ≤ 32 ⌝ }
     requires row { ⌜ s ≤ length (now rows) ⌝ }
     ensures { λ r. ⌜ r ≡ leaving (now (rows .entry)) s ⌝ }
 {
     let mut n: u16 = 0;
     for a in 0..s {
-        if rows[a] != 0 {
+        if wide::word(rows[root * s + a]) != root {
             n += 1;
         }
     }
@@ -77,17 +77,31 @@ fn inherited(trie: &[u16], matches: &[u16], q: usize) -> u16
 }
 
 // The tests of the root.
-fn root_holds(trie: &[u16], matches: &[u16], rows: &[u16], s: usize) -> bool
+fn root_holds(trie: &[u16], matches: &[u16], rows: &[u16], s: usize, root: usize) -> bool
     requires few { ⌜ s ≤ 32 ⌝ }
     requires node { ⌜ childrenAt 0 < length (now trie) ⌝ }
     requires word { ⌜ 0 < length (now matches) ⌝ }
     requires row { ⌜ s ≤ length (now rows) ⌝ }
     ensures { λ r. ⌜ Decides r (RootPassed (now (trie .entry)) (now (matches .entry)) (now (rows .entry)) s) ⌝ }
 {
+    if matches[root] != 0 {
+        return false;
+    }
+    let n = transitions(rows, s, root);
+    if n != trie[NODE * root + CHILDREN] {
+        return false;
+    }
+    true
+}
+
+// The tests of the mark alone, which no state leads to: it has no match, and its row differs from the root's in as many words as it
+// has children.
+fn mark_holds(trie: &[u16], matches: &[u16], rows: &[u16], s: usize, root: usize) -> bool
+{
     if matches[0] != 0 {
         return false;
     }
-    let n = transitions(rows, s);
+    let n = differences(rows, s, 0, root);
     if n != trie[CHILDREN] {
         return false;
     }
@@ -122,7 +136,7 @@ fn state_holds(trie: &[u16], matches: &[u16], rows: &[u16], s: usize, q: usize) 
 
 // Every state's tests, in the order of their numbers, so that its parent and its parent's failure state are known when a
 // state is reached. Keeps each state's failure state in its node.
-fn states_hold(image: &[u8], trie: &mut [u16], n: usize, matches: &[u16], rows: &[u16]) -> bool
+fn states_hold(image: &[u8], root: usize, trie: &mut [u16], n: usize, matches: &[u16], rows: &[u16]) -> bool
     requires { ⌜ valid (now image) ≡ true ⌝ }
     requires { ⌜ Built (read (now image)) n (now trie) ⌝ }
     requires { ⌜ (n ≡ length (now matches)) × (n * read (now image) .symbols ≡ length (now rows)) ⌝ }
@@ -130,11 +144,16 @@ fn states_hold(image: &[u8], trie: &mut [u16], n: usize, matches: &[u16], rows: 
         (RightTable (read (now (image .entry)) .rules) (read (now (image .entry)) .symbols) (now (matches .entry)) (now (rows .entry))) ⌝ }
 {
     let s = image::symbols(image);
-    if !root_holds(trie, matches, rows, s) {
+    if !root_holds(trie, matches, rows, s, root) {
         return false;
     }
-    for q in 1..n {
-        let f = failure_of(trie, rows, s, q);
+    if 0 < root {
+        if !mark_holds(trie, matches, rows, s, root) {
+            return false;
+        }
+    }
+    for q in root + 1..n {
+        let f = failure_of(trie, rows, s, root, q);
         if f >= n {
             return false;
         }
@@ -148,7 +167,7 @@ fn states_hold(image: &[u8], trie: &mut [u16], n: usize, matches: &[u16], rows: 
 
 // Whether the table begins with the words that compile gives for the image, by the trie of its n states: N, S, and every
 // state's tests. Keeps each state's failure state in its node of the trie.
-pub(crate) fn holds(image: &[u8], trie: &mut [u16], n: usize, table: &[u16]) -> bool
+pub(crate) fn holds(image: &[u8], root: usize, trie: &mut [u16], n: usize, table: &[u16]) -> bool
     requires { ⌜ valid (now image) ≡ true ⌝ }
     requires { ⌜ Built (read (now image)) n (now trie) ⌝ }
     ensures { λ r. ⌜ r ≡ prefix (tableOf (read (now (image .entry)))) (now (table .entry)) ⌝ }
@@ -165,5 +184,5 @@ pub(crate) fn holds(image: &[u8], trie: &mut [u16], n: usize, table: &[u16]) -> 
     if wide::word(table[1]) != s {
         return false;
     }
-    states_hold(image, trie, n, &table[2..first], &table[first..end])
+    states_hold(image, root, trie, n, &table[2..first], &table[first..end])
 }

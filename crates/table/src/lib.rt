@@ -17,7 +17,7 @@ use trie::rows;
 mod compare;
 
 // The table of the image, into an area of its length, from the trie of its n states.
-fn write(image: &[u8], nodes: &mut [u16], n: usize, table: &mut [u16])
+fn write(image: &[u8], root: usize, nodes: &mut [u16], n: usize, table: &mut [u16])
     requires image { ⌜ valid (now image) ≡ true ⌝ }
     requires trie { ⌜ Built (read (now image)) n (now nodes) ⌝ }
     requires size { ⌜ length (now table) ≡ length (tableOf (read (now image))) ⌝ }
@@ -27,24 +27,24 @@ fn write(image: &[u8], nodes: &mut [u16], n: usize, table: &mut [u16])
     table[0] = n as u16;
     table[1] = s as u16;
     let rows = 2 + n;
-    rows::fill(image, nodes, n, &mut table[rows..]);
+    rows::fill(image, root, nodes, n, &mut table[rows..]);
     rows::write_matches(image, nodes, n, &mut table[2..rows]);
 }
 
 // Compile for a valid image, with words for the trie. It is built first, since the number of states decides whether the
 // table fits.
-fn compile_with(image: &[u8], nodes: &mut [u16], table: &mut [u16]) -> Compiled
+fn compile_with(image: &[u8], root: usize, nodes: &mut [u16], table: &mut [u16]) -> Compiled
     requires image { ⌜ valid (now image) ≡ true ⌝ }
     requires words { ⌜ (now nodes ≡ replicate (length (now nodes)) 0) × (Roomy (read (now image)) (length (now nodes))) ⌝ }
     ensures answer { λ r. ⌜ r ≡ compileOf (now (image .entry)) (now (table .entry)) .answer ⌝ }
     ensures area { λ r. ⌜ now (table .exit) ≡ compileOf (now (image .entry)) (now (table .entry)) .area ⌝ }
 {
-    let n = trie::build(image, nodes);
+    let n = trie::build(image, root, nodes);
     let words = 2 + n + n * image::symbols(image);
     if table.len() < words {
         return Compiled::Refused(8);
     }
-    write(image, nodes, n, &mut table[..words]);
+    write(image, root, nodes, n, &mut table[..words]);
     Compiled::Words(words)
 }
 
@@ -55,24 +55,25 @@ pub fn compile(image: &[u8], table: &mut [u16]) -> Compiled
     ensures area { λ r. ⌜ now (table .exit) ≡ compileOf (now (image .entry)) (now (table .entry)) .area ⌝ }
 {
     if image::is_valid(image) {
+        let root = image::root(image);
         if image::bodies_length(image) < 64 {
             let mut few = [0u16; FEW_WORDS];
-            return compile_with(image, &mut few, table);
+            return compile_with(image, root, &mut few, table);
         }
         let mut nodes = [0u16; WORDS];
-        return compile_with(image, &mut nodes, table);
+        return compile_with(image, root, &mut nodes, table);
     }
     Compiled::Refused(7)
 }
 
 // Whether the table begins with that of a valid image, with words for the trie.
-fn begins_by(image: &[u8], nodes: &mut [u16], table: &[u16]) -> bool
+fn begins_by(image: &[u8], root: usize, nodes: &mut [u16], table: &[u16]) -> bool
     requires image { ⌜ valid (now image) ≡ true ⌝ }
     requires words { ⌜ (now nodes ≡ replicate (length (now nodes)) 0) × (Roomy (read (now image)) (length (now nodes))) ⌝ }
     ensures { λ r. ⌜ r ≡ prefix (tableOf (read (now (image .entry)))) (now (table .entry)) ⌝ }
 {
-    let n = trie::build(image, nodes);
-    compare::holds(image, nodes, n, table)
+    let n = trie::build(image, root, nodes);
+    compare::holds(image, root, nodes, n, table)
 }
 
 // The same, with an array of the rule set's size.
@@ -80,12 +81,13 @@ fn begins_with_table(image: &[u8], table: &[u16]) -> bool
     requires { ⌜ valid (now image) ≡ true ⌝ }
     ensures { λ r. ⌜ r ≡ prefix (tableOf (read (now (image .entry)))) (now (table .entry)) ⌝ }
 {
+    let root = image::root(image);
     if image::bodies_length(image) < 64 {
         let mut few = [0u16; FEW_WORDS];
-        return begins_by(image, &mut few, table);
+        return begins_by(image, root, &mut few, table);
     }
     let mut nodes = [0u16; WORDS];
-    begins_by(image, &mut nodes, table)
+    begins_by(image, root, &mut nodes, table)
 }
 
 // The check of a lent image and table: refusals 7 and 9.

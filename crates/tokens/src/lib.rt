@@ -17,6 +17,7 @@ pub enum Kind {
     Word,
     Arrow,
     Stop,
+    Mark,
     None,
 }
 

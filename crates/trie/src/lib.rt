@@ -47,10 +47,10 @@ pub const MATCH: usize = 6;
 
 pub const FAILURE: usize = 7;
 
-// The words of 513 nodes, document 01's bound on the number of states, and of 64, for a small rule set.
-pub const WORDS: usize = 4104;
+// The words of 514 nodes, the bound on the number of states, and of 65, for a small rule set.
+pub const WORDS: usize = 4112;
 
-pub const FEW_WORDS: usize = 512;
+pub const FEW_WORDS: usize = 520;
 
 // Where a walk has come to, and the number of nodes.
 pub struct Walked {
@@ -65,16 +65,16 @@ fn word(x: u8) -> u16
     x as u16
 }
 
-// The failure state of node q, by the failure state of its parent and the row of that: state 0 for a child of the root.
-pub fn failure_of(trie: &[u16], rows: &[u16], s: usize, q: usize) -> usize
+// The failure state of node q, by the failure state of its parent and the row of that: the root for a child of the root.
+pub fn failure_of(trie: &[u16], rows: &[u16], s: usize, root: usize, q: usize) -> usize
     requires node { ⌜ symbolAt q < length (now trie) ⌝ }
     requires up { ⌜ failureAt (parent (now trie) q) < length (now trie) ⌝ }
     requires row { ⌜ (0 < parent (now trie) q → failure (now trie) (parent (now trie) q) * s + symbol (now trie) q < length (now rows)) ⌝ }
     ensures { λ r. ⌜ r ≡ failureBy (now (trie .entry)) (now (rows .entry)) s q ⌝ }
 {
     let p = wide::word(trie[NODE * q]);
-    if p == 0 {
-        return 0;
+    if p == root {
+        return root;
     }
     let a = wide::word(trie[NODE * q + SYMBOL]);
     let f = wide::word(trie[NODE * p + FAILURE]);
@@ -135,7 +135,7 @@ fn follow(trie: &mut [u16], n: usize, q: usize, a: u16) -> Walked
 }
 
 // Rule i becomes the rule of node q, unless a lower rule has it already.
-fn mark(trie: &mut [u16], q: usize, i: usize)
+fn claim(trie: &mut [u16], q: usize, i: usize)
     requires node { ⌜ failureAt q < length (now trie) ⌝ }
     requires rule { ⌜ i < 64 ⌝ }
     ensures { λ _. ⌜ now (trie .exit) ≡ marked (now (trie .entry)) q i ⌝ }
@@ -145,8 +145,18 @@ fn mark(trie: &mut [u16], q: usize, i: usize)
     }
 }
 
-// Follows the left side of rule i, which begins at byte `at`, in the trie of the n states of the rules before it.
-fn walk(image: &[u8], i: usize, at: usize, trie: &mut [u16], n: usize) -> Walked
+// The node that the left side of rule i is followed from.
+fn first_node(image: &[u8], root: usize, i: usize) -> usize
+{
+    if image::is_marked(image, i) {
+        return 0;
+    }
+    root
+}
+
+// Follows the left side of rule i, which begins at byte `at`, in the trie of the n states of the rules before it: from the mark's
+// node where the rule has the mark, else from the root.
+fn walk(image: &[u8], root: usize, i: usize, at: usize, trie: &mut [u16], n: usize) -> Walked
     requires image { ⌜ valid (now image) ≡ true ⌝ }
     requires rule { ⌜ (i < length (read (now image) .rules)) × (at ≡ leftAt (read (now image)) i) ⌝ }
     requires trie { ⌜ (Grown (read (now image)) i (now trie)) × (Roomy (read (now image)) (length (now trie))) ⌝ }
@@ -154,7 +164,7 @@ fn walk(image: &[u8], i: usize, at: usize, trie: &mut [u16], n: usize) -> Walked
     ensures { λ r. ⌜ (FollowedRule (read (now (image .entry))) i r (now (trie .exit))) × (length (now (trie .exit)) ≡ length (now (trie .entry))) ⌝ }
 {
     let long = image::left_length(image, i);
-    let mut q = 0;
+    let mut q = first_node(image, root, i);
     let mut nodes = n;
     let mut j = 0;
     while j < long {
@@ -166,19 +176,29 @@ fn walk(image: &[u8], i: usize, at: usize, trie: &mut [u16], n: usize) -> Walked
     Walked { node: q, nodes }
 }
 
+// The nodes before any rule: the root and, where a rule has the mark, node 0 for the mark alone, of which the root is the parent
+// and the failure state.
+fn plant(trie: &mut [u16], root: usize)
+{
+    trie[0] = root as u16;
+    trie[DEPTH] = root as u16;
+    trie[FAILURE] = root as u16;
+}
+
 // The trie of all left sides, in words that were 0, and the number of its nodes.
-pub fn build(image: &[u8], trie: &mut [u16]) -> usize
+pub fn build(image: &[u8], root: usize, trie: &mut [u16]) -> usize
     requires image { ⌜ valid (now image) ≡ true ⌝ }
     requires trie { ⌜ (now trie ≡ replicate (length (now trie)) 0) × (Roomy (read (now image)) (length (now trie))) ⌝ }
     ensures { λ r. ⌜ Built (read (now (image .entry))) r (now (trie .exit)) ⌝ }
 {
     let rules = image::rules(image);
-    let mut n = 1;
+    plant(trie, root);
+    let mut n = root + 1;
     let mut at = 4 + 4 * rules;
     let mut i = 0;
     while i < rules {
-        let w = walk(image, i, at, trie, n);
-        mark(trie, w.node, i);
+        let w = walk(image, root, i, at, trie, n);
+        claim(trie, w.node, i);
         n = w.nodes;
         at += image::body_length(image, i);
         i += 1;

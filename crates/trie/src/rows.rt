@@ -29,7 +29,7 @@ fn clear(rows: &mut [u16])
 }
 
 // Each node's number into the row of its parent.
-fn lay_children(image: &[u8], trie: &[u16], n: usize, rows: &mut [u16])
+fn lay_children(image: &[u8], root: usize, trie: &[u16], n: usize, rows: &mut [u16])
     requires { ⌜ valid (now image) ≡ true ⌝ }
     requires trie { ⌜ Trie (states (read (now image) .rules)) (read (now image) .symbols) (now trie) ⌝ }
     requires count { ⌜ n ≡ length (states (read (now image) .rules)) ⌝ }
@@ -37,7 +37,7 @@ fn lay_children(image: &[u8], trie: &[u16], n: usize, rows: &mut [u16])
     ensures { λ _. ⌜ Laid (read (now (image .entry))) (now (rows .exit)) ⌝ }
 {
     let s = image::symbols(image);
-    for c in 1..n {
+    for c in root + 1..n {
         let p = wide::word(trie[NODE * c]);
         let a = wide::word(trie[NODE * c + SYMBOL]);
         rows[p * s + a] = c as u16;
@@ -50,6 +50,16 @@ fn chosen(own: u16, other: u16) -> u16
     ensures { λ r. ⌜ r ≡ ownOr own other ⌝ }
 {
     if own == 0 { other } else { own }
+}
+
+// Each 0 in the row of the root becomes the root's number.
+fn fill_root(rows: &mut [u16], s: usize, root: usize)
+{
+    let first = root * s;
+    let word = root as u16;
+    for a in 0..s {
+        rows[first + a] = chosen(rows[first + a], word);
+    }
 }
 
 // Each 0 in the row of q becomes the word of the row of f.
@@ -78,43 +88,44 @@ fn note(trie: &mut [u16], q: usize, f: usize)
 }
 
 // State q, whose turn it is: its failure state, match word and row.
-fn fill_state(image: &[u8], trie: &mut [u16], rows: &mut [u16], q: usize)
+fn fill_state(image: &[u8], root: usize, trie: &mut [u16], rows: &mut [u16], q: usize)
     requires { ⌜ valid (now image) ≡ true ⌝ }
     requires state { ⌜ (0 < q) × (q < length (states (read (now image) .rules))) ⌝ }
     requires filling { ⌜ FillingAt (read (now image)) (depth (now trie) q) q (now trie) (now rows) ⌝ }
     ensures { λ _. ⌜ FillingAt (read (now (image .entry))) (depth (now (trie .entry)) q) (q + 1) (now (trie .exit)) (now (rows .exit)) ⌝ }
 {
     let s = image::symbols(image);
-    let f = failure_of(trie, rows, s, q);
+    let f = failure_of(trie, rows, s, root, q);
     note(trie, q, f);
     merge(rows, s, q, f);
 }
 
 // The states of depth d, whose turn it is.
-fn fill_depth(image: &[u8], trie: &mut [u16], rows: &mut [u16], n: usize, d: u16)
+fn fill_depth(image: &[u8], root: usize, trie: &mut [u16], rows: &mut [u16], n: usize, d: u16)
     requires { ⌜ valid (now image) ≡ true ⌝ }
     requires count { ⌜ n ≡ length (states (read (now image) .rules)) ⌝ }
     requires filling { ⌜ FillingAt (read (now image)) d 1 (now trie) (now rows) ⌝ }
     ensures { λ _. ⌜ FillingAt (read (now (image .entry))) (d + 1) 1 (now (trie .exit)) (now (rows .exit)) ⌝ }
 {
-    for q in 1..n {
+    for q in 0..n {
         if trie[NODE * q + DEPTH] == d {
-            fill_state(image, trie, rows, q);
+            fill_state(image, root, trie, rows, q);
         }
     }
 }
 
 // The rows of the table, and its match words in the nodes: short states before long, as a failure state is shorter.
-pub fn fill(image: &[u8], trie: &mut [u16], n: usize, rows: &mut [u16])
+pub fn fill(image: &[u8], root: usize, trie: &mut [u16], n: usize, rows: &mut [u16])
     requires { ⌜ valid (now image) ≡ true ⌝ }
     requires trie { ⌜ Built (read (now image)) n (now trie) ⌝ }
     requires room { ⌜ length (now rows) ≡ length (states (read (now image) .rules)) * read (now image) .symbols ⌝ }
     ensures { λ _. ⌜ Filled (read (now (image .entry))) (now (trie .entry)) (now (trie .exit)) (now (rows .exit)) ⌝ }
 {
     clear(rows);
-    lay_children(image, trie, n, rows);
-    for d in 1..9 {
-        fill_depth(image, trie, rows, n, d);
+    lay_children(image, root, trie, n, rows);
+    fill_root(rows, image::symbols(image), root);
+    for d in 1..10 {
+        fill_depth(image, root, trie, rows, n, d);
     }
 }
 
