@@ -5,9 +5,9 @@ use mathlib.Core.Bool.{true}
 use mathlib.Core.List.{[]}
 use lib.ListN.{length}
 use Rattle.rewriting.specs.Lists.{all}
-use Rattle.rewriting.specs.Rules.{Put, Rule, _⇒_, ruleInRange}
+use Rattle.rewriting.specs.Rules.{Put, Rule, ruleInRange}
 use Rattle.grammar.specs.Tokens.{isName}
-use Rattle.grammar.specs.Grammar.{Place, First, Events, Between, InLeft, InRight, Ending, Reading, ruleSetOf}
+use Rattle.grammar.specs.Grammar.{Place, First, Events, Between, Marked, InLeft, InRight, Ending, Reading, ruleWith, ruleSetOf}
 
 -- What every reading keeps. `read-sound` (proofs/Sound.antt) proves it of each that a text gives.
 
@@ -22,9 +22,10 @@ abbrev pub SoundAt : Reading → Place → Type 0
 SoundAt s First = Unit {0}
 SoundAt s Events = Unit {0}
 SoundAt s Between = EventsKnown s
-SoundAt s (InLeft l) = RuleBegun s (l ⇒ Put [])
-SoundAt s (InRight l v) = RuleBegun s (l ⇒ Put v)
-SoundAt s (Ending l r) = RuleBegun s (l ⇒ r)
+SoundAt s Marked = EventsKnown s
+SoundAt s (InLeft m l) = RuleBegun s (ruleWith m l (Put []))
+SoundAt s (InRight m l v) = RuleBegun s (ruleWith m l (Put v))
+SoundAt s (Ending m l r) = RuleBegun s (ruleWith m l r)
 
 pub record Sound (s : Reading) : Type 0 where
   pub symbols-named : all isName (s .symbols) ≡ true

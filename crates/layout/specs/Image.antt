@@ -3,10 +3,10 @@
 --     byte 0      S                      byte 4 + 4 i    length of rule i's left side
 --     byte 1      R, number of rules     byte 5 + 4 i    kind: 0 string, 1 verdict
 --     byte 2      V                      byte 6 + 4 i    right length or verdict
---     byte 3      E                      byte 7 + 4 i    0
+--     byte 3      E                      byte 7 + 4 i    mark: 0 none, 1 marked
 --     from 4 + 4 R on: for each rule its left symbols and, for kind 0, its right symbols
 use Prim.Native.Nat.{ℕ, zero, suc, _+_, _*_}
-use mathlib.Core.Bool.{Bool, cond, _&&_}
+use mathlib.Core.Bool.{Bool, true, false, cond, _&&_}
 use mathlib.Core.List.{List, [], _∷_, _++_, flatMap}
 use lib.Dec.{eqb}
 use lib.ListN.{length, getD, take, drop}
@@ -23,9 +23,14 @@ unfoldable pub lengthOrVerdict : Right → ℕ
 lengthOrVerdict (Put v) = length v
 lengthOrVerdict (Close v) = v
 
--- "4 bytes a rule: left length; kind (0 string, 1 verdict); right length or verdict; 0"
+-- document 02, No. 1: the mark "sets the rule's fourth contents byte to 1"
+unfoldable pub markByte : Bool → ℕ
+markByte true = 1
+markByte false = 0
+
+-- "4 bytes a rule: left length; kind (0 string, 1 verdict); right length or verdict; 0", or 1 for a mark
 unfoldable pub contents : Rule → List ℕ
-contents r = length (r .left) ∷ kind (r .right) ∷ lengthOrVerdict (r .right) ∷ 0 ∷ []
+contents r = length (r .left) ∷ kind (r .right) ∷ lengthOrVerdict (r .right) ∷ markByte (r .marked) ∷ []
 
 -- "each rule's left symbols and, for kind 0, its right symbols, one byte each"
 unfoldable pub body : Rule → List ℕ
@@ -52,7 +57,11 @@ readRight k n b = cond (eqb k 1) (Close n) (Put (take n b))
 -- the first rule of the contents c and the bodies b
 unfoldable pub readRule : List ℕ → List ℕ → Rule
 readRule c b =
-    record { left = take (getD c 0 0) b; right = readRight (getD c 1 0) (getD c 2 0) (drop (getD c 0 0) b) }
+    record {
+      marked = eqb (getD c 3 0) 1;
+      left = take (getD c 0 0) b;
+      right = readRight (getD c 1 0) (getD c 2 0) (drop (getD c 0 0) b);
+    }
 
 -- the first n rules of the contents c and the bodies b
 unfoldable pub readRules : ℕ → List ℕ → List ℕ → List Rule

@@ -27,7 +27,7 @@ pub record Header (s r v e : ℕ) : Type 0 where
 -- for kind 0, its right symbols. 0 where a byte is out of range: no body is empty.
 unfoldable pub bodySize : ℕ → ℕ → ℕ → ℕ → ℕ → ℕ
 bodySize v left kind n last =
-    cond (between 1 left 8 && eqb last 0)
+    cond (between 1 left 8 && leb last 1)
     (cond (eqb kind 0) (cond (leb n 8) (left + n) 0) (cond (eqb kind 1 && ltb n v) left 0)) 0
 
 -- that of the first rule of the contents c

@@ -21,12 +21,13 @@ matchWord (some i) = suc i
 unfoldable pub row : RuleSet → List ℕ → List ℕ
 row set q = map (λ a. number (states (set .rules)) (next (set .rules) q a)) (upTo (set .symbols))
 
--- "at most 16,931"
+-- "the words 16,964"
 abbrev pub tableMost : ℕ
-tableMost = 16931
+tableMost = 16964
 
 -- "Word 0 is the number of states N, word 1 is S, then N match words, then N rows of S next states." That each word has
--- 16 bits is `words-fit`; "2 + N + N × S, at most 16,931" are `length-table` and `table-length` (proofs/Table.antt).
+-- 16 bits is `words-fit`; "2 + N + N × S", at most 16,964, are `length-table` and `table-length` (proofs/Table.antt). Without a
+-- marked rule it is document 01's table, word for word (`unmarked-table`, proofs/Unmarked.antt).
 unfoldable pub tableOf : RuleSet → List ℕ
 tableOf set =
     length (states (set .rules)) ∷ set .symbols

@@ -1,15 +1,25 @@
 -- States by their numbers, and the words of rows and match words, as the code meets them.
 use Prim.Native.Nat.{ℕ, _+_, _*_}
 use mathlib.Core.Bool.{cond}
+use mathlib.Core.Option.{Option}
 use mathlib.Core.List.{List, []}
 use lib.Dec.{eqb}
 use lib.ListN.{getD, drop}
 use Rattle.rewriting.specs.Rules.{Rule}
-use Rattle.layout.specs.States.{state, states}
+use Rattle.rewriting.specs.Occurrences.{lowest}
+use Rattle.layout.specs.States.{state, starts, symbolsIn, hasMark, states}
+
+-- the number of the empty string, the root of the trie: "state 1 the empty string", or "State 0"
+unfoldable pub root : List Rule → ℕ
+root rules = cond (hasMark rules) 1 0
 
 -- the string of state c
 abbrev pub text : List Rule → ℕ → List ℕ
 text rules c = getD (states rules) c []
+
+-- the lowest rule whose left side is v itself, the mark included
+unfoldable pub own : List Rule → List ℕ → Option ℕ
+own rules v = lowest rules (starts v) (symbolsIn v)
 
 -- the failure state of v, a state other than the empty one: the state of v without its first symbol
 abbrev pub failureState : List Rule → List ℕ → List ℕ

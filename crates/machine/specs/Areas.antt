@@ -7,7 +7,7 @@ use lib.Dec.{eqb, leb, ltb}
 use lib.ListN.{length, take, drop, replicate}
 use Rattle.rewriting.specs.Lists.{all, same, below}
 use Rattle.rewriting.specs.Rules.{Right, Put, Close, Rule, RuleSet, rule}
-use Rattle.layout.specs.States.{states, number, next, matching}
+use Rattle.layout.specs.States.{states, number, after, next, matching}
 use Rattle.machine.specs.declared.Standing.{Standing}
 use Rattle.machine.specs.State.{State}
 
@@ -48,7 +48,7 @@ statesAfter rules q (a ∷ p) = next rules q a ∷ statesAfter rules (next rules
 
 -- "word i below a is the table's state after i + 1 settled symbols"
 unfoldable pub wordsOf : List Rule → ℕ → State → List ℕ
-wordsOf rules capacity s = areaOf capacity (map (number (states rules)) (statesAfter rules [] (s .settled))) []
+wordsOf rules capacity s = areaOf capacity (map (number (states rules)) (statesAfter rules (after rules []) (s .settled))) []
 
 -- "the areas are exactly as described here": the monitor that holds the state s
 unfoldable pub monitorOf : List Rule → ℕ → State → Monitor
@@ -75,7 +75,7 @@ noMatch (some i) = false
 
 -- no settled state has a match
 unfoldable pub unmatched : List Rule → List ℕ → Bool
-unmatched rules s = all (λ q. noMatch (matching rules q)) (statesAfter rules [] s)
+unmatched rules s = all (λ q. noMatch (matching rules q)) (statesAfter rules (after rules []) s)
 
 -- the right side closes with verdict v
 unfoldable pub closesWith : ℕ → Right → Bool

@@ -12,7 +12,7 @@ use Rattle.rewriting.specs.Rules.{Rule, RuleSet}
 use Rattle.layout.specs.Image.{read}
 use Rattle.layout.specs.Places.{rightAt}
 use Rattle.layout.specs.Refusals.{refusal}
-use Rattle.layout.specs.States.{states, number, state, next, matching}
+use Rattle.layout.specs.States.{states, number, after, next, matching}
 use Rattle.machine.specs.declared.Standing.{Standing}
 use Rattle.machine.specs.Areas.{Head, Monitor, statesAfter, monitorOf, unmatched}
 use Rattle.machine.specs.declared.Answer.{Answer}
@@ -56,7 +56,7 @@ wordBefore words (suc i) = getD words i 0
 -- these are settled symbols and their words
 pub record Settled (set : RuleSet) (symbols words : List ℕ) : Type 0 where
   pub symbols-below : below (set .symbols) symbols ≡ true
-  pub words-right : words ≡ map (number (states (set .rules))) (statesAfter (set .rules) [] symbols)
+  pub words-right : words ≡ map (number (states (set .rules))) (statesAfter (set .rules) (after (set .rules) []) symbols)
   pub no-match : unmatched (set .rules) symbols ≡ true
 
 -- where each rule's right symbols begin in the image
@@ -75,7 +75,7 @@ stepOf rules s = stepWaiting rules s (s .waiting)
 -- a symbol waits, and with it the settled string's state matches as m says
 abbrev pub Matches : List Rule → State → Option ℕ → Type 0
 Matches rules s m =
-    (a : ℕ) × (q : List ℕ) × (s .waiting ≡ a ∷ q) × (matching rules (next rules (state rules (s .settled)) a) ≡ m)
+    (a : ℕ) × (q : List ℕ) × (s .waiting ≡ a ∷ q) × (matching rules (next rules (after rules (s .settled)) a) ≡ m)
 
 -- "A step after which a + w would pass 2,048 is not taken.": whether the step t is taken, the monitor after it, its
 -- rewrites and the number of symbols that it put back

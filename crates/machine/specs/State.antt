@@ -5,7 +5,7 @@ use mathlib.Core.List.{List, [], _∷_, _++_}
 use lib.ListN.{length}
 use Rattle.rewriting.specs.Rules.{Right, Put, Close, Rule, rule}
 use Rattle.rewriting.specs.Occurrences.{cut}
-use Rattle.layout.specs.States.{state, next, matching}
+use Rattle.layout.specs.States.{after, next, matching}
 use Rattle.machine.specs.declared.Standing.{Standing}
 
 -- "settled count a, waiting count w .., verdict or none, and that verdict's rule (0 with none)": here the settled and the
@@ -43,7 +43,7 @@ settle rules p q none = record { to = active p q; rewrites = 0; put = 0 }
 settle rules p q (some i) = replace (cut rules p i) q i (rule rules i .right)
 
 -- "One step takes the first waiting symbol onto the settled string and finds its state from the word before it (state 0
--- at the start).": s is settled, a waits first, q waits behind it. The word before it is the number of s's state
+-- at the start).": s is settled, a waits first, q waits behind it. The word before it is the number of the state after s
 -- (`word-at`, proofs/Areas.antt).
 unfoldable pub step : List Rule → List ℕ → ℕ → List ℕ → Step
-step rules s a q = settle rules (s ++ a ∷ []) q (matching rules (next rules (state rules s) a))
+step rules s a q = settle rules (s ++ a ∷ []) q (matching rules (next rules (after rules s) a))

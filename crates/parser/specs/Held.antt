@@ -5,9 +5,9 @@ use mathlib.Core.Bool.{true}
 use mathlib.Core.List.{List, [], _∷_, _++_, flatMap}
 use lib.ListN.{length}
 use Rattle.rewriting.specs.Lists.{prefix}
-use Rattle.rewriting.specs.Rules.{Right, Put, Rule, _⇒_}
+use Rattle.rewriting.specs.Rules.{Put, Rule, _⇒_, atStart}
 use Rattle.layout.specs.Image as Image
-use Rattle.layout.specs.Image.{kind, lengthOrVerdict, body}
+use Rattle.layout.specs.Image.{kind, lengthOrVerdict, markByte, body}
 use Rattle.parser.specs.declared.Place as place
 use Rattle.parser.specs.declared.Place.the-variants as places
 use Rattle.parser.specs.declared.Reader.{Reader}
@@ -16,7 +16,21 @@ use Rattle.parser.specs.declared.Taken.the-variants as taken
 use Rattle.parser.specs.declared.Finished as finished-as
 use Rattle.parser.specs.declared.Finished.the-variants as finished
 use Rattle.grammar.specs.Names.{slots}
-use Rattle.grammar.specs.Grammar.{Place, First, Events, Between, InLeft, InRight, Ending, Reading, Taken, Goes, Breaks}
+use Rattle.grammar.specs.Grammar.{
+  Place,
+  First,
+  Events,
+  Between,
+  Marked,
+  InLeft,
+  InRight,
+  Ending,
+  Reading,
+  Taken,
+  Goes,
+  Breaks,
+  ruleWith,
+}
 use Rattle.grammar.specs.Read.{Result, Good, Bad}
 use Rattle.grammar.specs.Sound.{Sound}
 
@@ -32,35 +46,39 @@ unfoldable pub ruleAt : Place → Rule
 ruleAt First = [] ⇒ Put []
 ruleAt Events = [] ⇒ Put []
 ruleAt Between = [] ⇒ Put []
-ruleAt (InLeft l) = l ⇒ Put []
-ruleAt (InRight l v) = l ⇒ Put v
-ruleAt (Ending l r) = l ⇒ r
+ruleAt Marked = atStart ([] ⇒ Put [])
+ruleAt (InLeft m l) = ruleWith m l (Put [])
+ruleAt (InRight m l v) = ruleWith m l (Put v)
+ruleAt (Ending m l r) = ruleWith m l r
 
 -- the place as the code names it
 unfoldable pub placeOf : Place → place.Place
 placeOf First = places.First
 placeOf Events = places.Events
 placeOf Between = places.Between
-placeOf (InLeft l) = places.Left
-placeOf (InRight l v) = places.Right
-placeOf (Ending l r) = places.Ending
+placeOf Marked = places.Marked
+placeOf (InLeft m l) = places.Left
+placeOf (InRight m l v) = places.Right
+placeOf (Ending m l r) = places.Ending
 
 -- the length of the left side, once it is closed; and of the side that is open, or the verdict
 unfoldable pub leftOf : Place → ℕ
 leftOf First = 0
 leftOf Events = 0
 leftOf Between = 0
-leftOf (InLeft l) = 0
-leftOf (InRight l v) = length l
-leftOf (Ending l r) = length l
+leftOf Marked = 0
+leftOf (InLeft m l) = 0
+leftOf (InRight m l v) = length l
+leftOf (Ending m l r) = length l
 
 unfoldable pub sideOf : Place → ℕ
 sideOf First = 0
 sideOf Events = 0
 sideOf Between = 0
-sideOf (InLeft l) = length l
-sideOf (InRight l v) = length v
-sideOf (Ending l r) = lengthOrVerdict r
+sideOf Marked = 0
+sideOf (InLeft m l) = length l
+sideOf (InRight m l v) = length v
+sideOf (Ending m l r) = lengthOrVerdict r
 
 -- the bodies of the rules, and of the one begun
 abbrev pub bodiesOf : Reading → List ℕ
@@ -79,6 +97,7 @@ readerOf s =
       left = leftOf (s .place);
       side = sideOf (s .place);
       kind = kind (ruleAt (s .place) .right);
+      mark = markByte (ruleAt (s .place) .marked);
     }
 
 -- The code keeps the reading s: its numbers, the slots of symbols and of words, contents and bodies.
@@ -116,6 +135,7 @@ pub record Lengthens (p : Place) (side : List ℕ) (to : List ℕ → Place) (q 
   pub left : (a : ℕ) → leftOf (to (side ++ a ∷ [])) ≡ leftOf p
   pub longer : (a : ℕ) → sideOf (to (side ++ a ∷ [])) ≡ length side + 1
   pub kept : (a : ℕ) → kind (ruleAt (to (side ++ a ∷ [])) .right) ≡ kind (ruleAt p .right)
+  pub same-mark : (a : ℕ) → ruleAt (to (side ++ a ∷ [])) .marked ≡ ruleAt p .marked
   pub more : (a : ℕ) → body (ruleAt (to (side ++ a ∷ []))) ≡ body (ruleAt p) ++ a ∷ []
   pub called : (a : ℕ) → placeOf (to (side ++ a ∷ [])) ≡ q
 
