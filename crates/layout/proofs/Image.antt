@@ -2,20 +2,33 @@
 -- A valid image has at most 1,284 bytes.
 -- Assumes nothing.
 use Prim.Native.Nat.{ℕ, _+_, _*_, _≤_, _<_}
-use mathlib.Core.Path.{_≡_, refl, ap, _∙_}
-use mathlib.Core.Bool.{Bool, true}
+use mathlib.Core.Path.{_≡_, refl, sym, ap, _∙_}
+use mathlib.Core.Bool.{Bool, true, false}
 use mathlib.Core.Logic.{_↔_}
 use mathlib.Core.List.{List, [], _∷_, _++_, append-assoc, flatMap}
 use native.Mathlib.Omega.{arith}
-use lib.Dec.{ltb}
+use lib.Dec.{eqb, ltb}
 use lib.ListN.{length, take, drop, length-append}
 use lib.Seq.{take-append-seam, drop-append-seam, drop-append-add, drop-at}
-use borrow.Author.Tests.{ltb-true, lt-ltb}
+use borrow.Author.Tests.{eqb-true, eqb-false, ltb-true, lt-ltb}
 use Rattle.rewriting.specs.Lists.{all, below, same}
 use Rattle.rewriting.specs.Rules.{Right, Put, Close, symbolsOf, Rule, RuleSet, rightInRange, ruleInRange, inRange}
 use Rattle.rewriting.proofs.Lists.{and-left, and-right, and-both, all-append, all-flatMap, below-weaken, same-eq, eq-same}
 use Rattle.rewriting.proofs.Ranges.{length-right, right-below, RuleRanges, rule-ranges, Ranges, ranges}
-use Rattle.layout.specs.Image.{imageMost, kind, lengthOrVerdict, contents, body, imageOf, readRight, readRule, readRules, read, valid}
+use Rattle.layout.specs.Image.{
+  imageMost,
+  kind,
+  lengthOrVerdict,
+  markByte,
+  contents,
+  body,
+  imageOf,
+  readRight,
+  readRule,
+  readRules,
+  read,
+  valid,
+}
 
 -- a right side is read back from its kind, its length or verdict and its symbols, whatever follows them
 pub read-right : (x : Right) (b : List ℕ) → readRight (kind x) (lengthOrVerdict x) (symbolsOf x ++ b) ≡ x
@@ -23,10 +36,29 @@ unfolding readRight kind lengthOrVerdict symbolsOf
 read-right (Put v) b = rw take-append-seam
 read-right (Close v) b = refl
 
+-- a mark is read back from its byte, which is 0 or 1; and a byte of 0 or 1 is that of the mark read from it
+pub read-mark : (m : Bool) → eqb (markByte m) 1 ≡ m
+unfolding markByte
+read-mark true = refl
+read-mark false = refl
+
+pub mark-small : (m : Bool) → markByte m ≤ 1
+unfolding markByte
+mark-small true = omega arith
+mark-small false = omega arith
+
+pub mark-back : (n : ℕ) → n ≤ 1 → markByte (eqb n 1) ≡ n
+unfolding markByte
+mark-back n h = go (eqb n 1) refl
+  where
+    go : (b : Bool) → eqb n 1 ≡ b → markByte b ≡ n
+    go true e = sym (eqb-true n 1 e)
+    go false e = let other : n ≡ 1 → ⊥ = eqb-false n 1 e in omega (arith, other)
+
 -- a rule is read back from its contents and its body, whatever follows them
 pub read-rule : (r : Rule) (c b : List ℕ) → readRule (contents r ++ c) (body r ++ b) ≡ r
 unfolding readRule contents body
-read-rule r c b = λ i. record { left = first i; right = second i }
+read-rule r c b = λ i. record { marked = read-mark (r .marked) i; left = first i; right = second i }
   where
     bytes : List ℕ
     bytes = r .left ++ symbolsOf (r .right) ++ b
@@ -161,6 +193,7 @@ module _ (set : RuleSet) (h : Ranges set) (r : Rule) (e : ruleInRange set r ≡ 
       let k : kind (r .right) < 256 = omega (arith, kind-right (r .right)) in
       let s : lengthOrVerdict (r .right) ≤ 16 = size-right set (r .right) (h .few-verdicts) (g .right-in-range) in
       let n : lengthOrVerdict (r .right) < 256 = omega arith in
+      let m : markByte (r .marked) < 256 = omega (arith, mark-small (r .marked)) in
       simp lt-ltb
 
   body-fits : below 256 (body r) ≡ true

@@ -29,6 +29,7 @@ use Rattle.rewriting.proofs.Ranges.{RuleRanges, rule-ranges, Ranges, ranges}
 use Rattle.layout.specs.Image.{
   kind,
   lengthOrVerdict,
+  markByte,
   contents,
   body,
   imageOf,
@@ -39,7 +40,16 @@ use Rattle.layout.specs.Image.{
   valid,
 }
 use Rattle.layout.specs.ImageCheck.{Decides, Header, bodySize, firstSize, announces, announced}
-use Rattle.layout.proofs.Image.{valid-in-range, valid-encoding, drop-contents, length-image, drop-image, body-below}
+use Rattle.layout.proofs.Image.{
+  mark-small,
+  mark-back,
+  valid-in-range,
+  valid-encoding,
+  drop-contents,
+  length-image,
+  drop-image,
+  body-below,
+}
 use Rattle.layout.proofs.Places.{
   contents-within,
   header-symbols,
@@ -52,16 +62,16 @@ use Rattle.layout.proofs.Places.{
 -- The size that a rule's contents announce, where they are in range, and where a byte is not.
 module _ (v left kind n last : ℕ) where
   pub size-string :
-      (1 ≤ left) × (left ≤ 8) × (last ≡ 0) × (kind ≡ 0) × (n ≤ 8) → bodySize v left kind n last ≡ left + n
+      (1 ≤ left) × (left ≤ 8) × (last ≤ 1) × (kind ≡ 0) × (n ≤ 8) → bodySize v left kind n last ≡ left + n
   unfolding bodySize
   size-string h =
-      rw (le-leb 1 left (h .0), le-leb left 8 (h .1), eq-eqb last 0 (h .2), eq-eqb kind 0 (h .3), le-leb n 8 (h .4))
+      rw (le-leb 1 left (h .0), le-leb left 8 (h .1), le-leb last 1 (h .2), eq-eqb kind 0 (h .3), le-leb n 8 (h .4))
 
   pub size-verdict :
-      (1 ≤ left) × (left ≤ 8) × (last ≡ 0) × (kind ≡ 1) × (n < v) → bodySize v left kind n last ≡ left
+      (1 ≤ left) × (left ≤ 8) × (last ≤ 1) × (kind ≡ 1) × (n < v) → bodySize v left kind n last ≡ left
   unfolding bodySize
   size-verdict h =
-      rw (le-leb 1 left (h .0), le-leb left 8 (h .1), eq-eqb last 0 (h .2), h .3, lt-ltb n v (h .4))
+      rw (le-leb 1 left (h .0), le-leb left 8 (h .1), le-leb last 1 (h .2), h .3, lt-ltb n v (h .4))
 
   pub size-no-left : left < 1 → bodySize v left kind n last ≡ 0
   unfolding bodySize
@@ -71,28 +81,28 @@ module _ (v left kind n last : ℕ) where
   unfolding bodySize
   size-long-left h = let a : 1 ≤ left = omega arith in rw (le-leb 1 left a, lt-leb left 8 h)
 
-  pub size-last : (1 ≤ left) × (left ≤ 8) × (0 < last) → bodySize v left kind n last ≡ 0
+  pub size-last : (1 ≤ left) × (left ≤ 8) × (1 < last) → bodySize v left kind n last ≡ 0
   unfolding bodySize
   size-last h =
-      rw (le-leb 1 left (h .0), le-leb left 8 (h .1), ne-eqb last 0 (λ (e : last ≡ 0). omega (arith, h .2)))
+      rw (le-leb 1 left (h .0), le-leb left 8 (h .1), lt-leb last 1 (h .2))
 
   pub size-long-right :
-      (1 ≤ left) × (left ≤ 8) × (last ≡ 0) × (kind ≡ 0) × (8 < n) → bodySize v left kind n last ≡ 0
+      (1 ≤ left) × (left ≤ 8) × (last ≤ 1) × (kind ≡ 0) × (8 < n) → bodySize v left kind n last ≡ 0
   unfolding bodySize
   size-long-right h =
-      rw (le-leb 1 left (h .0), le-leb left 8 (h .1), eq-eqb last 0 (h .2), eq-eqb kind 0 (h .3), lt-leb n 8 (h .4))
+      rw (le-leb 1 left (h .0), le-leb left 8 (h .1), le-leb last 1 (h .2), eq-eqb kind 0 (h .3), lt-leb n 8 (h .4))
 
-  pub size-kind : (1 ≤ left) × (left ≤ 8) × (last ≡ 0) × (1 < kind) → bodySize v left kind n last ≡ 0
+  pub size-kind : (1 ≤ left) × (left ≤ 8) × (last ≤ 1) × (1 < kind) → bodySize v left kind n last ≡ 0
   unfolding bodySize
   size-kind h =
-      rw (le-leb 1 left (h .0), le-leb left 8 (h .1), eq-eqb last 0 (h .2))
+      rw (le-leb 1 left (h .0), le-leb left 8 (h .1), le-leb last 1 (h .2))
       (rw (ne-eqb kind 0 (λ (e : kind ≡ 0). omega (arith, h .3)), ne-eqb kind 1 (λ (e : kind ≡ 1). omega (arith, h .3))))
 
   pub size-no-verdict :
-      (1 ≤ left) × (left ≤ 8) × (last ≡ 0) × (kind ≡ 1) × (v ≤ n) → bodySize v left kind n last ≡ 0
+      (1 ≤ left) × (left ≤ 8) × (last ≤ 1) × (kind ≡ 1) × (v ≤ n) → bodySize v left kind n last ≡ 0
   unfolding bodySize
   size-no-verdict h =
-      rw (le-leb 1 left (h .0), le-leb left 8 (h .1), eq-eqb last 0 (h .2), h .3, le-ltb n v (h .4))
+      rw (le-leb 1 left (h .0), le-leb left 8 (h .1), le-leb last 1 (h .2), h .3, le-ltb n v (h .4))
 
 -- One rule of the contents more: out of range, announcing more symbols than are left, or neither.
 module _ (v n : ℕ) (c : List ℕ) (m : ℕ) where
@@ -192,8 +202,8 @@ module _ (s : ℕ) (xs : List ℕ) (i most : ℕ) (h : i < length xs) (so-far : 
 
 -- What a size above 0 says of the contents.
 data Sizes (v left kind n last size : ℕ) : Type 0 where
-  String : 1 ≤ left → left ≤ 8 → last ≡ 0 → kind ≡ 0 → n ≤ 8 → size ≡ left + n → Sizes v left kind n last size
-  Verdict : 1 ≤ left → left ≤ 8 → last ≡ 0 → kind ≡ 1 → n < v → size ≡ left → Sizes v left kind n last size
+  String : 1 ≤ left → left ≤ 8 → last ≤ 1 → kind ≡ 0 → n ≤ 8 → size ≡ left + n → Sizes v left kind n last size
+  Verdict : 1 ≤ left → left ≤ 8 → last ≤ 1 → kind ≡ 1 → n < v → size ≡ left → Sizes v left kind n last size
 
 picked :
     (a b c d : Bool) (x y : ℕ) → 1 ≤ cond a (cond b (cond c x 0) (cond d y 0)) 0
@@ -211,20 +221,20 @@ unfolding bodySize
 sizes v left kind n last h =
     ⊎-elim
     (λ (w : (sides ≡ true) × (eqb kind 0 ≡ true) × (leb n 8 ≡ true) × (size ≡ left + n)).
-    String (between-low 1 left 8 (and-left (between 1 left 8) (eqb last 0) (w .0)))
-    (between-high 1 left 8 (and-left (between 1 left 8) (eqb last 0) (w .0)))
-    (eqb-true last 0 (and-right (between 1 left 8) (eqb last 0) (w .0)))
+    String (between-low 1 left 8 (and-left (between 1 left 8) (leb last 1) (w .0)))
+    (between-high 1 left 8 (and-left (between 1 left 8) (leb last 1) (w .0)))
+    (leb-true last 1 (and-right (between 1 left 8) (leb last 1) (w .0)))
     (eqb-true kind 0 (w .1)) (leb-true n 8 (w .2)) (w .3))
     (λ (w : (sides ≡ true) × (eqb kind 0 ≡ false) × ((eqb kind 1 && ltb n v) ≡ true) × (size ≡ left)).
-    Verdict (between-low 1 left 8 (and-left (between 1 left 8) (eqb last 0) (w .0)))
-    (between-high 1 left 8 (and-left (between 1 left 8) (eqb last 0) (w .0)))
-    (eqb-true last 0 (and-right (between 1 left 8) (eqb last 0) (w .0)))
+    Verdict (between-low 1 left 8 (and-left (between 1 left 8) (leb last 1) (w .0)))
+    (between-high 1 left 8 (and-left (between 1 left 8) (leb last 1) (w .0)))
+    (leb-true last 1 (and-right (between 1 left 8) (leb last 1) (w .0)))
     (eqb-true kind 1 (and-left (eqb kind 1) (ltb n v) (w .2)))
     (ltb-true n v (and-right (eqb kind 1) (ltb n v) (w .2))) (w .3))
     (picked sides (eqb kind 0) (leb n 8) (eqb kind 1 && ltb n v) (left + n) left h)
   where
     sides : Bool
-    sides = between 1 left 8 && eqb last 0
+    sides = between 1 left 8 && leb last 1
 
     size : ℕ
     size = cond sides (cond (eqb kind 0) (cond (leb n 8) (left + n) 0) (cond (eqb kind 1 && ltb n v) left 0)) 0
@@ -261,7 +271,7 @@ record Back (set : RuleSet) (c b : List ℕ) : Type 0 where
 
 module _ (set : RuleSet) (c b : List ℕ) (four : 4 ≤ length c) (symbols : below (set .symbols) b ≡ true) where
   back-string :
-      1 ≤ getD c 0 0 → getD c 0 0 ≤ 8 → getD c 3 0 ≡ 0 → getD c 1 0 ≡ 0 → getD c 2 0 ≤ 8
+      1 ≤ getD c 0 0 → getD c 0 0 ≤ 8 → getD c 3 0 ≤ 1 → getD c 1 0 ≡ 0 → getD c 2 0 ≤ 8
       → firstSize (set .verdicts) c ≡ getD c 0 0 + getD c 2 0 → getD c 0 0 + getD c 2 0 ≤ length b → Back set c b
   unfolding contents kind lengthOrVerdict body symbolsOf readRule readRight ruleInRange rightInRange
   back-string some few last kind-0 short size fits =
@@ -277,14 +287,14 @@ module _ (set : RuleSet) (c b : List ℕ) (four : 4 ≤ length c) (symbols : bel
       all-take (λ x. ltb x (set .symbols)) n (drop l b) rest-below
       in
       record {
-        same-contents = rw (take-four c four, last, kind-0, long, wide);
+        same-contents = rw (take-four c four, mark-back (getD c 3 0) last, kind-0, long, wide);
         same-body = rw (size, kind-0, take-add);
         rule-in-range =
             rw (kind-0, long, wide, le-leb 1 l some, le-leb l 8 few, left-below, le-leb n 8 short, right-below);
       }
 
   back-verdict :
-      1 ≤ getD c 0 0 → getD c 0 0 ≤ 8 → getD c 3 0 ≡ 0 → getD c 1 0 ≡ 1 → getD c 2 0 < set .verdicts
+      1 ≤ getD c 0 0 → getD c 0 0 ≤ 8 → getD c 3 0 ≤ 1 → getD c 1 0 ≡ 1 → getD c 2 0 < set .verdicts
       → firstSize (set .verdicts) c ≡ getD c 0 0 → getD c 0 0 ≤ length b → Back set c b
   unfolding contents kind lengthOrVerdict body symbolsOf readRule readRight ruleInRange rightInRange
   back-verdict some few last kind-1 short size fits =
@@ -292,7 +302,7 @@ module _ (set : RuleSet) (c b : List ℕ) (four : 4 ≤ length c) (symbols : bel
       let long : length (take l b) ≡ l = length-take-le l b fits in
       let left-below : below (set .symbols) (take l b) ≡ true = all-take (λ x. ltb x (set .symbols)) l b symbols in
       record {
-        same-contents = rw (take-four c four, last, kind-1, long);
+        same-contents = rw (take-four c four, mark-back (getD c 3 0) last, kind-1, long);
         same-body = rw (size, kind-1, append-nil);
         rule-in-range =
             rw (kind-1, long, le-leb 1 l some, le-leb l 8 few, left-below, lt-ltb (getD c 2 0) (set .verdicts) short);
@@ -397,14 +407,14 @@ checked-valid b h room told symbols = and-both in-range (eq-same (imageOf (read 
 
 -- The contents of rules in range announce their bodies.
 size-of :
-    (set : RuleSet) (left : List ℕ) (x : Right) → 1 ≤ length left → length left ≤ 8 → rightInRange set x ≡ true
-    → bodySize (set .verdicts) (length left) (kind x) (lengthOrVerdict x) 0 ≡ length left + length (symbolsOf x)
+    (set : RuleSet) (m : Bool) (left : List ℕ) (x : Right) → 1 ≤ length left → length left ≤ 8 → rightInRange set x ≡ true
+    → bodySize (set .verdicts) (length left) (kind x) (lengthOrVerdict x) (markByte m) ≡ length left + length (symbolsOf x)
 unfolding kind lengthOrVerdict symbolsOf rightInRange
-size-of set left (Put v) some few e =
-    size-string (set .verdicts) (length left) 0 (length v) 0
-    (some, few, refl, refl, leb-true (length v) 8 (and-left (leb (length v) 8) (below (set .symbols) v) e))
-size-of set left (Close v) some few e =
-    size-verdict (set .verdicts) (length left) 1 v 0 (some, few, refl, refl, ltb-true v (set .verdicts) e) ∙ omega arith
+size-of set m left (Put v) some few e =
+    size-string (set .verdicts) (length left) 0 (length v) (markByte m)
+    (some, few, mark-small m, refl, leb-true (length v) 8 (and-left (leb (length v) 8) (below (set .symbols) v) e))
+size-of set m left (Close v) some few e =
+    size-verdict (set .verdicts) (length left) 1 v (markByte m) (some, few, mark-small m, refl, ltb-true v (set .verdicts) e) ∙ omega arith
 
 size-rule :
     (set : RuleSet) (r : Rule) (x : List ℕ) → ruleInRange set r ≡ true
@@ -412,7 +422,7 @@ size-rule :
 unfolding firstSize contents
 size-rule set r x e =
     let h : RuleRanges set r = rule-ranges set r e in
-    size-of set (r .left) (r .right) (h .some-left) (h .short-left) (h .right-in-range) ∙ sym (body-left r)
+    size-of set (r .marked) (r .left) (r .right) (h .some-left) (h .short-left) (h .right-in-range) ∙ sym (body-left r)
 
 announced-rules :
     (set : RuleSet) (rs : List Rule) (x : List ℕ) → all (ruleInRange set) rs ≡ true

@@ -12,6 +12,7 @@ use Rattle.layout.specs.Refusals.{refusal}
 use Rattle.layout.specs.Image.{
   kind,
   lengthOrVerdict,
+  markByte,
   contents,
   body,
   imageOf,
@@ -25,7 +26,7 @@ use Rattle.layout.specs.Image.{
 -- names no fact: `unfolding computes` opens every definition of the image at once
 computes : Unit {0}
 unfolding
-    flatMap kind lengthOrVerdict symbolsOf contents body imageOf readRight readRule readRules read
+    flatMap kind lengthOrVerdict markByte symbolsOf contents body imageOf readRight readRule readRules read
     rightInRange ruleInRange inRange valid
 computes = tt
 
@@ -77,8 +78,12 @@ pub cut-refused : valid (take 21 (imageOf sample)) ≡ false
 unfolding sample computes
 cut-refused = refl
 
--- the fourth byte of rule 0's contents is 1
-pub fourth-byte-refused : valid (set (imageOf sample) 7 1) ≡ false
+-- the fourth byte of rule 0's contents is 1: a mark; 2 is none
+pub marked-valid : valid (set (imageOf sample) 7 1) ≡ true
+unfolding sample computes
+marked-valid = refl
+
+pub fourth-byte-refused : valid (set (imageOf sample) 7 2) ≡ false
 unfolding sample computes
 fourth-byte-refused = refl
 
