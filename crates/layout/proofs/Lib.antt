@@ -8,6 +8,7 @@ pub mod ImageCheck
 pub mod ImageComputed
 -- The table, and compile.
 pub mod Matching
+pub mod Marks
 pub mod States
 pub mod RowPlaces
 pub mod Table

@@ -14,10 +14,26 @@ use borrow.Author.Tests.{ltb-true, ltb-false, eqb-true, eqb-false, eq-eqb, ne-eq
 use Rattle.rewriting.specs.Lists.{all, same, prefix}
 use Rattle.rewriting.specs.Rules.{Rule, RuleSet, ruleInRange, inRange}
 use Rattle.rewriting.proofs.Lists.{and-left, and-right, or-cases, or-left, or-right, same-eq, same-refl, prefix-rest}
-use Rattle.rewriting.proofs.Ranges.{rule-ranges, ranges}
-use Rattle.layout.specs.States.{statesMost, isPrefix, state, next, prefixes, known, numbered, states, number}
-use Rattle.layout.specs.Words.{text}
-use Rattle.layout.proofs.Matching.{state-is-prefix, next-child}
+use Rattle.rewriting.proofs.Ranges.{rule-ranges, Ranges, ranges}
+use Rattle.layout.specs.States.{
+  mark,
+  pattern,
+  isPrefix,
+  state,
+  after,
+  next,
+  prefixes,
+  known,
+  numbered,
+  hasMark,
+  firstStates,
+  statesMost,
+  states,
+  number,
+}
+use Rattle.layout.specs.Words.{root, text}
+use Rattle.layout.proofs.Matching.{Plain, state-is-prefix, next-child}
+use Rattle.layout.proofs.Marks.{mark-prefix, prefix-plain, no-mark-prefix}
 
 eqb-sym : (x y : ℕ) → eqb x y ≡ eqb y x
 eqb-sym x y = go (eqb x y) refl
@@ -72,18 +88,35 @@ known-prefixes l [] = refl
 known-prefixes [] (x ∷ v) = refl
 known-prefixes (y ∷ l) (x ∷ v) = rw (known-map y x v (prefixes l), ← and-or-distrib-left, known-prefixes l v, eqb-sym y x)
 
+-- the prefixes of all left sides, the mark included, but for the empty one
+abbrev pub allPrefixes : List Rule → List (List ℕ)
+allPrefixes rules = flatMap (λ r. prefixes (pattern r)) rules
+
+known-all : (rules : List Rule) (v : List ℕ) → (same [] v || known (allPrefixes rules) v) ≡ (same [] v || isPrefix rules v)
+unfolding known flatMap isPrefix
+known-all rules [] = refl
+known-all [] (x ∷ v) = refl
+known-all (r ∷ rules) (x ∷ v) =
+    known-append (prefixes (pattern r)) (allPrefixes rules) (x ∷ v)
+    ∙ rw (known-prefixes (pattern r) (x ∷ v), known-all rules (x ∷ v))
+
 -- the states are the empty string and the prefixes of left sides
 pub known-states : (rules : List Rule) (v : List ℕ) → known (states rules) v ≡ (same [] v || isPrefix rules v)
-unfolding states known flatMap isPrefix
-known-states rules v = known-numbered ([] ∷ []) (flatMap (λ r. prefixes (r .left)) rules) v ∙ rw or-false (walk rules v)
+unfolding states firstStates known
+known-states rules v = known-numbered (firstStates rules) (allPrefixes rules) v ∙ go (hasMark rules) refl
   where
-    walk : (rules : List Rule) (v : List ℕ)
-        → (same [] v || known (flatMap (λ r. prefixes (r .left)) rules) v) ≡ (same [] v || isPrefix rules v)
-    walk rules [] = refl
-    walk [] (x ∷ v) = refl
-    walk (r ∷ rules) (x ∷ v) =
-        known-append (prefixes (r .left)) (flatMap (λ r. prefixes (r .left)) rules) (x ∷ v)
-        ∙ rw (known-prefixes (r .left) (x ∷ v), walk rules (x ∷ v))
+    alone : (b : Bool) → same (mark ∷ []) v ≡ b → hasMark rules ≡ true
+        → (b || (same [] v || false) || known (allPrefixes rules) v) ≡ (same [] v || isPrefix rules v)
+    alone true e h =
+        let here : mark ∷ [] ≡ v = same-eq (mark ∷ []) v e in
+        let there : isPrefix rules v ≡ true = rw (← here) (mark-prefix rules h) in
+        sym (or-right (same [] v) (isPrefix rules v) there)
+    alone false e h = rw or-false (known-all rules v)
+
+    go : (b : Bool) → hasMark rules ≡ b
+        → (known (cond b ((mark ∷ []) ∷ [] ∷ []) ([] ∷ [])) v || known (allPrefixes rules) v) ≡ (same [] v || isPrefix rules v)
+    go true h = alone (same (mark ∷ []) v) refl h
+    go false h = rw or-false (known-all rules v)
 
 pub known-nil : (rules : List Rule) → known (states rules) [] ≡ true
 known-nil rules = known-states rules []
@@ -180,19 +213,62 @@ numbered-keeps P grow s (v ∷ vs) h = numbered-keeps P grow (cond (known s v) s
     go true e = h
     go false e = grow s v e h
 
-first-state : (rules : List Rule) → (0 < length (states rules)) × (text rules 0 ≡ [])
+-- what holds of the first states, marked or not, and keeps when a new string is added, holds of all states
+states-keep : (P : List (List ℕ) → Type 0) → ((s : List (List ℕ)) (v : List ℕ) → known s v ≡ false → P s → P (s ++ v ∷ []))
+    → (rules : List Rule) → P (firstStates rules) → P (states rules)
 unfolding states
-first-state rules =
-    numbered-keeps (λ s. (0 < length s) × (getD s 0 [] ≡ []))
-    (λ s v new h. (simp length-append (omega arith), List·getD-append s (v ∷ []) [] 0 (h .0) ∙ h .1))
-    ([] ∷ []) (flatMap (λ r. prefixes (r .left)) rules) (omega arith, refl)
+states-keep P grow rules h = numbered-keeps P grow (firstStates rules) (allPrefixes rules) h
+
+-- how a string is found in a list that grows at its end
+kept-at : (i : ℕ) (u : List ℕ) (s : List (List ℕ)) (v : List ℕ) → known s v ≡ false → (i < length s) × (getD s i [] ≡ u)
+    → (i < length (s ++ v ∷ [])) × (getD (s ++ v ∷ []) i [] ≡ u)
+kept-at i u s v new h = (simp length-append (omega arith), List·getD-append s (v ∷ []) [] i (h .0) ∙ h .1)
+
+first-root : (rules : List Rule) → (root rules < length (firstStates rules)) × (getD (firstStates rules) (root rules) [] ≡ [])
+unfolding root firstStates
+first-root rules = go (hasMark rules)
+  where
+    go : (b : Bool) → (cond b 1 0 < length (cond b ((mark ∷ []) ∷ [] ∷ []) ([] ∷ [])))
+        × (getD (cond b ((mark ∷ []) ∷ [] ∷ []) ([] ∷ [])) (cond b 1 0) [] ≡ [])
+    go true = (omega arith, refl)
+    go false = (omega arith, refl)
+
+root-there : (rules : List Rule) → (root rules < length (states rules)) × (text rules (root rules) ≡ [])
+root-there rules =
+    states-keep (λ s. (root rules < length s) × (getD s (root rules) [] ≡ [])) (kept-at (root rules) []) rules (first-root rules)
+
+-- the empty string is the root
+pub root-below : (rules : List Rule) → root rules < length (states rules)
+root-below rules = root-there rules .0
 
 pub some-state : (rules : List Rule) → 0 < length (states rules)
-some-state rules = first-state rules .0
+some-state rules = omega (arith, root-below rules)
 
--- the empty string is state 0
-pub state-zero : (rules : List Rule) → text rules 0 ≡ []
-state-zero rules = first-state rules .1
+pub root-text : (rules : List Rule) → text rules (root rules) ≡ []
+root-text rules = root-there rules .1
+
+-- it is state 0 or 1
+pub root-small : (rules : List Rule) → root rules ≤ 1
+unfolding root
+root-small rules = go (hasMark rules)
+  where
+    go : (b : Bool) → cond b 1 0 ≤ 1
+    go true = omega arith
+    go false = omega arith
+
+-- where it is 1, state 0 is the mark alone
+first-mark : (rules : List Rule) → 0 < root rules → (0 < length (firstStates rules)) × (getD (firstStates rules) 0 [] ≡ mark ∷ [])
+unfolding root firstStates
+first-mark rules = go (hasMark rules)
+  where
+    go : (b : Bool) → 0 < cond b 1 0
+        → (0 < length (cond b ((mark ∷ []) ∷ [] ∷ []) ([] ∷ []))) × (getD (cond b ((mark ∷ []) ∷ [] ∷ []) ([] ∷ [])) 0 [] ≡ mark ∷ [])
+    go true h = (omega arith, refl)
+    go false h = absurd (omega arith)
+
+pub mark-text : (rules : List Rule) → 0 < root rules → text rules 0 ≡ mark ∷ []
+mark-text rules h =
+    states-keep (λ s. (0 < length s) × (getD s 0 [] ≡ mark ∷ [])) (kept-at 0 (mark ∷ [])) rules (first-mark rules h) .1
 
 -- each string of the list stands in it once
 abbrev pub Once : List (List ℕ) → Type 0
@@ -209,36 +285,72 @@ once-new s v new once i h = go (ltb i (length s)) refl
         let here : length s ≡ i = omega (arith, ltb-false i (length s) e, simp length-append at h) in
         rw (getD-at s v [] [] i here, number-new s v new) here
 
+first-once : (rules : List Rule) → Once (firstStates rules)
+unfolding firstStates number
+first-once rules = go (hasMark rules)
+  where
+    two : Once ((mark ∷ []) ∷ [] ∷ [])
+    two zero h = refl
+    two (suc zero) h = refl
+    two (suc (suc i)) h = absurd (omega arith)
+
+    one : Once ([] ∷ [])
+    one zero h = refl
+    one (suc i) h = absurd (omega arith)
+
+    go : (b : Bool) → Once (cond b ((mark ∷ []) ∷ [] ∷ []) ([] ∷ []))
+    go true = two
+    go false = one
+
 -- no state stands twice: the number of the state at place i is i
 pub number-back : (rules : List Rule) (i : ℕ) → i < length (states rules) → number (states rules) (text rules i) ≡ i
-unfolding states number
-number-back rules =
-    numbered-keeps Once once-new ([] ∷ []) (flatMap (λ r. prefixes (r .left)) rules) first
+number-back rules = states-keep Once once-new rules (first-once rules)
+
+pub number-root : (rules : List Rule) → number (states rules) [] ≡ root rules
+number-root rules = rw root-text at (number-back rules (root rules) (root-below rules))
+
+-- the state after nothing is state 0: the mark alone, or the empty string where no rule has a mark
+pub number-start : (set : RuleSet) → Ranges set → number (states (set .rules)) (after (set .rules) []) ≡ 0
+unfolding state root
+number-start set h = go (hasMark (set .rules)) refl
   where
-    first : Once ([] ∷ [])
-    first zero h = refl
-    first (suc i) h = absurd (omega arith)
+    go : (b : Bool) → hasMark (set .rules) ≡ b → number (states (set .rules)) (after (set .rules) []) ≡ 0
+    go true e =
+        let pos : 0 < root (set .rules) = rw e (omega arith) in
+        rw (mark-prefix (set .rules) e, ← mark-text (set .rules) pos) (number-back (set .rules) 0 (some-state (set .rules)))
+    go false e = rw (no-mark-prefix set (h .few-symbols) (set .rules) (h .all-rules) e []) (number-root (set .rules) ∙ rw e)
 
-pub number-zero : (rules : List Rule) → number (states rules) [] ≡ 0
-number-zero rules = rw state-zero at (number-back rules 0 (some-state rules))
+-- a child's number is behind the root's
+pub child-behind : (rules : List Rule) (v : List ℕ) (a : ℕ) → a < mark → known (states rules) (v ++ a ∷ []) ≡ true
+    → root rules < number (states rules) (v ++ a ∷ [])
+child-behind rules v a small k = go (ltb 0 (root rules)) refl
+  where
+    there : text rules (number (states rules) (v ++ a ∷ [])) ≡ v ++ a ∷ []
+    there = number-at (states rules) (v ++ a ∷ []) k .1
 
--- a child's number is not 0
-pub child-some : (rules : List Rule) (v : List ℕ) (a : ℕ) → known (states rules) (v ++ a ∷ []) ≡ true
+    not-root : number (states rules) (v ++ a ∷ []) ≡ root rules → ⊥
+    not-root e = snoc-some v a (sym there ∙ ap (text rules) e ∙ root-text rules)
+
+    not-first : 0 < root rules → number (states rules) (v ++ a ∷ []) ≡ 0 → ⊥
+    not-first pos e =
+        omega (arith, snoc-parts v [] a mark (sym there ∙ ap (text rules) e ∙ mark-text rules pos) .1)
+
+    go : (b : Bool) → ltb 0 (root rules) ≡ b → root rules < number (states rules) (v ++ a ∷ [])
+    go true e =
+        let other : number (states rules) (v ++ a ∷ []) ≡ 0 → ⊥ = not-first (ltb-true 0 (root rules) e) in
+        omega (arith, root-small rules, not-root, other)
+    go false e = omega (arith, ltb-false 0 (root rules) e, not-root)
+
+pub child-some : (rules : List Rule) (v : List ℕ) (a : ℕ) → a < mark → known (states rules) (v ++ a ∷ []) ≡ true
     → number (states rules) (v ++ a ∷ []) ≡ 0 → ⊥
-child-some rules v a k e =
-    snoc-some v a
-    (sym (number-at (states rules) (v ++ a ∷ []) k .1)
-    ∙ ap (text rules) e
-    ∙ state-zero rules)
+child-some rules v a small k e = omega (arith, child-behind rules v a small k)
 
--- each state but the first has a symbol
-pub state-long : (rules : List Rule) (c : ℕ) → 0 < c → c < length (states rules) → 0 < length (text rules c)
-state-long rules c pos below = go (text rules c) refl
+-- each state but the root has a symbol, or the mark
+pub state-long : (rules : List Rule) (c : ℕ) → (c ≡ root rules → ⊥) → c < length (states rules) → 0 < length (text rules c)
+state-long rules c other below = go (text rules c) refl
   where
     go : (v : List ℕ) → text rules c ≡ v → 0 < length v
-    go [] e =
-        let zero-too : c ≡ 0 = sym (number-back rules c below) ∙ ap (number (states rules)) e ∙ number-zero rules in
-        absurd (omega arith)
+    go [] e = absurd (other (sym (number-back rules c below) ∙ ap (number (states rules)) e ∙ number-root rules))
     go (y ∷ w) e = omega arith
 
 pub length-numbered : (s vs : List (List ℕ)) → length (numbered s vs) ≤ length s + length vs
@@ -256,44 +368,107 @@ unfolding prefixes
 length-prefixes [] = refl
 length-prefixes (x ∷ l) = rw (length-map, length-prefixes l)
 
-pub few-prefixes : (set : RuleSet) (rules : List Rule) → all (ruleInRange set) rules ≡ true
-    → length (flatMap (λ r. prefixes (r .left)) rules) ≤ 8 * length rules
-unfolding flatMap
-few-prefixes set [] e = omega arith
-few-prefixes set (r ∷ rules) e =
-    let rest = few-prefixes set rules (and-right (ruleInRange set r) (all (ruleInRange set) rules) e) in
-    let own = rule-ranges set r (and-left (ruleInRange set r) (all (ruleInRange set) rules) e) in
-    simp (length-append, length-prefixes) (omega arith)
+pub numbered-append : (s u v : List (List ℕ)) → numbered s (u ++ v) ≡ numbered (numbered s u) v
+unfolding numbered
+numbered-append s [] v = refl
+numbered-append s (x ∷ u) v = numbered-append (cond (known s x) s (s ++ x ∷ [])) u v
 
--- "N is at most 513": the empty string, and at most 64 left sides with at most 8 prefixes each
+numbered-known : (s : List (List ℕ)) (v : List ℕ) (vs : List (List ℕ)) → known s v ≡ true → numbered s (v ∷ vs) ≡ numbered s vs
+unfolding numbered
+numbered-known s v vs e = rw e
+
+-- a left side brings at most as many states as it has symbols: the mark alone is there already
+few-pattern : (s : List (List ℕ)) (r : Rule) → (r .marked ≡ true → known s (mark ∷ []) ≡ true)
+    → length (numbered s (prefixes (pattern r))) ≤ length s + length (r .left)
+unfolding pattern prefixes
+few-pattern s r there = go (r .marked) refl
+  where
+    go : (b : Bool) → r .marked ≡ b → length (numbered s (prefixes (cond b (mark ∷ r .left) (r .left)))) ≤ length s + length (r .left)
+    go true e =
+        rw (numbered-known s (mark ∷ []) (map (λ v. mark ∷ v) (prefixes (r .left))) (there e))
+        (omega (
+          arith,
+          length-numbered s (map (λ v. mark ∷ v) (prefixes (r .left))),
+          length-map (prefixes (r .left)) (λ (v : List ℕ). mark ∷ v),
+          length-prefixes (r .left),
+        ))
+    go false e = omega (arith, length-numbered s (prefixes (r .left)), length-prefixes (r .left))
+
+few-prefixes : (set : RuleSet) (rules : List Rule) → all (ruleInRange set) rules ≡ true → (s : List (List ℕ))
+    → (hasMark rules ≡ true → known s (mark ∷ []) ≡ true) → length (numbered s (allPrefixes rules)) ≤ length s + 8 * length rules
+unfolding flatMap numbered hasMark
+few-prefixes set [] e s there = omega arith
+few-prefixes set (r ∷ rules) e s there =
+    let own = rule-ranges set r (and-left (ruleInRange set r) (all (ruleInRange set) rules) e) in
+    let first : length (numbered s (prefixes (pattern r))) ≤ length s + length (r .left) =
+    few-pattern s r (λ m. there (or-left (r .marked) (hasMark rules) m))
+    in
+    let rest =
+    few-prefixes set rules (and-right (ruleInRange set r) (all (ruleInRange set) rules) e) (numbered s (prefixes (pattern r)))
+    (λ m. known-numbered s (prefixes (pattern r)) (mark ∷ [])
+    ∙ or-left (known s (mark ∷ [])) (known (prefixes (pattern r)) (mark ∷ [])) (there (or-right (r .marked) (hasMark rules) m)))
+    in
+    rw (numbered-append s (prefixes (pattern r)) (allPrefixes rules)) (omega (arith, own .short-left))
+
+first-few : (rules : List Rule) → length (firstStates rules) ≤ 2
+unfolding firstStates
+first-few rules = go (hasMark rules)
+  where
+    go : (b : Bool) → length (cond b ((mark ∷ []) ∷ [] ∷ []) ([] ∷ [])) ≤ 2
+    go true = omega arith
+    go false = omega arith
+
+first-known : (rules : List Rule) → hasMark rules ≡ true → known (firstStates rules) (mark ∷ []) ≡ true
+unfolding firstStates known
+first-known rules e = rw e
+
+-- "N may be 514": the mark and the empty string, and at most 64 left sides with at most 8 prefixes each
 pub few-states : (set : RuleSet) → inRange set ≡ true → length (states (set .rules)) ≤ statesMost
 unfolding states
 few-states set e =
     let h = ranges set e in
-    let few = few-prefixes set (set .rules) (h .all-rules) in
-    omega (arith, length-numbered ([] ∷ []) (flatMap (λ r. prefixes (r .left)) (set .rules)))
+    let few = few-prefixes set (set .rules) (h .all-rules) (firstStates (set .rules)) (first-known (set .rules)) in
+    omega (arith, first-few (set .rules))
 
--- a prefix of a left side has at most 8 symbols, and so has each state
+-- a left side with its mark has at most 9 places
+short-pattern : (r : Rule) → length (pattern r) ≤ 1 + length (r .left)
+unfolding pattern
+short-pattern r = go (r .marked)
+  where
+    go : (b : Bool) → length (cond b (mark ∷ r .left) (r .left)) ≤ 1 + length (r .left)
+    go true = omega arith
+    go false = omega arith
+
+-- and so has each prefix of one, and each state
 prefix-short : (set : RuleSet) (rules : List Rule) → all (ruleInRange set) rules ≡ true
-    → (v : List ℕ) → isPrefix rules v ≡ true → length v ≤ 8
+    → (v : List ℕ) → isPrefix rules v ≡ true → length v ≤ 9
 unfolding isPrefix
 prefix-short set [] e v p = let z : _≡_ {A = ℕ} 0 1 = cc in absurd (omega arith)
 prefix-short set (r ∷ rules) e v p =
-    go (or-cases (prefix v (r .left)) (isPrefix rules v) p)
+    go (or-cases (prefix v (pattern r)) (isPrefix rules v) p)
     (prefix-short set rules (and-right (ruleInRange set r) (all (ruleInRange set) rules) e) v)
   where
-    go : (prefix v (r .left) ≡ true) ⊎ (isPrefix rules v ≡ true) → (isPrefix rules v ≡ true → length v ≤ 8) → length v ≤ 8
+    go : (prefix v (pattern r) ≡ true) ⊎ (isPrefix rules v ≡ true) → (isPrefix rules v ≡ true → length v ≤ 9) → length v ≤ 9
     go (inl h) ih =
         let own = rule-ranges set r (and-left (ruleInRange set r) (all (ruleInRange set) rules) e) in
-        let size : length (r .left) ≡ length v + length (drop (length v) (r .left)) =
-        ap length (prefix-rest v (r .left) h) ∙ length-append v (drop (length v) (r .left))
+        let size : length (pattern r) ≡ length v + length (drop (length v) (pattern r)) =
+        ap length (prefix-rest v (pattern r) h) ∙ length-append v (drop (length v) (pattern r))
         in
-        omega (arith, own .short-left)
+        omega (arith, own .short-left, short-pattern r)
     go (inr h) ih = ih h
 
-pub short-state : (set : RuleSet) → inRange set ≡ true → (c : ℕ) → c < length (states (set .rules)) → length (text (set .rules) c) ≤ 8
+pub short-state : (set : RuleSet) → inRange set ≡ true → (c : ℕ) → c < length (states (set .rules)) → length (text (set .rules) c) ≤ 9
 short-state set e c h = go (listed-prefix (set .rules) c h)
   where
-    go : (text (set .rules) c ≡ []) ⊎ (isPrefix (set .rules) (text (set .rules) c) ≡ true) → length (text (set .rules) c) ≤ 8
+    go : (text (set .rules) c ≡ []) ⊎ (isPrefix (set .rules) (text (set .rules) c) ≡ true) → length (text (set .rules) c) ≤ 9
     go (inl p) = let size = ap length p in omega arith
     go (inr p) = prefix-short set (set .rules) (ranges set e .all-rules) (text (set .rules) c) p
+
+-- behind its first place a state has symbols alone
+pub state-plain : (set : RuleSet) → inRange set ≡ true → (c y : ℕ) (p : List ℕ) → c < length (states (set .rules))
+    → text (set .rules) c ≡ y ∷ p → Plain p
+state-plain set e c y p h t = go (listed-prefix (set .rules) c h)
+  where
+    go : (text (set .rules) c ≡ []) ⊎ (isPrefix (set .rules) (text (set .rules) c) ≡ true) → Plain p
+    go (inl k) = absurd (omega (arith, ap length k, ap length t))
+    go (inr k) = prefix-plain set (ranges set e .few-symbols) (set .rules) (ranges set e .all-rules) y p (rw t at k)

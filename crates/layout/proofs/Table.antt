@@ -29,7 +29,7 @@ use Rattle.rewriting.proofs.Lists.{
 }
 use Rattle.rewriting.proofs.Ranges.{ranges}
 use Rattle.rewriting.proofs.Scan.{ending-left}
-use Rattle.layout.specs.States.{next, matching, states, number}
+use Rattle.layout.specs.States.{starts, symbolsIn, next, matching, states, number}
 use Rattle.layout.specs.Table.{tableMost, matchWord, row, tableOf}
 use Rattle.layout.specs.Words.{text, transition}
 use Rattle.layout.proofs.States.{next-below, few-states}
@@ -154,11 +154,11 @@ begins-next set t e i a h below =
 -- a match word is at most the number of rules
 pub few-matching : (rules : List Rule) (q : List ℕ) → matchWord (matching rules q) ≤ length rules
 unfolding matching matchWord
-few-matching rules q = go (ending rules q) refl
+few-matching rules q = go (ending rules (starts q) (symbolsIn q)) refl
   where
-    go : (m : Option ℕ) → ending rules q ≡ m → matchWord m ≤ length rules
+    go : (m : Option ℕ) → ending rules (starts q) (symbolsIn q) ≡ m → matchWord m ≤ length rules
     go none e = omega arith
-    go (some i) e = ending-left rules q i e .is-rule
+    go (some i) e = ending-left rules (starts q) (symbolsIn q) i e .is-rule
 
 row-fits : (set : RuleSet) → inRange set ≡ true → (q : List ℕ) → below 65536 (row set q) ≡ true
 unfolding row

@@ -106,8 +106,7 @@ impl Reader {
     }
 
     // A rule's first name.
-    fn left_symbol(self, x: &[u8], symbols: &mut [u8], bodies: &mut [u8]) -> Taken
-    {
+    fn left_symbol(self, x: &[u8], symbols: &mut [u8], bodies: &mut [u8]) -> Taken {
         if 64 <= self.rules {
             return Taken::Breaks(5);
         }

@@ -34,3 +34,8 @@ pub tie-none : (earlier later : Option ℕ) → tie earlier later ≡ none → (
 unfolding tie orElse
 tie-none none later e = (refl, e)
 tie-none (some i) later e = let z : _≡_ {A = ℕ} 0 1 = cc in absurd (omega arith)
+
+-- in all: the earlier, or else the later
+pub tie-or-else : (earlier later : Option ℕ) → tie earlier later ≡ orElse earlier later
+unfolding tie
+tie-or-else earlier later = refl

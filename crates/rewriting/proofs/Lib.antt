@@ -4,5 +4,6 @@ pub mod Ranges
 pub mod Choice
 pub mod Scan
 pub mod Redex
+pub mod Ending
 pub mod Rewrites
 pub mod Computed

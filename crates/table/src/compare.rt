@@ -96,8 +96,7 @@ fn root_holds(trie: &[u16], matches: &[u16], rows: &[u16], s: usize, root: usize
 
 // The tests of the mark alone, which no state leads to: it has no match, and its row differs from the root's in as many words as it
 // has children.
-fn mark_holds(trie: &[u16], matches: &[u16], rows: &[u16], s: usize, root: usize) -> bool
-{
+fn mark_holds(trie: &[u16], matches: &[u16], rows: &[u16], s: usize, root: usize) -> bool {
     if matches[0] != 0 {
         return false;
     }
@@ -136,7 +135,14 @@ fn state_holds(trie: &[u16], matches: &[u16], rows: &[u16], s: usize, q: usize) 
 
 // Every state's tests, in the order of their numbers, so that its parent and its parent's failure state are known when a
 // state is reached. Keeps each state's failure state in its node.
-fn states_hold(image: &[u8], root: usize, trie: &mut [u16], n: usize, matches: &[u16], rows: &[u16]) -> bool
+fn states_hold(
+    image: &[u8],
+    root: usize,
+    trie: &mut [u16],
+    n: usize,
+    matches: &[u16],
+    rows: &[u16],
+) -> bool
     requires { ⌜ valid (now image) ≡ true ⌝ }
     requires { ⌜ Built (read (now image)) n (now trie) ⌝ }
     requires { ⌜ (n ≡ length (now matches)) × (n * read (now image) .symbols ≡ length (now rows)) ⌝ }

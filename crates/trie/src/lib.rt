@@ -146,8 +146,7 @@ fn claim(trie: &mut [u16], q: usize, i: usize)
 }
 
 // The node that the left side of rule i is followed from.
-fn first_node(image: &[u8], root: usize, i: usize) -> usize
-{
+fn first_node(image: &[u8], root: usize, i: usize) -> usize {
     if image::is_marked(image, i) {
         return 0;
     }
@@ -178,8 +177,7 @@ fn walk(image: &[u8], root: usize, i: usize, at: usize, trie: &mut [u16], n: usi
 
 // The nodes before any rule: the root and, where a rule has the mark, node 0 for the mark alone, of which the root is the parent
 // and the failure state.
-fn plant(trie: &mut [u16], root: usize)
-{
+fn plant(trie: &mut [u16], root: usize) {
     trie[0] = root as u16;
     trie[DEPTH] = root as u16;
     trie[FAILURE] = root as u16;

@@ -53,8 +53,7 @@ fn chosen(own: u16, other: u16) -> u16
 }
 
 // Each 0 in the row of the root becomes the root's number.
-fn fill_root(rows: &mut [u16], s: usize, root: usize)
-{
+fn fill_root(rows: &mut [u16], s: usize, root: usize) {
     let first = root * s;
     let word = root as u16;
     for a in 0..s {
