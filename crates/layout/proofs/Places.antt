@@ -6,14 +6,15 @@ use mathlib.Core.Bool.{true}
 use mathlib.Core.List.{List, [], _∷_, _++_, flatMap}
 use native.Mathlib.Omega.{arith}
 use native.Mathlib.Nat.{le-of-suc-le-suc, not-suc-le-zero}
+use lib.Dec.{eqb}
 use lib.ListN.{length, getD, take, length-append, List·getD-append}
 use lib.Seq.{getD-append-add, getD-drop}
 use Rattle.rewriting.specs.Rules.{Right, Put, Close, symbolsOf, Rule, _⇒_, RuleSet, rule}
 use Rattle.rewriting.proofs.Lists.{getD-flatMap}
-use Rattle.layout.specs.Image.{kind, lengthOrVerdict, contents, body, imageOf, read, valid}
+use Rattle.layout.specs.Image.{kind, lengthOrVerdict, markByte, contents, body, imageOf, read, valid}
 use Rattle.layout.specs.Places.{leftAt, rightAt, rightSideOf}
 use Rattle.layout.specs.declared.RightSide.{RightSide}
-use Rattle.layout.proofs.Image.{valid-encoding, length-contents, length-image, drop-image}
+use Rattle.layout.proofs.Image.{read-mark, valid-encoding, length-contents, length-image, drop-image}
 
 -- the bodies before rule i, one more, and those behind
 bodies-next :
@@ -145,7 +146,7 @@ contents-byte b e i a h k =
     ∙ List·getD-append (flatMap contents (set .rules)) (flatMap body (set .rules)) 0 (i * 4 + a) within
     ∙ getD-flatMap contents 4 (λ r. refl) (set .rules) i a ([] ⇒ Put []) 0 h k
 
--- The contents of rule i: left length, kind, right length or verdict.
+-- The contents of rule i: left length, kind, right length or verdict, mark.
 module _ (b : List ℕ) (e : valid b ≡ true) (i : ℕ) (h : i < length (read b .rules)) where
   pub contents-left : getD b (4 + 4 * i) 0 ≡ length (rule (read b .rules) i .left)
   unfolding contents
@@ -164,6 +165,16 @@ module _ (b : List ℕ) (e : valid b ≡ true) (i : ℕ) (h : i < length (read b
   contents-right =
       let n : 6 + 4 * i ≡ 4 + (i * 4 + 2) = omega arith in
       ap (λ (m : ℕ). getD b m 0) n ∙ contents-byte b e i 2 h (omega arith)
+
+  pub contents-mark : getD b (7 + 4 * i) 0 ≡ markByte (rule (read b .rules) i .marked)
+  unfolding contents
+  contents-mark =
+      let n : 7 + 4 * i ≡ 4 + (i * 4 + 3) = omega arith in
+      ap (λ (m : ℕ). getD b m 0) n ∙ contents-byte b e i 3 h (omega arith)
+
+  -- so that it is 1 exactly where the rule is marked
+  pub marked-byte : eqb (getD b (7 + 4 * i) 0) 1 ≡ rule (read b .rules) i .marked
+  marked-byte = ap (λ (m : ℕ). eqb m 1) contents-mark ∙ read-mark (rule (read b .rules) i .marked)
 
 -- Byte 1 is the number of rules; the other three are read as they stand.
 pub header-rules : (b : List ℕ) → valid b ≡ true → getD b 1 0 ≡ length (read b .rules)

@@ -1,0 +1,2 @@
+-- Laws, in reading order.
+pub mod Marks
