@@ -11,23 +11,28 @@ use Rattle.rewriting.specs.Rules.{Rule, rule}
 use Rattle.layout.specs.States.{hasMark}
 use Rattle.layout.specs.Words.{root}
 
-no-mark : hasMark [] ≡ false
+-- no rule
+pub no-mark : hasMark [] ≡ false
 unfolding hasMark
 no-mark = refl
 
--- one rule without a mark more
-pub no-mark-yet :
+-- one rule more, which is not marked
+no-mark-next :
     (rs : List Rule) (i : ℕ) → hasMark (take i rs) ≡ false → rule rs i .marked ≡ false → hasMark (take (suc i) rs) ≡ false
 unfolding hasMark rule
-no-mark-yet [] i e u = refl
-no-mark-yet (r ∷ rs) zero e u = rw u
-no-mark-yet (r ∷ rs) (suc i) e u = go (r .marked) (λ (d : hasMark (take i rs) ≡ false). no-mark-yet rs i d u) e
+no-mark-next [] i e u = refl
+no-mark-next (r ∷ rs) zero e u = rw u
+no-mark-next (r ∷ rs) (suc i) e u = go (r .marked) (λ (d : hasMark (take i rs) ≡ false). no-mark-next rs i d u) e
   where
     go :
         (m : Bool) → (hasMark (take i rs) ≡ false → hasMark (take (suc i) rs) ≡ false)
         → (m || hasMark (take i rs)) ≡ false → (m || hasMark (take (suc i) rs)) ≡ false
     go true ih d = d
     go false ih d = ih d
+
+pub no-mark-yet :
+    (rs : List Rule) (i : ℕ) → hasMark (take i rs) ≡ false → rule rs i .marked ≡ false → hasMark (take (i + 1) rs) ≡ false
+no-mark-yet rs i e u = rw add-one (no-mark-next rs i e u)
 
 -- rule i is marked
 mark-here : (rs : List Rule) (i : ℕ) → rule rs i .marked ≡ true → hasMark rs ≡ true
