@@ -32,7 +32,7 @@ plain-beginning u v e h = all-left (λ x. ltb x mark) u (drop (length u) v) (rw 
 
 module _ (set : RuleSet) (few : set .symbols ≤ 32) where
   -- a left side in range is plain
-  plain-left : (r : Rule) → ruleInRange set r ≡ true → Plain (r .left)
+  pub plain-left : (r : Rule) → ruleInRange set r ≡ true → Plain (r .left)
   plain-left r e = below-weaken (set .symbols) 32 (r .left) few (rule-ranges set r e .left-below)
 
   -- behind the first place of a left side and its mark stand symbols alone

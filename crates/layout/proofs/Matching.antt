@@ -61,8 +61,19 @@ state-snoc rules (x ∷ p) a = go (isPrefix rules (x ∷ p)) refl (state-snoc ru
     go true e ih = rw e
     go false e ih = rw (e, isPrefix-longer rules (x ∷ p) (a ∷ []) e) ih
 
+-- a string of symbols: the mark does not stand in it
+abbrev pub Plain : List ℕ → Type 0
+Plain p = below mark p ≡ true
+
+-- its first symbol is not the mark, and what follows is plain too
+pub plain-first : (x : ℕ) (p : List ℕ) → Plain (x ∷ p) → eqb x mark ≡ false
+plain-first x p h = ne-eqb x mark (λ e. omega (arith, ltb-true x mark (and-left (ltb x mark) (below mark p) h)))
+
+pub plain-rest : (x : ℕ) (p : List ℕ) → Plain (x ∷ p) → Plain p
+plain-rest x p h = and-right (ltb x mark) (below mark p) h
+
 -- a rule with this mark and these symbols as its left side has this pattern
-pattern-own : (r : Rule) (v : List ℕ) → starts v ≡ r .marked → r .left ≡ symbolsIn v → pattern r ≡ v
+pub pattern-own : (r : Rule) (v : List ℕ) → starts v ≡ r .marked → r .left ≡ symbolsIn v → pattern r ≡ v
 unfolding pattern starts symbolsIn
 pattern-own r [] m l = rw (← m, l)
 pattern-own r (x ∷ v) m l = go (eqb x mark) refl
@@ -70,6 +81,17 @@ pattern-own r (x ∷ v) m l = go (eqb x mark) refl
     go : (b : Bool) → eqb x mark ≡ b → cond (r .marked) (mark ∷ r .left) (r .left) ≡ x ∷ v
     go true e = rw (← m, e, l, e) (ap (λ (y : ℕ). y ∷ v) (sym (eqb-true x mark e)))
     go false e = rw (← m, e, l, e)
+
+-- and the other way round, where the left side is plain
+pub own-pattern : (r : Rule) → Plain (r .left) → (starts (pattern r) ≡ r .marked) × (symbolsIn (pattern r) ≡ r .left)
+unfolding pattern starts symbolsIn
+own-pattern r h = go (r .marked) refl (r .left) h
+  where
+    go : (b : Bool) → r .marked ≡ b → (l : List ℕ) → Plain l
+        → (starts (cond b (mark ∷ l) l) ≡ b) × (symbolsIn (cond b (mark ∷ l) l) ≡ l)
+    go true m l h = (refl, refl)
+    go false m [] h = (refl, refl)
+    go false m (x ∷ l) h = rw (plain-first x l h) (refl, refl)
 
 -- what is no prefix of a left side is no left side
 pub own-no-prefix : (rules : List Rule) (v : List ℕ) → isPrefix rules v ≡ false → own rules v ≡ none
@@ -89,17 +111,6 @@ own-no-prefix (r ∷ rules) v e = go (alike (starts v) (r .marked) && same (r .l
         let z : _≡_ {A = ℕ} 0 1 = cc in
         absurd (omega arith)
     go false p false q h ih = rw (p, ih h)
-
--- a string of symbols: the mark does not stand in it
-abbrev pub Plain : List ℕ → Type 0
-Plain p = below mark p ≡ true
-
--- its first symbol is not the mark, and what follows is plain too
-pub plain-first : (x : ℕ) (p : List ℕ) → Plain (x ∷ p) → eqb x mark ≡ false
-plain-first x p h = ne-eqb x mark (λ e. omega (arith, ltb-true x mark (and-left (ltb x mark) (below mark p) h)))
-
-pub plain-rest : (x : ℕ) (p : List ℕ) → Plain (x ∷ p) → Plain p
-plain-rest x p h = and-right (ltb x mark) (below mark p) h
 
 -- the match word found at the state of a string that begins behind the start is that of the whole string
 pub matching-state : (rules : List Rule) (p : List ℕ) → Plain p → matching rules (state rules p) ≡ ending rules false p

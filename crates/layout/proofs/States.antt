@@ -92,7 +92,7 @@ known-prefixes (y ∷ l) (x ∷ v) = rw (known-map y x v (prefixes l), ← and-o
 abbrev pub allPrefixes : List Rule → List (List ℕ)
 allPrefixes rules = flatMap (λ r. prefixes (pattern r)) rules
 
-known-all : (rules : List Rule) (v : List ℕ) → (same [] v || known (allPrefixes rules) v) ≡ (same [] v || isPrefix rules v)
+pub known-all : (rules : List Rule) (v : List ℕ) → (same [] v || known (allPrefixes rules) v) ≡ (same [] v || isPrefix rules v)
 unfolding known flatMap isPrefix
 known-all rules [] = refl
 known-all [] (x ∷ v) = refl
@@ -224,7 +224,7 @@ kept-at : (i : ℕ) (u : List ℕ) (s : List (List ℕ)) (v : List ℕ) → know
     → (i < length (s ++ v ∷ [])) × (getD (s ++ v ∷ []) i [] ≡ u)
 kept-at i u s v new h = (simp length-append (omega arith), List·getD-append s (v ∷ []) [] i (h .0) ∙ h .1)
 
-first-root : (rules : List Rule) → (root rules < length (firstStates rules)) × (getD (firstStates rules) (root rules) [] ≡ [])
+pub first-root : (rules : List Rule) → (root rules < length (firstStates rules)) × (getD (firstStates rules) (root rules) [] ≡ [])
 unfolding root firstStates
 first-root rules = go (hasMark rules)
   where
@@ -257,7 +257,7 @@ root-small rules = go (hasMark rules)
     go false = omega arith
 
 -- where it is 1, state 0 is the mark alone
-first-mark : (rules : List Rule) → 0 < root rules → (0 < length (firstStates rules)) × (getD (firstStates rules) 0 [] ≡ mark ∷ [])
+pub first-mark : (rules : List Rule) → 0 < root rules → (0 < length (firstStates rules)) × (getD (firstStates rules) 0 [] ≡ mark ∷ [])
 unfolding root firstStates
 first-mark rules = go (hasMark rules)
   where
@@ -285,7 +285,7 @@ once-new s v new once i h = go (ltb i (length s)) refl
         let here : length s ≡ i = omega (arith, ltb-false i (length s) e, simp length-append at h) in
         rw (getD-at s v [] [] i here, number-new s v new) here
 
-first-once : (rules : List Rule) → Once (firstStates rules)
+pub first-once : (rules : List Rule) → Once (firstStates rules)
 unfolding firstStates number
 first-once rules = go (hasMark rules)
   where
@@ -373,12 +373,12 @@ unfolding numbered
 numbered-append s [] v = refl
 numbered-append s (x ∷ u) v = numbered-append (cond (known s x) s (s ++ x ∷ [])) u v
 
-numbered-known : (s : List (List ℕ)) (v : List ℕ) (vs : List (List ℕ)) → known s v ≡ true → numbered s (v ∷ vs) ≡ numbered s vs
+pub numbered-known : (s : List (List ℕ)) (v : List ℕ) (vs : List (List ℕ)) → known s v ≡ true → numbered s (v ∷ vs) ≡ numbered s vs
 unfolding numbered
 numbered-known s v vs e = rw e
 
 -- a left side brings at most as many states as it has symbols: the mark alone is there already
-few-pattern : (s : List (List ℕ)) (r : Rule) → (r .marked ≡ true → known s (mark ∷ []) ≡ true)
+pub few-pattern : (s : List (List ℕ)) (r : Rule) → (r .marked ≡ true → known s (mark ∷ []) ≡ true)
     → length (numbered s (prefixes (pattern r))) ≤ length s + length (r .left)
 unfolding pattern prefixes
 few-pattern s r there = go (r .marked) refl
@@ -394,23 +394,33 @@ few-pattern s r there = go (r .marked) refl
         ))
     go false e = omega (arith, length-numbered s (prefixes (r .left)), length-prefixes (r .left))
 
-few-prefixes : (set : RuleSet) (rules : List Rule) → all (ruleInRange set) rules ≡ true → (s : List (List ℕ))
-    → (hasMark rules ≡ true → known s (mark ∷ []) ≡ true) → length (numbered s (allPrefixes rules)) ≤ length s + 8 * length rules
+-- and so do several
+pub few-numbered : (rules : List Rule) (s : List (List ℕ)) → (hasMark rules ≡ true → known s (mark ∷ []) ≡ true)
+    → length (numbered s (allPrefixes rules)) ≤ length s + length (flatMap (λ r. r .left) rules)
 unfolding flatMap numbered hasMark
-few-prefixes set [] e s there = omega arith
-few-prefixes set (r ∷ rules) e s there =
-    let own = rule-ranges set r (and-left (ruleInRange set r) (all (ruleInRange set) rules) e) in
+few-numbered [] s there = omega arith
+few-numbered (r ∷ rules) s there =
     let first : length (numbered s (prefixes (pattern r))) ≤ length s + length (r .left) =
     few-pattern s r (λ m. there (or-left (r .marked) (hasMark rules) m))
     in
     let rest =
-    few-prefixes set rules (and-right (ruleInRange set r) (all (ruleInRange set) rules) e) (numbered s (prefixes (pattern r)))
+    few-numbered rules (numbered s (prefixes (pattern r)))
     (λ m. known-numbered s (prefixes (pattern r)) (mark ∷ [])
     ∙ or-left (known s (mark ∷ [])) (known (prefixes (pattern r)) (mark ∷ [])) (there (or-right (r .marked) (hasMark rules) m)))
     in
-    rw (numbered-append s (prefixes (pattern r)) (allPrefixes rules)) (omega (arith, own .short-left))
+    rw (numbered-append s (prefixes (pattern r)) (allPrefixes rules), length-append) (omega arith)
 
-first-few : (rules : List Rule) → length (firstStates rules) ≤ 2
+-- left sides in range have at most 8 symbols each
+pub few-left : (set : RuleSet) (rules : List Rule) → all (ruleInRange set) rules ≡ true
+    → length (flatMap (λ r. r .left) rules) ≤ 8 * length rules
+unfolding flatMap
+few-left set [] e = omega arith
+few-left set (r ∷ rules) e =
+    let own = rule-ranges set r (and-left (ruleInRange set r) (all (ruleInRange set) rules) e) in
+    let rest = few-left set rules (and-right (ruleInRange set r) (all (ruleInRange set) rules) e) in
+    rw length-append (omega (arith, own .short-left))
+
+pub first-few : (rules : List Rule) → length (firstStates rules) ≤ 2
 unfolding firstStates
 first-few rules = go (hasMark rules)
   where
@@ -418,7 +428,19 @@ first-few rules = go (hasMark rules)
     go true = omega arith
     go false = omega arith
 
-first-known : (rules : List Rule) → hasMark rules ≡ true → known (firstStates rules) (mark ∷ []) ≡ true
+-- the empty string is among the first, and the prefixes of left sides come later
+pub first-or-later : (rules rs : List Rule) (v : List ℕ) → isPrefix rs v ≡ true
+    → (known (firstStates rules) v || known (allPrefixes rs) v) ≡ true
+unfolding known firstStates
+first-or-later rules rs [] e = or-left (known (firstStates rules) []) (known (allPrefixes rs) []) (go (hasMark rules))
+  where
+    go : (b : Bool) → known (cond b ((mark ∷ []) ∷ [] ∷ []) ([] ∷ [])) [] ≡ true
+    go true = refl
+    go false = refl
+first-or-later rules rs (x ∷ v) e =
+    or-right (known (firstStates rules) (x ∷ v)) (known (allPrefixes rs) (x ∷ v)) (known-all rs (x ∷ v) ∙ e)
+
+pub first-known : (rules : List Rule) → hasMark rules ≡ true → known (firstStates rules) (mark ∷ []) ≡ true
 unfolding firstStates known
 first-known rules e = rw e
 
@@ -427,8 +449,8 @@ pub few-states : (set : RuleSet) → inRange set ≡ true → length (states (se
 unfolding states
 few-states set e =
     let h = ranges set e in
-    let few = few-prefixes set (set .rules) (h .all-rules) (firstStates (set .rules)) (first-known (set .rules)) in
-    omega (arith, first-few (set .rules))
+    let few = few-numbered (set .rules) (firstStates (set .rules)) (first-known (set .rules)) in
+    omega (arith, first-few (set .rules), few-left set (set .rules) (h .all-rules), h .few-rules)
 
 -- a left side with its mark has at most 9 places
 short-pattern : (r : Rule) → length (pattern r) ≤ 1 + length (r .left)

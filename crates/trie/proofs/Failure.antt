@@ -4,7 +4,8 @@
 use Prim.Native.Nat.{ℕ, suc, _+_, _*_, _≤_, _<_}
 use mathlib.Core.Path.{_≡_, refl, sym, ap, _∙_}
 use mathlib.Core.Bool.{Bool, true, false, cond}
-use mathlib.Core.Option.{Option, none, some}
+use mathlib.Core.Logic.{_≢_, _⊎_, inl, inr}
+use mathlib.Core.Option.{Option, none, some, orElse}
 use mathlib.Core.List.{List, [], _∷_, _++_}
 use native.Mathlib.Omega.{arith}
 use native.Mathlib.Nat.{not-suc-le-zero}
@@ -12,15 +13,15 @@ use lib.Dec.{eqb}
 use lib.ListN.{length, drop, length-append, length-drop}
 use lib.Seq.{drop-append-le}
 use borrow.Author.Tests.{eqb-true, eqb-false, ne-eqb}
-use Rattle.rewriting.specs.Rules.{Rule}
-use Rattle.rewriting.specs.Occurrences.{lowest, tie}
-use Rattle.rewriting.proofs.Choice.{tie-earlier, tie-later, tie-none}
+use Rattle.rewriting.specs.Rules.{Rule, RuleSet}
+use Rattle.rewriting.proofs.Redex.{NonEmpty}
 use Rattle.layout.specs.States.{state, next, matching, known, states, number}
 use Rattle.layout.specs.Table.{matchWord}
-use Rattle.layout.specs.Words.{text, failureState, transition, ownOr}
-use Rattle.trie.specs.Nodes.{parent, symbol, failure, Trie, RightFailure, failureBy}
-use Rattle.layout.proofs.Matching.{state-drop, state-snoc, length-state, next-fail, matching-fail}
-use Rattle.layout.proofs.States.{known-snoc, state-known, number-at, number-zero, state-long}
+use Rattle.layout.specs.Words.{root, text, own, failureState, transition, ownOr}
+use Rattle.trie.specs.Nodes.{parent, symbol, failure, TrieOf, RightFailure, failureBy}
+use Rattle.layout.proofs.Matching.{Plain, state-drop, state-snoc, length-state, next-fail, matching-fail}
+use Rattle.layout.proofs.States.{known-snoc, state-known, number-at, number-root, state-long}
+use Rattle.trie.proofs.Growth.{node-cases}
 
 -- f is the number of v's failure state, which is shorter than v
 pub record FailsTo (rules : List Rule) (v : List ℕ) (f : ℕ) : Type 0 where
@@ -56,57 +57,61 @@ pub next-root : (rules : List Rule) (a : ℕ) → known (states rules) ([] ++ a 
 unfolding next state
 next-root rules a k = state-drop rules a [] (sym (known-snoc rules [] a) ∙ k)
 
--- the match word of two rules that end together, the longer one's first
-match-own : (earlier later : Option ℕ) → matchWord (tie earlier later) ≡ ownOr (matchWord earlier) (matchWord later)
-unfolding matchWord
-match-own none later = rw tie-later
-match-own (some i) later = go (tie (some i) later) refl
-  where
-    go : (m : Option ℕ) → tie (some i) later ≡ m → matchWord m ≡ ownOr (matchWord (some i)) (matchWord later)
-    go none e = let p = tie-none (some i) later e .0 in let z : _≡_ {A = ℕ} 0 1 = cc in absurd (omega arith)
-    go (some k) e = rw (ne-eqb (suc i) 0 (λ p. omega arith)) (ap suc (tie-earlier (some i) later k i e refl))
+-- the match word of two rules, the first before the second
+match-own : (own other : Option ℕ) → matchWord (orElse own other) ≡ ownOr (matchWord own) (matchWord other)
+unfolding matchWord orElse
+match-own none other = refl
+match-own (some i) other = rw (ne-eqb (suc i) 0 (λ p. omega arith))
 
 -- a state's match word is that of its own left side, or else its failure state's
-pub match-failure : (rules : List Rule) (v : List ℕ) → 0 < length v
-    → matchWord (matching rules v) ≡ ownOr (matchWord (lowest rules v)) (matchWord (matching rules (failureState rules v)))
-match-failure rules [] h = absurd (not-suc-le-zero h)
-match-failure rules (y ∷ p) h = ap matchWord (matching-fail rules y p) ∙ match-own (lowest rules (y ∷ p)) (matching rules (state rules p))
+pub match-failure : (rules : List Rule) → NonEmpty rules → (v : List ℕ) → 0 < length v → Plain (drop 1 v)
+    → matchWord (matching rules v) ≡ ownOr (matchWord (own rules v)) (matchWord (matching rules (failureState rules v)))
+match-failure rules some-left [] h plain = absurd (not-suc-le-zero h)
+match-failure rules some-left (y ∷ p) h plain =
+    ap matchWord (matching-fail rules some-left y p plain) ∙ match-own (own rules (y ∷ p)) (matching rules (state rules p))
 
 -- The failure state found for node c is right where that of its parent, and the word of that state's row, are.
-module _ (rules : List Rule) (symbols : ℕ) (t rows : List ℕ) (trie : Trie (states rules) symbols t) where
-  pub failure-found : (c : ℕ) → 0 < c → c < length (states rules)
-      → (0 < parent t c → RightFailure rules t (parent t c))
-      → (0 < parent t c → transition rows symbols (failure t (parent t c)) (symbol t c)
-      ≡ number (states rules) (next rules (text rules (failure t (parent t c))) (symbol t c)))
-      → failureBy t rows symbols c ≡ number (states rules) (failureState rules (text rules c))
+module _ (set : RuleSet) (t rows : List ℕ) (trie : TrieOf set t) where
+  pub failure-found : (c : ℕ) → (c ≡ root (set .rules) → ⊥) → c < length (states (set .rules))
+      → (parent t c ≢ root (set .rules) → RightFailure (set .rules) t (parent t c))
+      → (parent t c ≢ root (set .rules) → transition rows (set .symbols) (failure t (parent t c)) (symbol t c)
+      ≡ number (states (set .rules)) (next (set .rules) (text (set .rules) (failure t (parent t c))) (symbol t c)))
+      → failureBy t rows (set .symbols) (root (set .rules)) c
+      ≡ number (states (set .rules)) (failureState (set .rules) (text (set .rules) c))
   unfolding failureBy state
-  failure-found c pos lt up word = go (eqb (parent t c) 0) refl
+  failure-found c other lt up word = go (eqb (parent t c) (root (set .rules))) refl (node-cases _ _ _ _ trie c other)
     where
-      go : (b : Bool) → eqb (parent t c) 0 ≡ b
-          → cond b 0 (transition rows symbols (failure t (parent t c)) (symbol t c)) ≡ number (states rules) (failureState rules (text rules c))
-      go true e =
-          let above : text rules (parent t c) ≡ [] = rw (eqb-true (parent t c) 0 e) (trie .root) in
-          rw (trie .made c pos lt, above) (sym (number-zero rules))
-      go false e =
-          let high : 0 < parent t c = omega (arith, eqb-false (parent t c) 0 e) in
-          let below : parent t c < length (states rules) = omega (arith, trie .linked .up c pos lt) in
-          let v : List ℕ = text rules (parent t c) in
-          let long : 0 < length v = state-long rules (parent t c) high below in
-          let step : next rules (failureState rules v) (symbol t c) ≡ failureState rules (text rules c) =
-          state-snoc rules (drop 1 v) (symbol t c)
-          ∙ ap (state rules) (sym (drop-append-le 1 v (symbol t c ∷ []) long))
-          ∙ ap (failureState rules) (sym (trie .made c pos lt))
+      go : (b : Bool) → eqb (parent t c) (root (set .rules)) ≡ b
+          → (root (set .rules) < c) ⊎ ((c ≡ 0) × (0 < root (set .rules)))
+          → cond b (root (set .rules)) (transition rows (set .symbols) (failure t (parent t c)) (symbol t c))
+          ≡ number (states (set .rules)) (failureState (set .rules) (text (set .rules) c))
+      go true e (inl behind) =
+          let above : text (set .rules) (parent t c) ≡ [] = rw (eqb-true (parent t c) (root (set .rules)) e) (trie .root-empty) in
+          rw (trie .made c behind lt, above) (sym (number-root (set .rules)))
+      go true e (inr (first, pos)) =
+          rw (first, trie .mark-alone pos) (sym (number-root (set .rules)))
+      go false e (inr (first, pos)) = absurd (eqb-false (parent t c) (root (set .rules)) e (rw first (trie .mark-parent)))
+      go false e (inl behind) =
+          let high : parent t c ≢ root (set .rules) = eqb-false (parent t c) (root (set .rules)) e in
+          let below : parent t c < length (states (set .rules)) = omega (arith, trie .linked .up c behind lt) in
+          let v : List ℕ = text (set .rules) (parent t c) in
+          let long : 0 < length v = state-long (set .rules) (parent t c) high below in
+          let step : next (set .rules) (failureState (set .rules) v) (symbol t c) ≡ failureState (set .rules) (text (set .rules) c) =
+          state-snoc (set .rules) (drop 1 v) (symbol t c)
+          ∙ ap (state (set .rules)) (sym (drop-append-le 1 v (symbol t c ∷ []) long))
+          ∙ ap (failureState (set .rules)) (sym (trie .made c behind lt))
           in
           word high
-          ∙ ap (λ (u : List ℕ). number (states rules) (next rules u (symbol t c))) (fails-to rules v long (failure t (parent t c)) (up high) .string)
-          ∙ ap (number (states rules)) step
+          ∙ ap (λ (u : List ℕ). number (states (set .rules)) (next (set .rules) u (symbol t c)))
+          (fails-to (set .rules) v long (failure t (parent t c)) (up high) .string)
+          ∙ ap (number (states (set .rules))) step
 
 -- how the code finds it: by the parent p, which is not the root, the symbol a and the parent's failure state f
-module _ (t rows : List ℕ) (symbols q : ℕ) {p a f : ℕ} (up : p ≡ parent t q) (by : a ≡ symbol t q) (fails : f ≡ failure t p)
-    (high : p ≡ 0 → ⊥) where
-  pub word-inside : (0 < parent t q → failure t (parent t q) * symbols + symbol t q < length rows) → f * symbols + a < length rows
-  word-inside inside = rw (fails, by, up) (inside (omega (arith, high)))
+module _ (t rows : List ℕ) (symbols root q : ℕ) {p a f : ℕ} (up : p ≡ parent t q) (by : a ≡ symbol t q) (fails : f ≡ failure t p)
+    (high : p ≡ root → ⊥) where
+  pub word-inside : (parent t q ≢ root → failure t (parent t q) * symbols + symbol t q < length rows) → f * symbols + a < length rows
+  word-inside inside = rw (fails, by, up) (inside (λ e. high (up ∙ e)))
 
-  pub word-read : transition rows symbols f a ≡ failureBy t rows symbols q
+  pub word-read : transition rows symbols f a ≡ failureBy t rows symbols root q
   unfolding failureBy
-  word-read = rw (ne-eqb (parent t q) 0 (λ e. high (up ∙ e)), fails, by, up)
+  word-read = rw (ne-eqb (parent t q) root (λ e. high (up ∙ e)), fails, by, up)

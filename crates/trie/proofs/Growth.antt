@@ -9,15 +9,17 @@ use mathlib.Core.Option.{none}
 use mathlib.Core.List.{List, [], _∷_, _++_}
 use native.Mathlib.Omega.{arith}
 use native.Mathlib.Numerals.{add-one}
+use lib.Dec.{ltb}
 use lib.ListN.{length, getD, length-append, List·getD-append}
 use lib.Seq.{getD-at}
+use borrow.Author.Tests.{ltb-true, ltb-false}
 use Rattle.rewriting.specs.Lists.{same}
 use Rattle.rewriting.specs.Rules.{Rule}
-use Rattle.rewriting.specs.Occurrences.{lowest}
 use Rattle.rewriting.proofs.Lists.{same-eq, same-refl, last-or, same-or}
 use Rattle.trie.specs.declared.Walked.{Walked}
-use Rattle.layout.specs.States.{known, number, numbered}
+use Rattle.layout.specs.States.{mark, known, number, numbered}
 use Rattle.layout.specs.Table.{matchWord}
+use Rattle.layout.specs.Words.{own}
 use Rattle.trie.specs.Nodes.{
   parent,
   symbol,
@@ -46,63 +48,91 @@ use Rattle.trie.proofs.Nodes.{
   symbol-old,
   depth-old,
   matched-old,
+  failure-old,
   children-old,
   linked-added,
 }
 
-module _ (s : List (List ℕ)) (symbols : ℕ) (t : List ℕ) (h : Trie s symbols t) where
+module _ (root : ℕ) (s : List (List ℕ)) (symbols : ℕ) (t : List ℕ) (h : Trie root s symbols t) where
   -- no two nodes hold one state
   pub node-once : (i j : ℕ) → i < length s → j < length s → getD s i [] ≡ getD s j [] → i ≡ j
   node-once i j hi hj e = sym (h .once i hi) ∙ rw e (h .once j hj)
 
-  -- a state has a symbol more than its parent
-  pub parent-shorter : (c : ℕ) → 0 < c → c < length s → length (getD s c []) ≡ length (getD s (parent t c) []) + 1
-  parent-shorter c some lt = simp length-append at (ap length (h .made c some lt))
+  -- a node other than the root is behind it, or the mark's before it
+  pub node-cases : (c : ℕ) → (c ≡ root → ⊥) → (root < c) ⊎ ((c ≡ 0) × (0 < root))
+  node-cases c other = go (ltb root c) refl
+    where
+      go : (b : Bool) → ltb root c ≡ b → (root < c) ⊎ ((c ≡ 0) × (0 < root))
+      go true e = inl (ltb-true root c e)
+      go false e =
+          let low = ltb-false root c e in
+          inr (omega (arith, h .low-root, other), omega (arith, h .low-root, other))
+
+  -- its parent is a node, and its state is longer by one
+  pub parent-below : (c : ℕ) → (c ≡ root → ⊥) → c < length s → parent t c < length s
+  parent-below c other lt = go (node-cases c other)
+    where
+      go : (root < c) ⊎ ((c ≡ 0) × (0 < root)) → parent t c < length s
+      go (inl behind) = omega (arith, h .linked .up c behind lt)
+      go (inr (e, pos)) = rw (e, h .mark-parent) (h .some-node)
+
+  pub parent-shorter : (c : ℕ) → (c ≡ root → ⊥) → c < length s → length (getD s c []) ≡ length (getD s (parent t c) []) + 1
+  parent-shorter c other lt = go (node-cases c other)
+    where
+      go : (root < c) ⊎ ((c ≡ 0) × (0 < root)) → length (getD s c []) ≡ length (getD s (parent t c) []) + 1
+      go (inl behind) = simp length-append at (ap length (h .made c behind lt))
+      go (inr (e, pos)) = rw (e, h .mark-parent, h .mark-alone pos, h .root-empty)
+
+  -- a state with a symbol added is behind the root
+  snoc-behind : (v : List ℕ) (a c : ℕ) → a < symbols → getD s c [] ≡ v ++ a ∷ [] → root < c
+  snoc-behind v a c small e = go (node-cases c (λ p. snoc-some v a (sym e ∙ rw p (h .root-empty))))
+    where
+      go : (root < c) ⊎ ((c ≡ 0) × (0 < root)) → root < c
+      go (inl behind) = behind
+      go (inr (p, pos)) =
+          let parts = snoc-parts v [] a mark (sym e ∙ rw p (h .mark-alone pos)) in
+          absurd (omega (arith, h .few, parts .1))
 
   -- the child of q by a holds q's state with a added
-  pub child-state : (q a c : ℕ) → IsChild t (length s) q a c → getD s c [] ≡ getD s q [] ++ a ∷ []
-  child-state q a c k = h .made c (k .some) (k .node) ∙ rw (k .of, k .by)
+  pub child-state : (q a c : ℕ) → IsChild root t (length s) q a c → getD s c [] ≡ getD s q [] ++ a ∷ []
+  child-state q a c k = h .made c (k .behind) (k .node) ∙ rw (k .of, k .by)
 
   -- and a node with that state is that child
-  pub state-child : (q a c : ℕ) → q < length s → c < length s → getD s c [] ≡ getD s q [] ++ a ∷ [] → IsChild t (length s) q a c
-  state-child q a c hq hc e =
-      let parts = snoc-parts (getD s (parent t c) []) (getD s q []) (symbol t c) a (sym (h .made c some hc) ∙ e) in
+  pub state-child : (q a c : ℕ) → a < symbols → q < length s → c < length s → getD s c [] ≡ getD s q [] ++ a ∷ []
+      → IsChild root t (length s) q a c
+  state-child q a c small hq hc e =
+      let behind = snoc-behind (getD s q []) a c small e in
+      let parts = snoc-parts (getD s (parent t c) []) (getD s q []) (symbol t c) a (sym (h .made c behind hc) ∙ e) in
       record {
-        some = some;
+        behind = behind;
         node = hc;
-        of = node-once (parent t c) q (omega (arith, h .linked .up c some hc)) hq (parts .0);
+        of = node-once (parent t c) q (omega (arith, h .linked .up c behind hc)) hq (parts .0);
         by = parts .1;
       }
-    where
-      some : 0 < c
-      some =
-          let z : c ≡ 0 → ⊥ = λ p. snoc-some (getD s q []) a (sym e ∙ rw p (h .root)) in
-          omega (arith, z)
 
   -- a state that is no node's child is new
-  pub no-child : (q a : ℕ) → q < length s → ((c : ℕ) → IsChild t (length s) q a c → ⊥) → known s (getD s q [] ++ a ∷ []) ≡ false
-  no-child q a hq missing = go (known s (getD s q [] ++ a ∷ [])) refl
+  pub no-child : (q a : ℕ) → a < symbols → q < length s → ((c : ℕ) → IsChild root t (length s) q a c → ⊥)
+      → known s (getD s q [] ++ a ∷ []) ≡ false
+  no-child q a small hq missing = go (known s (getD s q [] ++ a ∷ [])) refl
     where
       go : (b : Bool) → known s (getD s q [] ++ a ∷ []) ≡ b → b ≡ false
       go true e =
           let at = number-at s (getD s q [] ++ a ∷ []) e in
-          absurd (missing (number s (getD s q [] ++ a ∷ [])) (state-child q a (number s (getD s q [] ++ a ∷ [])) hq (at .0) (at .1)))
+          absurd (missing (number s (getD s q [] ++ a ∷ [])) (state-child q a (number s (getD s q [] ++ a ∷ [])) small hq (at .0) (at .1)))
       go false e = refl
 
   -- with a state its own beginning is known
-  pub known-shorter : (v : List ℕ) (a : ℕ) → known s (v ++ a ∷ []) ≡ true → known s v ≡ true
-  known-shorter v a e =
+  pub known-shorter : (v : List ℕ) (a : ℕ) → a < symbols → known s (v ++ a ∷ []) ≡ true → known s v ≡ true
+  known-shorter v a small e =
       let c = number s (v ++ a ∷ []) in
       let at = number-at s (v ++ a ∷ []) e in
-      let some : 0 < c =
-      (let z : c ≡ 0 → ⊥ = λ p. snoc-some v a (sym (at .1) ∙ rw p (h .root)) in omega (arith, z))
-      in
-      let up = h .linked .up c some (at .0) in
-      let parts = snoc-parts (getD s (parent t c) []) v (symbol t c) a (sym (h .made c some (at .0)) ∙ at .1) in
+      let behind = snoc-behind v a c small (at .1) in
+      let up = h .linked .up c behind (at .0) in
+      let parts = snoc-parts (getD s (parent t c) []) v (symbol t c) a (sym (h .made c behind (at .0)) ∙ at .1) in
       rw (parts .0) at (known-at s (parent t c) (omega (arith, at .0)))
 
 -- The trie with a new state: node q's, with symbol a added.
-module _ (s : List (List ℕ)) (symbols : ℕ) (t : List ℕ) (h : Trie s symbols t) (q a : ℕ) (hq : q < length s) (small : a < symbols)
+module _ (root : ℕ) (s : List (List ℕ)) (symbols : ℕ) (t : List ℕ) (h : Trie root s symbols t) (q a : ℕ) (hq : q < length s) (small : a < symbols)
     (room : 8 * length s + 7 < length t) (new : known s (getD s q [] ++ a ∷ []) ≡ false) where
   more-length : length (s ++ (getD s q [] ++ a ∷ []) ∷ []) ≡ suc (length s)
   more-length = rw length-append (omega arith)
@@ -118,7 +148,7 @@ module _ (s : List (List ℕ)) (symbols : ℕ) (t : List ℕ) (h : Trie s symbol
   unfolding known
   more-known v = known-append s ((getD s q [] ++ a ∷ []) ∷ []) v ∙ rw or-false
 
-  made′ : (c : ℕ) → 0 < c → c < suc (length s)
+  made′ : (c : ℕ) → root < c → c < suc (length s)
       → getD (s ++ (getD s q [] ++ a ∷ []) ∷ []) c []
       ≡ getD (s ++ (getD s q [] ++ a ∷ []) ∷ []) (parent (added t (length s) q a) c) [] ++ symbol (added t (length s) q a) c ∷ []
   made′ c some k = go (last-or (length s) c k)
@@ -133,7 +163,7 @@ module _ (s : List (List ℕ)) (symbols : ℕ) (t : List ℕ) (h : Trie s symbol
       go (inr e) =
           rw (e, added-parent t (length s) q a hq room, added-symbol t (length s) q a hq room, more-new, more-old q hq)
 
-  small′ : (c : ℕ) → 0 < c → c < suc (length s) → symbol (added t (length s) q a) c < symbols
+  small′ : (c : ℕ) → root < c → c < suc (length s) → symbol (added t (length s) q a) c < symbols
   small′ c some k = go (last-or (length s) c k)
     where
       go : (c < length s) ⊎ (c ≡ length s) → symbol (added t (length s) q a) c < symbols
@@ -183,20 +213,20 @@ module _ (s : List (List ℕ)) (symbols : ℕ) (t : List ℕ) (h : Trie s symbol
           (tally-agree (λ b. known s (getD s c [] ++ b ∷ []))
           (λ b. known (s ++ (getD s q [] ++ a ∷ []) ∷ []) (getD s c [] ++ b ∷ [])) symbols
           (λ b _. sym
-          (rw (more-known (getD s c [] ++ b ∷ []), not-new (getD s c []) b (λ p _. other (node-once s symbols t h c q lt hq p)))
+          (rw (more-known (getD s c [] ++ b ∷ []), not-new (getD s c []) b (λ p _. other (node-once root s symbols t h c q lt hq p)))
           (or-false (known s (getD s c [] ++ b ∷ []))))))
       go (inr e) (inr other) =
           rw (e, children-old t (length s) q a hq room (length s) (omega arith) (rw e at other), more-new, h .clear (8 * length s + 5) (omega arith))
           (sym
           (tally-none (λ b. known (s ++ (getD s q [] ++ a ∷ []) ∷ []) (getD s q [] ++ a ∷ [] ++ b ∷ [])) symbols
-          (λ b _. rw (more-known (getD s q [] ++ a ∷ [] ++ b ∷ []), unknown b, longer b))))
+          (λ b low. rw (more-known (getD s q [] ++ a ∷ [] ++ b ∷ []), unknown b low, longer b))))
         where
-          unknown : (b : ℕ) → known s (getD s q [] ++ a ∷ [] ++ b ∷ []) ≡ false
-          unknown b = test (known s (getD s q [] ++ a ∷ [] ++ b ∷ [])) refl
+          unknown : (b : ℕ) → b < symbols → known s (getD s q [] ++ a ∷ [] ++ b ∷ []) ≡ false
+          unknown b low = test (known s (getD s q [] ++ a ∷ [] ++ b ∷ [])) refl
             where
               test : (x : Bool) → known s (getD s q [] ++ a ∷ [] ++ b ∷ []) ≡ x → x ≡ false
               test true p =
-                  let z : true ≡ false = sym (known-shorter s symbols t h (getD s q [] ++ a ∷ []) b p) ∙ new in
+                  let z : true ≡ false = sym (known-shorter root s symbols t h (getD s q [] ++ a ∷ []) b low p) ∙ new in
                   z
               test false p = refl
 
@@ -210,12 +240,17 @@ module _ (s : List (List ℕ)) (symbols : ℕ) (t : List ℕ) (h : Trie s symbol
       (λ e. omega arith) (λ e. omega arith)
       ∙ h .clear k (omega arith)
 
-  pub trie-added : Trie (s ++ (getD s q [] ++ a ∷ []) ∷ []) symbols (added t (length s) q a)
+  pub trie-added : Trie root (s ++ (getD s q [] ++ a ∷ []) ∷ []) symbols (added t (length s) q a)
   trie-added =
       record {
-        linked = rw more-length (linked-added t (length s) q a hq room (h .linked) (h .clear (8 * length s + 3) (omega arith)));
-        some-node = rw more-length (omega arith);
-        root = more-old 0 (h .some-node) ∙ h .root;
+        linked = rw more-length (linked-added root t (length s) q a hq room (h .linked) (h .clear (8 * length s + 3) (omega arith)));
+        low-root = h .low-root;
+        some-node = rw more-length (omega (arith, h .some-node));
+        root-empty = more-old root (h .some-node) ∙ h .root-empty;
+        mark-alone = λ pos. more-old 0 first ∙ h .mark-alone pos;
+        mark-parent = parent-old t (length s) q a hq room 0 first ∙ h .mark-parent;
+        mark-failure = failure-old t (length s) q a hq room 0 first ∙ h .mark-failure;
+        few = h .few;
         once = once-new s (getD s q [] ++ a ∷ []) new (h .once);
         made = rw more-length made′;
         small = rw more-length small′;
@@ -223,16 +258,19 @@ module _ (s : List (List ℕ)) (symbols : ℕ) (t : List ℕ) (h : Trie s symbol
         counted = rw more-length counted′;
         clear = rw more-length clear′;
       }
+    where
+      first : 0 < length s
+      first = omega (arith, h .some-node)
 
   -- its match word is 0, which is right if no rule has it as its left side
-  pub owned-added : (rules : List Rule) → Owned rules s t → lowest rules (getD s q [] ++ a ∷ []) ≡ none
+  pub owned-added : (rules : List Rule) → Owned rules s t → own rules (getD s q [] ++ a ∷ []) ≡ none
       → Owned rules (s ++ (getD s q [] ++ a ∷ []) ∷ []) (added t (length s) q a)
   unfolding matchWord
-  owned-added rules own low c k = go (last-or (length s) c (rw more-length at k))
+  owned-added rules owned low c k = go (last-or (length s) c (rw more-length at k))
     where
       go : (c < length s) ⊎ (c ≡ length s)
-          → matched (added t (length s) q a) c ≡ matchWord (lowest rules (getD (s ++ (getD s q [] ++ a ∷ []) ∷ []) c []))
-      go (inl lt) = rw (matched-old t (length s) q a hq room c lt, more-old c lt) (own c lt)
+          → matched (added t (length s) q a) c ≡ matchWord (own rules (getD (s ++ (getD s q [] ++ a ∷ []) ∷ []) c []))
+      go (inl lt) = rw (matched-old t (length s) q a hq room c lt, more-old c lt) (owned c lt)
       go (inr e) =
           rw (e, more-new, low)
           (added-other t (length s) q a hq room (8 * length s + 6) (λ e. omega arith) (λ e. omega arith) (λ e. omega arith)
@@ -240,15 +278,15 @@ module _ (s : List (List ℕ)) (symbols : ℕ) (t : List ℕ) (h : Trie s symbol
           ∙ h .clear (8 * length s + 6) (omega arith))
 
 -- A symbol followed from node q, whatever was there.
-module _ (s : List (List ℕ)) (symbols : ℕ) (t : List ℕ) (h : Trie s symbols t) (q a : ℕ) (hq : q < length s) (small : a < symbols)
+module _ (root : ℕ) (s : List (List ℕ)) (symbols : ℕ) (t : List ℕ) (h : Trie root s symbols t) (q a : ℕ) (hq : q < length s) (small : a < symbols)
     (room : 8 * length s + 7 < length t) where
   pub record Stepped (w : Walked) (t′ : List ℕ) : Type 0 where
-    pub trie : Trie (numbered s ((getD s q [] ++ a ∷ []) ∷ [])) symbols t′
+    pub trie : Trie root (numbered s ((getD s q [] ++ a ∷ []) ∷ [])) symbols t′
     pub nodes : w .nodes ≡ length (numbered s ((getD s q [] ++ a ∷ []) ∷ []))
     pub node : w .node < length (numbered s ((getD s q [] ++ a ∷ []) ∷ []))
     pub state : getD (numbered s ((getD s q [] ++ a ∷ []) ∷ [])) (w .node) [] ≡ getD s q [] ++ a ∷ []
     pub size : length t′ ≡ length t
-    pub owned : (rules : List Rule) → Owned rules s t → (known s (getD s q [] ++ a ∷ []) ≡ false → lowest rules (getD s q [] ++ a ∷ []) ≡ none)
+    pub owned : (rules : List Rule) → Owned rules s t → (known s (getD s q [] ++ a ∷ []) ≡ false → own rules (getD s q [] ++ a ∷ []) ≡ none)
         → Owned rules (numbered s ((getD s q [] ++ a ∷ []) ∷ [])) t′
 
   stays : known s (getD s q [] ++ a ∷ []) ≡ true → numbered s ((getD s q [] ++ a ∷ []) ∷ []) ≡ s
@@ -260,9 +298,9 @@ module _ (s : List (List ℕ)) (symbols : ℕ) (t : List ℕ) (h : Trie s symbol
   unfolding numbered
   grows e = rw e
 
-  stepped-found : (w : Walked) (t′ : List ℕ) → Found t (length s) q a w t′ → Stepped w t′
+  stepped-found : (w : Walked) (t′ : List ℕ) → Found root t (length s) q a w t′ → Stepped w t′
   stepped-found w t′ f =
-      let there = child-state s symbols t h q a (w .node) (f .child) in
+      let there = child-state root s symbols t h q a (w .node) (f .child) in
       let old : known s (getD s q [] ++ a ∷ []) ≡ true = rw there at (known-at s (w .node) (f .child .node)) in
       record {
         trie = rw (stays old, f .kept) h;
@@ -270,22 +308,22 @@ module _ (s : List (List ℕ)) (symbols : ℕ) (t : List ℕ) (h : Trie s symbol
         node = rw (stays old) (f .child .node);
         state = rw (stays old) there;
         size = ap length (f .kept);
-        owned = λ rules own low. rw (stays old, f .kept) own;
+        owned = λ rules owned low. rw (stays old, f .kept) owned;
       }
 
-  stepped-new : (w : Walked) (t′ : List ℕ) → New t (length s) q a w t′ → Stepped w t′
+  stepped-new : (w : Walked) (t′ : List ℕ) → New root t (length s) q a w t′ → Stepped w t′
   stepped-new w t′ f =
-      let new = no-child s symbols t h q a hq (f .none) in
-      let longer = more-length s symbols t h q a hq small room new in
+      let new = no-child root s symbols t h q a small hq (f .none) in
+      let longer = more-length root s symbols t h q a hq small room new in
       record {
-        trie = rw (grows new, f .grown) (trie-added s symbols t h q a hq small room new);
+        trie = rw (grows new, f .grown) (trie-added root s symbols t h q a hq small room new);
         nodes = rw (grows new, longer) (f .nodes ∙ add-one (length s));
         node = rw (grows new, longer, f .node) (omega arith);
-        state = rw (grows new, f .node) (more-new s symbols t h q a hq small room new);
+        state = rw (grows new, f .node) (more-new root s symbols t h q a hq small room new);
         size = rw (f .grown) (added-size t (length s) q a hq room);
-        owned = λ rules own low. rw (grows new, f .grown) (owned-added s symbols t h q a hq small room new rules own (low new));
+        owned = λ rules owned low. rw (grows new, f .grown) (owned-added root s symbols t h q a hq small room new rules owned (low new));
       }
 
-  pub stepped : (w : Walked) (t′ : List ℕ) → Followed t (length s) q a w t′ → Stepped w t′
+  pub stepped : (w : Walked) (t′ : List ℕ) → Followed root t (length s) q a w t′ → Stepped w t′
   stepped w t′ (inl f) = stepped-found w t′ f
   stepped w t′ (inr f) = stepped-new w t′ f

@@ -1,4 +1,4 @@
--- The trie stays the trie where only match words and failure states change: where a rule is marked, where a filled state's
+-- The trie stays the trie where only match words and failure states change: where a rule claims its node, where a filled state's
 -- failure state and match word are noted (Filling.antt), and where a check keeps a failure state.
 -- Assumes nothing.
 use Prim.Native.Nat.{ℕ, _+_, _*_, _<_}
@@ -10,7 +10,7 @@ use native.Mathlib.Omega.{arith}
 use lib.Dec.{eqb}
 use lib.ListN.{length, getD, set, length-set}
 use lib.Seq.{getD-set-same, getD-set-other}
-use Rattle.trie.specs.Nodes.{parent, symbol, youngest, older, children, matched, failure, Linked, Trie, marked}
+use Rattle.trie.specs.Nodes.{parent, symbol, youngest, older, children, matched, failure, Linked, Trie, claimed}
 
 -- t′ is t but for match words and failure states of the first n nodes
 pub record Kept (n : ℕ) (t t′ : List ℕ) : Type 0 where
@@ -36,7 +36,7 @@ module _ {n : ℕ} {t t′ : List ℕ} (kept : Kept n t t′) where
   older-kept : (c : ℕ) → older t′ c ≡ older t c
   older-kept c = word-kept c 4 (omega arith)
 
-  linked-kept : Linked t n → Linked t′ n
+  linked-kept : {root : ℕ} → Linked root t n → Linked root t′ n
   linked-kept l =
       record {
         size = rw (kept .size) (l .size);
@@ -49,12 +49,19 @@ module _ {n : ℕ} {t t′ : List ℕ} (kept : Kept n t t′) where
         old-next = λ c b pos h pos₂ k e. rw (older-kept c) (l .old-next c b pos h pos₂ k (sym (parent-kept b) ∙ e ∙ parent-kept c));
       }
 
-pub trie-kept : {s : List (List ℕ)} {symbols : ℕ} {t t′ : List ℕ} → Kept (length s) t t′ → Trie s symbols t → Trie s symbols t′
-trie-kept {s} kept h =
+-- where the mark's failure state is kept too
+pub trie-kept : {root : ℕ} {s : List (List ℕ)} {symbols : ℕ} {t t′ : List ℕ} → Kept (length s) t t′ → failure t′ 0 ≡ root
+    → Trie root s symbols t → Trie root s symbols t′
+trie-kept {root} {s} kept fails h =
     record {
       linked = linked-kept kept (h .linked);
+      low-root = h .low-root;
       some-node = h .some-node;
-      root = h .root;
+      root-empty = h .root-empty;
+      mark-alone = h .mark-alone;
+      mark-parent = parent-kept kept 0 ∙ h .mark-parent;
+      mark-failure = fails;
+      few = h .few;
       once = h .once;
       made = λ c pos k. rw (parent-kept kept c, symbol-kept kept c) (h .made c pos k);
       small = λ c pos k. rw (symbol-kept kept c) (h .small c pos k);
@@ -63,26 +70,26 @@ trie-kept {s} kept h =
       clear = λ k far. kept .rest k (λ c lt e. omega arith) (λ c lt e. omega arith) ∙ h .clear k far;
     }
 
--- rule i marked at node q: its match word alone may change
+-- rule i claims node q: its match word alone may change
 module _ (t : List ℕ) (q i : ℕ) where
-  marked-size : length (marked t q i) ≡ length t
-  unfolding marked
-  marked-size = go (eqb (matched t q) 0)
+  claimed-size : length (claimed t q i) ≡ length t
+  unfolding claimed
+  claimed-size = go (eqb (matched t q) 0)
     where
       go : (b : Bool) → length (cond b (set t (8 * q + 6) (i + 1)) t) ≡ length t
       go true = length-set t (8 * q + 6) (i + 1)
       go false = refl
 
-  pub marked-other : (k : ℕ) → k ≢ 8 * q + 6 → getD (marked t q i) k 0 ≡ getD t k 0
-  unfolding marked
-  marked-other k other = go (eqb (matched t q) 0)
+  pub claimed-other : (k : ℕ) → k ≢ 8 * q + 6 → getD (claimed t q i) k 0 ≡ getD t k 0
+  unfolding claimed
+  claimed-other k other = go (eqb (matched t q) 0)
     where
       go : (b : Bool) → getD (cond b (set t (8 * q + 6) (i + 1)) t) k 0 ≡ getD t k 0
       go true = getD-set-other t (8 * q + 6) k (i + 1) 0 other
       go false = refl
 
-  pub marked-kept : {n : ℕ} → q < n → Kept n t (marked t q i)
-  marked-kept h = record { size = marked-size; rest = λ k d₆ _. marked-other k (d₆ q h) }
+  pub claimed-kept : {n : ℕ} → q < n → Kept n t (claimed t q i)
+  claimed-kept h = record { size = claimed-size; rest = λ k d₆ _. claimed-other k (d₆ q h) }
 
 -- the failure state of node q kept, and nothing else
 module _ (t : List ℕ) (q f : ℕ) where

@@ -10,11 +10,11 @@ use lib.ListN.{length, getD, replicate, getD-replicate, set as store}
 use lib.Seq.{getD-set-same, getD-set-other}
 use borrow.Author.Tests.{ltb-true, ltb-false, eqb-true, eqb-false, lt-ltb, le-ltb}
 use Rattle.rewriting.specs.Rules.{Rule, RuleSet, inRange}
-use Rattle.layout.specs.States.{known, states, number}
-use Rattle.layout.specs.Words.{text, transition}
-use Rattle.trie.specs.Nodes.{parent, symbol, Trie}
+use Rattle.layout.specs.States.{mark, known, states, number}
+use Rattle.layout.specs.Words.{root, text, transition}
+use Rattle.trie.specs.Nodes.{parent, symbol, TrieOf}
 use Rattle.trie.specs.Rows.{childNumber, Laid}
-use Rattle.layout.proofs.States.{number-at, known-at, number-back, child-some, few-states}
+use Rattle.layout.proofs.States.{number-at, known-at, number-back, child-behind, few-states}
 use Rattle.layout.proofs.RowPlaces.{row-end, place-row}
 use Rattle.trie.proofs.Growth.{state-child}
 
@@ -52,13 +52,15 @@ module _ (s : List (List ℕ)) where
       go true e = rw (lt-ltb (number s (v ++ a ∷ [])) (length s) (number-at s (v ++ a ∷ []) e .0))
       go false e = refl
 
-below-none : (rules : List Rule) (v : List ℕ) (a : ℕ) → numberBelow (states rules) 1 (v ++ a ∷ []) ≡ 0
+-- no child's number is at or before the root's
+below-none : (rules : List Rule) (v : List ℕ) (a : ℕ) → a < mark → numberBelow (states rules) (root rules + 1) (v ++ a ∷ []) ≡ 0
 unfolding numberBelow
-below-none rules v a = go (known (states rules) (v ++ a ∷ [])) refl
+below-none rules v a small = go (known (states rules) (v ++ a ∷ [])) refl
   where
     go : (b : Bool) → known (states rules) (v ++ a ∷ []) ≡ b
-        → cond (b && ltb (number (states rules) (v ++ a ∷ [])) 1) (number (states rules) (v ++ a ∷ [])) 0 ≡ 0
-    go true e = rw (le-ltb (number (states rules) (v ++ a ∷ [])) 1 (omega (arith, child-some rules v a e)))
+        → cond (b && ltb (number (states rules) (v ++ a ∷ [])) (root rules + 1)) (number (states rules) (v ++ a ∷ [])) 0 ≡ 0
+    go true e =
+        rw (le-ltb (number (states rules) (v ++ a ∷ [])) (root rules + 1) (omega (arith, child-behind rules v a small e)))
     go false e = refl
 
 -- the rows have the children below c
@@ -67,8 +69,8 @@ LaidBelow set rows c = (q a : ℕ) → q < length (states (set .rules)) → a < 
     → transition rows (set .symbols) q a ≡ numberBelow (states (set .rules)) c (text (set .rules) q ++ a ∷ [])
 
 -- one more node's number is laid into the row of its parent
-pub laid-more : (set : RuleSet) (t rows : List ℕ) (c : ℕ) → Trie (states (set .rules)) (set .symbols) t
-    → length rows ≡ length (states (set .rules)) * set .symbols → 0 < c → c < length (states (set .rules))
+pub laid-more : (set : RuleSet) (t rows : List ℕ) (c : ℕ) → TrieOf set t
+    → length rows ≡ length (states (set .rules)) * set .symbols → root (set .rules) < c → c < length (states (set .rules))
     → LaidBelow set rows c → LaidBelow set (store rows (parent t c * set .symbols + symbol t c) c) (c + 1)
 laid-more set t rows c trie size pos below laid q a h k = go (eqb (q * set .symbols + a) place) refl
   where
@@ -105,18 +107,19 @@ laid-more set t rows c trie size pos below laid q a h k = go (eqb (q * set .symb
         meets : known s (text (set .rules) q ++ a ∷ []) ≡ true → number s (text (set .rules) q ++ a ∷ []) ≡ c → q * set .symbols + a ≡ place
         meets k₂ e₂ =
             let child =
-            state-child s (set .symbols) t trie q a c h below
+            state-child (root (set .rules)) s (set .symbols) t trie q a c k h below
             (ap (λ (i : ℕ). getD s i []) (sym e₂) ∙ number-at s (text (set .rules) q ++ a ∷ []) k₂ .1)
             in
             rw (child .of, child .by)
 
 -- all words 0: no child is laid yet
-pub laid-none : (set : RuleSet) (rows : List ℕ) → rows ≡ replicate (length (states (set .rules)) * set .symbols) 0 → LaidBelow set rows 1
-laid-none set rows e q a h k =
+pub laid-none : (set : RuleSet) (rows : List ℕ) → set .symbols ≤ mark → rows ≡ replicate (length (states (set .rules)) * set .symbols) 0
+    → LaidBelow set rows (root (set .rules) + 1)
+laid-none set rows few e q a h k =
     let fits = row-end (set .symbols) q (length (states (set .rules))) h in
     ap (λ (l : List ℕ). getD l (q * set .symbols + a) 0) e
     ∙ getD-replicate (length (states (set .rules)) * set .symbols) (q * set .symbols + a) 0 0 (omega arith)
-    ∙ sym (below-none (set .rules) (text (set .rules) q) a)
+    ∙ sym (below-none (set .rules) (text (set .rules) q) a (omega arith))
 
 -- every child is laid
 pub laid-all : (set : RuleSet) (rows : List ℕ) → length rows ≡ length (states (set .rules)) * set .symbols
@@ -131,9 +134,9 @@ pub record Within (t rows : List ℕ) (symbols c : ℕ) : Type 0 where
   pub place : parent t c * symbols + symbol t c < length rows
   pub few : c < 65536
 
-pub within : (set : RuleSet) (t rows : List ℕ) → inRange set ≡ true → Trie (states (set .rules)) (set .symbols) t
+pub within : (set : RuleSet) (t rows : List ℕ) → inRange set ≡ true → TrieOf set t
     → length rows ≡ length (states (set .rules)) * set .symbols
-    → (c : ℕ) → 0 < c → c < length (states (set .rules)) → Within t rows (set .symbols) c
+    → (c : ℕ) → root (set .rules) < c → c < length (states (set .rules)) → Within t rows (set .symbols) c
 within set t rows e trie size c pos below =
     let n : ℕ = length (states (set .rules)) in
     let room : 8 * n ≤ length t = trie .linked .size in

@@ -8,44 +8,58 @@ use native.Mathlib.Omega.{arith}
 use lib.ListN.{length, getD, set, length-set}
 use lib.Seq.{getD-set-same, getD-set-other}
 use Rattle.rewriting.proofs.Lists.{last-or, same-or}
-use Rattle.trie.specs.Nodes.{parent, symbol, depth, youngest, older, children, matched, Linked, IsChild, ChildOr, added}
+use Rattle.trie.specs.Nodes.{
+  parent,
+  symbol,
+  depth,
+  youngest,
+  older,
+  children,
+  matched,
+  failure,
+  Linked,
+  IsChild,
+  ChildOr,
+  added,
+}
 
--- While a child of q by symbol a is looked for, c is 0 or a child of q, and no child by a is younger.
-abbrev pub Searching : List ℕ → ℕ → ℕ → ℕ → ℕ → Type 0
-Searching t n q a c = (c < n) × (0 < c → parent t c ≡ q) × ((b : ℕ) → IsChild t n q a b → b ≤ c)
+-- While a child of q by symbol a is looked for, c is a child of q, or none where it is not behind the root, and no child by a is
+-- younger.
+abbrev pub Searching : ℕ → List ℕ → ℕ → ℕ → ℕ → ℕ → Type 0
+Searching root t n q a c = (c < n) × (root < c → parent t c ≡ q) × ((b : ℕ) → IsChild root t n q a b → b ≤ c)
 
-module _ (t : List ℕ) (n q a : ℕ) where
-  pub search-first : Linked t n → q < n → (c : ℕ) → c ≡ youngest t q → Searching t n q a c
+module _ (root : ℕ) (t : List ℕ) (n q a : ℕ) where
+  pub search-first : Linked root t n → q < n → (c : ℕ) → c ≡ youngest t q → Searching root t n q a c
   search-first l h c e =
-      rw e (l .young q h, l .young-of q h, λ b k. l .young-last q b h (k .some) (k .node) (k .of))
+      rw e (l .young q h, l .young-of q h, λ b k. l .young-last q b h (k .behind) (k .node) (k .of))
 
-  pub search-next : Linked t n → (c : ℕ) → Searching t n q a c → 0 < c → (symbol t c ≡ a → ⊥) → (c′ : ℕ) → c′ ≡ older t c
-      → Searching t n q a c′
+  pub search-next : Linked root t n → (c : ℕ) → Searching root t n q a c → root < c → (symbol t c ≡ a → ⊥) → (c′ : ℕ) → c′ ≡ older t c
+      → Searching root t n q a c′
   search-next l c s h other c′ e =
-      rw e (less, λ k. l .old-of c h (s .0) k ∙ s .1 h, λ b k. l .old-next c b h (s .0) (k .some) (before b k) (k .of ∙ sym (s .1 h)))
+      rw e (less, λ k. l .old-of c h (s .0) k ∙ s .1 h, λ b k. l .old-next c b h (s .0) (k .behind) (before b k) (k .of ∙ sym (s .1 h)))
     where
       less : older t c < n
       less = omega (arith, l .old c h (s .0), s .0)
 
-      before : (b : ℕ) → IsChild t n q a b → b < c
+      before : (b : ℕ) → IsChild root t n q a b → b < c
       before b k =
           let here : b ≡ c → ⊥ = λ p. other (ap (λ (x : ℕ). symbol t x) (sym p) ∙ k .by) in
           omega (arith, s .2 b k, here)
 
-  pub search-found : (c : ℕ) → Searching t n q a c → 0 < c → symbol t c ≡ a → ChildOr t n q a c
-  search-found c s h e = inl (record { some = h; node = s .0; of = s .1 h; by = e })
+  pub search-found : (c : ℕ) → Searching root t n q a c → root < c → symbol t c ≡ a → ChildOr root t n q a c
+  search-found c s h e = inl (record { behind = h; node = s .0; of = s .1 h; by = e })
 
-  pub search-none : (c : ℕ) → Searching t n q a c → c ≤ 0 → ChildOr t n q a n
-  search-none c s h = inr (refl, λ b k. omega (arith, s .2 b k, k .some))
+  pub search-none : (c : ℕ) → Searching root t n q a c → c ≤ root → ChildOr root t n q a n
+  search-none c s h = inr (refl, λ b k. omega (arith, s .2 b k, k .behind))
 
 -- what a search found, by whether it is one of the n nodes
-pub child-there : (t : List ℕ) (n q a r : ℕ) → ChildOr t n q a r → r < n → IsChild t n q a r
-child-there t n q a r (inl k) h = k
-child-there t n q a r (inr k) h = absurd (omega (arith, k .0))
+pub child-there : (root : ℕ) (t : List ℕ) (n q a r : ℕ) → ChildOr root t n q a r → r < n → IsChild root t n q a r
+child-there root t n q a r (inl k) h = k
+child-there root t n q a r (inr k) h = absurd (omega (arith, k .0))
 
-pub child-missing : (t : List ℕ) (n q a r : ℕ) → ChildOr t n q a r → n ≤ r → (c : ℕ) → IsChild t n q a c → ⊥
-child-missing t n q a r (inl k) h = absurd (omega (arith, k .node))
-child-missing t n q a r (inr k) h = k .1
+pub child-missing : (root : ℕ) (t : List ℕ) (n q a r : ℕ) → ChildOr root t n q a r → n ≤ r → (c : ℕ) → IsChild root t n q a c → ⊥
+child-missing root t n q a r (inl k) h = absurd (omega (arith, k .node))
+child-missing root t n q a r (inr k) h = k .1
 
 -- Adding node n as a child of q by symbol a: the trie after each store but the last.
 module _ (t : List ℕ) (n q a : ℕ) where
@@ -166,6 +180,9 @@ module _ (t : List ℕ) (n q a : ℕ) (lt : q < n) (room : 8 * n + 7 < length t)
   pub matched-old : (c : ℕ) → c < n → matched (added t n q a) c ≡ matched t c
   matched-old c h = word-old c 6 h (omega arith) (λ e. omega arith) (λ e. omega arith)
 
+  pub failure-old : (c : ℕ) → c < n → failure (added t n q a) c ≡ failure t c
+  failure-old c h = word-old c 7 h (omega arith) (λ e. omega arith) (λ e. omega arith)
+
   pub youngest-old : (c : ℕ) → c < suc n → c ≢ q → youngest (added t n q a) c ≡ youngest t c
   youngest-old c h other =
       added-other (8 * c + 3) (λ e. omega arith) (λ e. omega arith) (λ e. omega arith) (λ e. omega arith)
@@ -177,8 +194,9 @@ module _ (t : List ℕ) (n q a : ℕ) (lt : q < n) (room : 8 * n + 7 < length t)
       (λ e. other (omega arith))
 
 -- the links hold with the new node
-module _ (t : List ℕ) (n q a : ℕ) (lt : q < n) (room : 8 * n + 7 < length t) (l : Linked t n) (none : youngest t n ≡ 0) where
-  up′ : (c : ℕ) → 0 < c → c < suc n → parent (added t n q a) c < c
+module _ (root : ℕ) (t : List ℕ) (n q a : ℕ) (lt : q < n) (room : 8 * n + 7 < length t) (l : Linked root t n)
+    (none : youngest t n ≡ 0) where
+  up′ : (c : ℕ) → root < c → c < suc n → parent (added t n q a) c < c
   up′ c some h = go (last-or n c h)
     where
       go : (c < n) ⊎ (c ≡ n) → parent (added t n q a) c < c
@@ -196,10 +214,10 @@ module _ (t : List ℕ) (n q a : ℕ) (lt : q < n) (room : 8 * n + 7 < length t)
       go (inl k) (inr other) = rw (youngest-old t n q a lt room p h other) (omega (arith, l .young p k))
       go (inr e) (inr other) = rw (e, young-new) (omega arith)
 
-  young-of′ : (p : ℕ) → p < suc n → 0 < youngest (added t n q a) p → parent (added t n q a) (youngest (added t n q a) p) ≡ p
+  young-of′ : (p : ℕ) → p < suc n → root < youngest (added t n q a) p → parent (added t n q a) (youngest (added t n q a) p) ≡ p
   young-of′ p h = go (last-or n p h) (same-or q p)
     where
-      go : (p < n) ⊎ (p ≡ n) → (p ≡ q) ⊎ (p ≢ q) → 0 < youngest (added t n q a) p
+      go : (p < n) ⊎ (p ≡ n) → (p ≡ q) ⊎ (p ≢ q) → root < youngest (added t n q a) p
           → parent (added t n q a) (youngest (added t n q a) p) ≡ p
       go k (inl e) some = rw (e, added-youngest t n q a lt room) (added-parent t n q a lt room)
       go (inl k) (inr other) some =
@@ -207,7 +225,7 @@ module _ (t : List ℕ) (n q a : ℕ) (lt : q < n) (room : 8 * n + 7 < length t)
           rw y (parent-old t n q a lt room (youngest t p) (l .young p k) ∙ l .young-of p k (rw y at some))
       go (inr e) (inr other) some = absurd (omega (arith, rw (e, young-new) at some))
 
-  young-last′ : (p c : ℕ) → p < suc n → 0 < c → c < suc n → parent (added t n q a) c ≡ p → c ≤ youngest (added t n q a) p
+  young-last′ : (p c : ℕ) → p < suc n → root < c → c < suc n → parent (added t n q a) c ≡ p → c ≤ youngest (added t n q a) p
   young-last′ p c h some k e = go (last-or n c k) (same-or q p) (last-or n p h)
     where
       go : (c < n) ⊎ (c ≡ n) → (p ≡ q) ⊎ (p ≢ q) → (p < n) ⊎ (p ≡ n) → c ≤ youngest (added t n q a) p
@@ -219,18 +237,18 @@ module _ (t : List ℕ) (n q a : ℕ) (lt : q < n) (room : 8 * n + 7 < length t)
           let d : parent t c ≡ p = sym (parent-old t n q a lt room c x) ∙ e in
           absurd (omega (arith, l .up c some x))
 
-  old′ : (c : ℕ) → 0 < c → c < suc n → older (added t n q a) c < c
+  old′ : (c : ℕ) → root < c → c < suc n → older (added t n q a) c < c
   old′ c some h = go (last-or n c h)
     where
       go : (c < n) ⊎ (c ≡ n) → older (added t n q a) c < c
       go (inl k) = rw (older-old t n q a lt room c k) (l .old c some k)
       go (inr e) = rw (e, added-older t n q a lt room) (l .young q lt)
 
-  old-of′ : (c : ℕ) → 0 < c → c < suc n → 0 < older (added t n q a) c
+  old-of′ : (c : ℕ) → root < c → c < suc n → root < older (added t n q a) c
       → parent (added t n q a) (older (added t n q a) c) ≡ parent (added t n q a) c
   old-of′ c some h = go (last-or n c h)
     where
-      go : (c < n) ⊎ (c ≡ n) → 0 < older (added t n q a) c
+      go : (c < n) ⊎ (c ≡ n) → root < older (added t n q a) c
           → parent (added t n q a) (older (added t n q a) c) ≡ parent (added t n q a) c
       go (inl k) more =
           let o = older-old t n q a lt room c k in
@@ -242,7 +260,7 @@ module _ (t : List ℕ) (n q a : ℕ) (lt : q < n) (room : 8 * n + 7 < length t)
           rw (e, o, added-parent t n q a lt room)
           (parent-old t n q a lt room (youngest t q) (l .young q lt) ∙ l .young-of q lt (rw (e, o) at more))
 
-  old-next′ : (c b : ℕ) → 0 < c → c < suc n → 0 < b → b < c → parent (added t n q a) b ≡ parent (added t n q a) c
+  old-next′ : (c b : ℕ) → root < c → c < suc n → root < b → b < c → parent (added t n q a) b ≡ parent (added t n q a) c
       → b ≤ older (added t n q a) c
   old-next′ c b some h pos less = go (last-or n c h)
     where
@@ -257,7 +275,7 @@ module _ (t : List ℕ) (n q a : ℕ) (lt : q < n) (room : 8 * n + 7 < length t)
           (l .young-last q b lt pos bn
           (sym (parent-old t n q a lt room b bn) ∙ e ∙ rw (d, added-parent t n q a lt room)))
 
-  pub linked-added : Linked (added t n q a) (suc n)
+  pub linked-added : Linked root (added t n q a) (suc n)
   linked-added =
       record {
         size = rw (added-size t n q a lt room) (omega arith);

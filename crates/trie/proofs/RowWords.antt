@@ -1,4 +1,4 @@
--- What the stores to rows and nodes leave there: rows merged, a failure state and a match word noted.
+-- What the stores to rows and nodes leave there: the root's row filled, rows merged, a failure state and a match word noted.
 -- Assumes nothing.
 use Prim.Native.Nat.{ℕ, _+_, _*_, _≤_, _<_}
 use mathlib.Core.Path.{_≡_, refl, _∙_}
@@ -13,7 +13,7 @@ use lib.Seq.{getD-set-same, getD-set-other}
 use borrow.Author.Tests.{eqb-true, eqb-false}
 use Rattle.layout.specs.Words.{transition, ownOr}
 use Rattle.trie.specs.Nodes.{matched}
-use Rattle.trie.specs.Rows.{Merged, Noted}
+use Rattle.trie.specs.Rows.{Rooted, Merged, Noted}
 use Rattle.layout.proofs.RowPlaces.{row-order}
 
 -- before the first word is merged
@@ -50,6 +50,34 @@ merged-more rows rows′ s q f a fits h m v e =
     own b k false p =
         let differs = eqb-false b a p in
         getD-set-other rows′ (q * s + a) (q * s + b) v 0 (λ x. differs (omega arith)) ∙ m .own b (omega arith)
+
+-- the root's row, word by word
+pub rooted-none : (rows : List ℕ) (s root : ℕ) → Rooted rows rows s root 0
+rooted-none rows s root =
+    record { size = refl; own = λ a h. absurd (not-suc-le-zero h); before = λ k h. refl; behind = λ k h. refl }
+
+pub rooted-more : (rows rows′ : List ℕ) (s root a : ℕ) → root * s + s ≤ length rows → a < s → Rooted rows rows′ s root a → (v : ℕ)
+    → v ≡ ownOr (transition rows′ s root a) root → Rooted rows (set rows′ (root * s + a) v) s root (a + 1)
+rooted-more rows rows′ s root a fits h m v e =
+    record {
+      size = length-set rows′ (root * s + a) v ∙ m .size;
+      own = λ b k. own b k (eqb b a) refl;
+      before = λ k l. getD-set-other rows′ (root * s + a) k v 0 (λ p. omega arith) ∙ m .before k l;
+      behind = λ k l. getD-set-other rows′ (root * s + a) k v 0 (λ p. omega arith) ∙ m .behind k (omega arith);
+    }
+  where
+    here : getD rows′ (root * s + a) 0 ≡ getD rows (root * s + a) 0
+    here = m .behind (root * s + a) (omega arith)
+
+    own : (b : ℕ) → b < a + 1 → (t : Bool) → eqb b a ≡ t
+        → transition (set rows′ (root * s + a) v) s root b ≡ ownOr (transition rows s root b) root
+    own b k true p =
+        let same : b ≡ a = eqb-true b a p in
+        let size = m .size in
+        rw (same, getD-set-same rows′ (root * s + a) v 0 (omega arith), ← here) e
+    own b k false p =
+        let differs = eqb-false b a p in
+        getD-set-other rows′ (root * s + a) (root * s + b) v 0 (λ x. differs (omega arith)) ∙ m .own b (omega arith)
 
 -- the failure state and the match word of a node are stored
 pub noted : (t : List ℕ) (q f m : ℕ) → 8 * q + 7 < length t → m ≡ ownOr (matched t q) (matched t f)

@@ -1,38 +1,55 @@
--- The walk along one left side, from the root of the trie of the rules before it.
+-- The walk along one left side, from the root or the mark, in the trie of the rules before it.
 -- Assumes nothing.
 use Prim.Native.Nat.{ℕ, zero, suc, _+_, _*_, _≤_, _<_}
 use mathlib.Core.Path.{_≡_, refl, sym, ap, _∙_}
-use mathlib.Core.Bool.{Bool, true, false, cond}
+use mathlib.Core.Bool.{Bool, true, false, cond, _||_}
 use mathlib.Core.Option.{none}
-use mathlib.Core.List.{List, [], _∷_, _++_, map, flatMap, append-nil, append-assoc}
+use mathlib.Core.List.{List, [], _∷_, _++_, map, flatMap, append-nil}
 use native.Mathlib.Omega.{arith}
 use native.Mathlib.Nat.{le-of-suc-le-suc, not-suc-le-zero, min-le-left}
 use lib.Dec.{ltb}
 use lib.ListN.{length, getD, take, length-append, length-take}
 use lib.Seq.{take-suc, take-all}
 use borrow.Author.Tests.{ltb-true}
-use Rattle.rewriting.specs.Lists.{same}
 use Rattle.rewriting.specs.Rules.{Rule, RuleSet, rule, inRange}
-use Rattle.rewriting.specs.Occurrences.{lowest}
-use Rattle.rewriting.proofs.Lists.{all-at, or-left, or-right}
+use Rattle.rewriting.proofs.Lists.{all-at, or-left, or-right, flatMap-snoc}
 use Rattle.rewriting.proofs.Ranges.{ranges, rule-at}
 use Rattle.layout.specs.Image.{body, read, valid}
 use Rattle.layout.specs.Places.{leftAt}
 use Rattle.layout.proofs.Image.{valid-in-range}
 use Rattle.layout.proofs.Places.{left-within, left-symbol, body-left}
 use Rattle.trie.specs.declared.Walked.{Walked}
-use Rattle.layout.specs.States.{isPrefix, prefixes, known, numbered, states}
-use Rattle.trie.specs.Nodes.{depth, children, Linked, Trie, Owned, Followed, Grown, FollowedRule, Roomy}
-use Rattle.layout.proofs.Matching.{lowest-no-prefix}
-use Rattle.layout.proofs.States.{known-numbered, known-states, length-numbered, length-prefixes, few-prefixes}
+use Rattle.layout.specs.States.{mark, pattern, isPrefix, prefixes, known, numbered, hasMark, firstStates}
+use Rattle.layout.specs.Words.{root, own}
+use Rattle.trie.specs.Nodes.{
+  depth,
+  children,
+  Linked,
+  Trie,
+  Owned,
+  Followed,
+  firstNode,
+  statesOf,
+  Grown,
+  FollowedRule,
+  Roomy,
+}
+use Rattle.layout.proofs.Matching.{own-no-prefix}
+use Rattle.layout.proofs.States.{
+  known-numbered,
+  allPrefixes,
+  first-or-later,
+  first-few,
+  first-known,
+  numbered-append,
+  numbered-known,
+  length-numbered,
+  length-prefixes,
+  few-numbered,
+  few-left,
+}
 use Rattle.trie.proofs.Tally.{tally-most}
 use Rattle.trie.proofs.Growth.{Stepped, stepped}
-
--- strings get their numbers one after another
-numbered-append : (s u v : List (List ℕ)) → numbered s (u ++ v) ≡ numbered (numbered s u) v
-unfolding numbered
-numbered-append s [] v = refl
-numbered-append s (x ∷ u) v = numbered-append (cond (known s x) s (s ++ x ∷ [])) u v
 
 -- the prefixes of a left side, by their lengths
 prefix-at : (l : List ℕ) (j : ℕ) → j < length l → getD (prefixes l) j [] ≡ take (suc j) l
@@ -58,31 +75,18 @@ pub take-rule : (rules : List Rule) (i : ℕ) → i < length rules → take (suc
 unfolding rule
 take-rule rules i h = take-suc rules i _ h
 
-states-append : (rules : List Rule) (r : Rule) → states (rules ++ r ∷ []) ≡ numbered (states rules) (prefixes (r .left))
-unfolding states flatMap
-states-append rules r =
-    rw (gathered rules) (numbered-append ([] ∷ []) (flatMap (λ r. prefixes (r .left)) rules) (prefixes (r .left)))
-  where
-    gathered : (rules : List Rule)
-        → flatMap (λ r. prefixes (r .left)) (rules ++ r ∷ []) ≡ flatMap (λ r. prefixes (r .left)) rules ++ prefixes (r .left)
-    gathered [] = append-nil (prefixes (r .left))
-    gathered (x ∷ rules) = rw (gathered rules, append-assoc)
-
-pub states-next : (rules : List Rule) (i : ℕ) → i < length rules
-    → states (take (suc i) rules) ≡ numbered (states (take i rules)) (prefixes (rule rules i .left))
-states-next rules i h = rw (take-rule rules i h) (states-append (take i rules) (rule rules i))
-
--- as many prefixes as symbols
-prefixes-symbols : (rs : List Rule) → length (flatMap (λ r. prefixes (r .left)) rs) ≡ length (flatMap (λ r. r .left) rs)
-unfolding flatMap
-prefixes-symbols [] = refl
-prefixes-symbols (r ∷ rs) = let ih = prefixes-symbols rs in simp (length-append, length-prefixes) (omega arith)
+pub states-next : (set : RuleSet) (i : ℕ) → i < length (set .rules)
+    → statesOf set (suc i) ≡ numbered (statesOf set i) (prefixes (pattern (rule (set .rules) i)))
+unfolding statesOf
+states-next set i h =
+    rw (take-rule (set .rules) i h, flatMap-snoc (λ r. prefixes (pattern r)) (take i (set .rules)) (rule (set .rules) i))
+    (numbered-append (firstStates (set .rules)) (allPrefixes (take i (set .rules))) (prefixes (pattern (rule (set .rules) i))))
 
 -- 64 left sides have at most 512 symbols
 pub few-symbols : (set : RuleSet) → inRange set ≡ true → length (flatMap (λ r. r .left) (set .rules)) ≤ 512
 few-symbols set e =
     let h = ranges set e in
-    omega (arith, prefixes-symbols (set .rules), few-prefixes set (set .rules) (h .all-rules), h)
+    omega (arith, few-left set (set .rules) (h .all-rules), h .few-rules)
 
 -- and fewer than the bodies have
 left-bodies : (rs : List Rule) → length (flatMap (λ r. r .left) rs) ≤ length (flatMap body rs)
@@ -93,11 +97,11 @@ left-bodies (r ∷ rs) =
     let own = body-left r in
     simp length-append (omega arith)
 
--- so 4,104 words are enough for every rule set, and 512 for bodies of less than 64 symbols
-pub roomy-large : (b : List ℕ) → valid b ≡ true → Roomy (read b) 4104
+-- so 4,112 words are enough for every rule set, and 520 for bodies of less than 64 symbols
+pub roomy-large : (b : List ℕ) → valid b ≡ true → Roomy (read b) 4112
 roomy-large b e = omega (arith, few-symbols (read b) (valid-in-range b e))
 
-pub roomy-small : (b : List ℕ) → length (flatMap body (read b .rules)) < 64 → Roomy (read b) 512
+pub roomy-small : (b : List ℕ) → length (flatMap body (read b .rules)) < 64 → Roomy (read b) 520
 roomy-small b few = omega (arith, left-bodies (read b .rules))
 
 -- the symbols of the first i left sides and of left side i are among all
@@ -119,90 +123,188 @@ symbols-next (r ∷ rs) (suc i) h =
     let ih = symbols-next rs i (le-of-suc-le-suc h) in
     simp length-append (omega arith)
 
--- The walk along rule i's left side: after j symbols it stands at the node of the first j, and these j prefixes have nodes.
-module _ (set : RuleSet) (i words : ℕ) where
-  abbrev pub left : List ℕ
-  left = rule (set .rules) i .left
+-- where in its pattern the left side of a rule begins: behind the mark, if it has one
+unfoldable pub lead : Rule → ℕ
+lead r = cond (r .marked) 1 0
 
+lead-left : (r : Rule) (j : ℕ) → (getD (pattern r) (lead r + j) 0 ≡ getD (r .left) j 0) × (length (pattern r) ≡ lead r + length (r .left))
+unfolding pattern lead
+lead-left r j = go (r .marked)
+  where
+    go : (b : Bool) → (getD (cond b (mark ∷ r .left) (r .left)) (cond b 1 0 + j) 0 ≡ getD (r .left) j 0)
+        × (length (cond b (mark ∷ r .left) (r .left)) ≡ cond b 1 0 + length (r .left))
+    go true = let one : 1 + j ≡ suc j = omega arith in rw one (refl, omega arith)
+    go false = let none : 0 + j ≡ j = omega arith in rw none (refl, omega arith)
+
+lead-small : (r : Rule) → lead r ≤ 1
+unfolding lead
+lead-small r = go (r .marked)
+  where
+    go : (b : Bool) → cond b 1 0 ≤ 1
+    go true = omega arith
+    go false = omega arith
+
+-- a marked rule among others makes a marked rule set
+mark-at : (rules : List Rule) (i : ℕ) → i < length rules → rule rules i .marked ≡ true → hasMark rules ≡ true
+unfolding hasMark rule
+mark-at [] i h m = absurd (not-suc-le-zero h)
+mark-at (r ∷ rules) zero h m = or-left (r .marked) (hasMark rules) m
+mark-at (r ∷ rules) (suc i) h m = or-right (r .marked) (hasMark rules) (mark-at rules i (le-of-suc-le-suc h) m)
+
+mark-taken : (rules : List Rule) (i : ℕ) → hasMark (take i rules) ≡ true → hasMark rules ≡ true
+unfolding hasMark
+mark-taken [] zero m = m
+mark-taken [] (suc i) m = m
+mark-taken (r ∷ rules) zero m = let z : _≡_ {A = ℕ} 0 1 = cc in absurd (omega arith)
+mark-taken (r ∷ rules) (suc i) m = go (r .marked) refl m (mark-taken rules i)
+  where
+    go : (b : Bool) → r .marked ≡ b → (b || hasMark (take i rules)) ≡ true → (hasMark (take i rules) ≡ true → hasMark rules ≡ true)
+        → (r .marked || hasMark rules) ≡ true
+    go true e m ih = or-left (r .marked) (hasMark rules) e
+    go false e m ih = or-right (r .marked) (hasMark rules) (ih m)
+
+root-marked : (rules : List Rule) → hasMark rules ≡ true → 0 < root rules
+unfolding root
+root-marked rules e = rw e (omega arith)
+
+-- The walk along rule i's left side: after j symbols it stands at the node of the mark, if there is one, and the first j, and
+-- these prefixes have nodes.
+module _ (set : RuleSet) (i words : ℕ) where
   -- the states by then
   abbrev pub sofar : ℕ → List (List ℕ)
-  sofar j = numbered (states (take i (set .rules))) (take j (prefixes (rule (set .rules) i .left)))
+  sofar j = numbered (statesOf set i) (take (lead (rule (set .rules) i) + j) (prefixes (pattern (rule (set .rules) i))))
 
   pub record Walking (j q n : ℕ) (t : List ℕ) : Type 0 where
     pub within : j ≤ length (rule (set .rules) i .left)
-    pub trie : Trie (sofar j) (set .symbols) t
+    pub trie : Trie (root (set .rules)) (sofar j) (set .symbols) t
     pub owned : Owned (take i (set .rules)) (sofar j) t
     pub nodes : n ≡ length (sofar j)
     pub node : q < length (sofar j)
-    pub state : getD (sofar j) q [] ≡ take j (rule (set .rules) i .left)
+    pub state : getD (sofar j) q [] ≡ take (lead (rule (set .rules) i) + j) (pattern (rule (set .rules) i))
     pub size : length t ≡ words
 
-  pub walk-first : (t : List ℕ) → Grown set i t → (n : ℕ) → n ≡ length (states (take i (set .rules))) → length t ≡ words → Walking 0 0 n t
-  unfolding numbered
-  walk-first t g n e long =
+  -- the mark alone is among the first states
+  mark-known : rule (set .rules) i .marked ≡ true → i < length (set .rules) → known (statesOf set i) (mark ∷ []) ≡ true
+  unfolding statesOf
+  mark-known m lt =
+      known-numbered (firstStates (set .rules)) (allPrefixes (take i (set .rules))) (mark ∷ [])
+      ∙ or-left (known (firstStates (set .rules)) (mark ∷ [])) (known (allPrefixes (take i (set .rules))) (mark ∷ []))
+      (first-known (set .rules) (mark-at (set .rules) i lt m))
+
+  -- so at the first symbol nothing is new
+  sofar-first : i < length (set .rules) → sofar 0 ≡ statesOf set i
+  unfolding lead pattern prefixes numbered
+  sofar-first lt = go (rule (set .rules) i .marked) refl
+    where
+      go : (b : Bool) → rule (set .rules) i .marked ≡ b
+          → numbered (statesOf set i)
+          (take (cond b 1 0 + 0) (prefixes (cond b (mark ∷ rule (set .rules) i .left) (rule (set .rules) i .left))))
+          ≡ statesOf set i
+      go true m = numbered-known (statesOf set i) (mark ∷ []) [] (mark-known m lt)
+      go false m = refl
+
+  first-there : (t : List ℕ) → Trie (root (set .rules)) (statesOf set i) (set .symbols) t → i < length (set .rules)
+      → (firstNode set i < length (statesOf set i))
+      × (getD (statesOf set i) (firstNode set i) [] ≡ take (lead (rule (set .rules) i) + 0) (pattern (rule (set .rules) i)))
+  unfolding firstNode lead pattern
+  first-there t trie lt = go (rule (set .rules) i .marked) refl
+    where
+      go : (b : Bool) → rule (set .rules) i .marked ≡ b
+          → (cond b 0 (root (set .rules)) < length (statesOf set i))
+          × (getD (statesOf set i) (cond b 0 (root (set .rules))) []
+          ≡ take (cond b 1 0 + 0) (cond b (mark ∷ rule (set .rules) i .left) (rule (set .rules) i .left)))
+      go true m = (
+        omega (arith, trie .some-node),
+        trie .mark-alone (root-marked (set .rules) (mark-at (set .rules) i lt m)),
+      )
+      go false m = (trie .some-node, trie .root-empty)
+
+  pub walk-first : (t : List ℕ) → Grown set i t → i < length (set .rules) → (n : ℕ) → n ≡ length (statesOf set i) → length t ≡ words
+      → (q : ℕ) → q ≡ firstNode set i → Walking 0 q n t
+  walk-first t g lt n e long q first =
       record {
         within = omega arith;
-        trie = g .trie;
-        owned = g .owned;
-        nodes = e;
-        node = g .trie .some-node;
-        state = g .trie .root;
+        trie = rw (sofar-first lt) (g .trie);
+        owned = rw (sofar-first lt) (g .owned);
+        nodes = rw (sofar-first lt) e;
+        node = rw (sofar-first lt, first) (first-there t (g .trie) lt .0);
+        state = rw (sofar-first lt, first) (first-there t (g .trie) lt .1);
         size = long;
       }
 
   -- the states of the first i rules are known all the while
   still-known : (j : ℕ) (v : List ℕ) → isPrefix (take i (set .rules)) v ≡ true → known (sofar j) v ≡ true
+  unfolding statesOf
   still-known j v e =
-      known-numbered (states (take i (set .rules))) (take j (prefixes (rule (set .rules) i .left))) v
-      ∙ or-left (known (states (take i (set .rules))) v) (known (take j (prefixes (rule (set .rules) i .left))) v)
-      (known-states (take i (set .rules)) v ∙ or-right (same [] v) (isPrefix (take i (set .rules)) v) e)
+      known-numbered (statesOf set i) (take (lead (rule (set .rules) i) + j) (prefixes (pattern (rule (set .rules) i)))) v
+      ∙ or-left (known (statesOf set i) v) (known (take (lead (rule (set .rules) i) + j) (prefixes (pattern (rule (set .rules) i)))) v)
+      (known-numbered (firstStates (set .rules)) (allPrefixes (take i (set .rules))) v
+      ∙ first-or-later (set .rules) (take i (set .rules)) v e)
 
   -- so a new state is the left side of none of them
-  new-lowest : (j : ℕ) (v : List ℕ) → known (sofar j) v ≡ false → lowest (take i (set .rules)) v ≡ none
-  new-lowest j v new = lowest-no-prefix (take i (set .rules)) v (go (isPrefix (take i (set .rules)) v) refl)
+  new-own : (j : ℕ) (v : List ℕ) → known (sofar j) v ≡ false → own (take i (set .rules)) v ≡ none
+  new-own j v new = own-no-prefix (take i (set .rules)) v (go (isPrefix (take i (set .rules)) v) refl)
     where
       go : (b : Bool) → isPrefix (take i (set .rules)) v ≡ b → b ≡ false
       go true e = sym (still-known j v e) ∙ new
       go false e = refl
 
-  -- at most as many states, beside the root, as symbols that were followed
-  pub few-first : length (states (take i (set .rules))) ≤ 1 + length (flatMap (λ r. r .left) (take i (set .rules)))
-  unfolding states
+  -- at most as many states, beside the first, as symbols that were followed
+  pub few-first : length (statesOf set i) ≤ 2 + length (flatMap (λ r. r .left) (take i (set .rules)))
+  unfolding statesOf
   few-first =
       omega (
         arith,
-        prefixes-symbols (take i (set .rules)),
-        length-numbered ([] ∷ []) (flatMap (λ r. prefixes (r .left)) (take i (set .rules))),
+        first-few (set .rules),
+        few-numbered (take i (set .rules)) (firstStates (set .rules)) (λ m. first-known (set .rules) (mark-taken (set .rules) i m)),
       )
 
-  few-sofar : (j : ℕ) → length (sofar j) ≤ 1 + length (flatMap (λ r. r .left) (take i (set .rules))) + j
-  few-sofar j =
-      omega (
-        arith,
-        few-first,
-        length-numbered (states (take i (set .rules))) (take j (prefixes (rule (set .rules) i .left))),
-        length-take j (prefixes (rule (set .rules) i .left)),
-        min-le-left j (length (prefixes (rule (set .rules) i .left))),
-      )
+  few-sofar : i < length (set .rules) → (j : ℕ) → length (sofar j) ≤ length (statesOf set i) + j
+  unfolding lead pattern prefixes numbered
+  few-sofar lt j = go (rule (set .rules) i .marked) refl
+    where
+      go : (b : Bool) → rule (set .rules) i .marked ≡ b
+          → length (numbered (statesOf set i)
+          (take (cond b 1 0 + j) (prefixes (cond b (mark ∷ rule (set .rules) i .left) (rule (set .rules) i .left)))))
+          ≤ length (statesOf set i) + j
+      go true m =
+          let rest : List (List ℕ) = take j (map (λ v. mark ∷ v) (prefixes (rule (set .rules) i .left))) in
+          let one : 1 + j ≡ suc j = omega arith in
+          rw (one, numbered-known (statesOf set i) (mark ∷ []) rest (mark-known m lt))
+          (omega (
+            arith,
+            length-numbered (statesOf set i) rest,
+            length-take j (map (λ (v : List ℕ). mark ∷ v) (prefixes (rule (set .rules) i .left))),
+            min-le-left j (length (map (λ (v : List ℕ). mark ∷ v) (prefixes (rule (set .rules) i .left)))),
+          ))
+      go false m =
+          let none : 0 + j ≡ j = omega arith in
+          rw none
+          (omega (
+            arith,
+            length-numbered (statesOf set i) (take j (prefixes (rule (set .rules) i .left))),
+            length-take j (prefixes (rule (set .rules) i .left)),
+            min-le-left j (length (prefixes (rule (set .rules) i .left))),
+          ))
 
   -- what a turn asks
   pub record Room (j q n : ℕ) (t : List ℕ) : Type 0 where
-    pub linked : Linked t n
+    pub linked : Linked (root (set .rules)) t n
     pub node : q < n
-    pub few : n < 513
+    pub few : n < 514
     pub room : 8 * n + 7 < length t
-    pub shallow : depth t q < 513
-    pub narrow : children t q < 513
+    pub shallow : depth t q < 514
+    pub narrow : children t q < 514
 
   pub walk-room : inRange set ≡ true → Roomy set words → i < length (set .rules) → (j q n : ℕ) (t : List ℕ) → Walking j q n t
       → j < length (rule (set .rules) i .left) → Room j q n t
   walk-room e roomy lt j q n t w more =
       let h = ranges set e in
       let r = rule-at set h i lt in
-      let all : n < 1 + length (flatMap (λ r. r .left) (set .rules)) =
-      omega (arith, w .nodes, few-sofar j, symbols-within (set .rules) i lt)
+      let all : n < 2 + length (flatMap (λ r. r .left) (set .rules)) =
+      omega (arith, w .nodes, few-sofar lt j, few-first, symbols-within (set .rules) i lt)
       in
-      let few : n < 513 = omega (arith, few-symbols set e) in
+      let few : n < 514 = omega (arith, few-symbols set e) in
       let long = ap length (w .state) in
       record {
         linked = rw (w .nodes) (w .trie .linked);
@@ -214,34 +316,41 @@ module _ (set : RuleSet) (i words : ℕ) where
               arith,
               w .trie .deep q (w .node),
               long,
-              length-take j (rule (set .rules) i .left),
-              min-le-left j (length (rule (set .rules) i .left)),
-              r,
+              length-take (lead (rule (set .rules) i) + j) (pattern (rule (set .rules) i)),
+              min-le-left (lead (rule (set .rules) i) + j) (length (pattern (rule (set .rules) i))),
+              lead-small (rule (set .rules) i),
+              r .short-left,
             );
         narrow =
             omega (
               arith,
               w .trie .counted q (w .node),
               tally-most (λ a. known (sofar j) (getD (sofar j) q [] ++ a ∷ [])) (set .symbols),
-              h,
+              h .few-symbols,
             );
       }
 
   -- a turn
   pub walk-next : inRange set ≡ true → Roomy set words → i < length (set .rules) → (j q n : ℕ) (t : List ℕ) → Walking j q n t
       → j < length (rule (set .rules) i .left) → (a : ℕ) → a ≡ getD (rule (set .rules) i .left) j 0 → (w : Walked) (t′ : List ℕ)
-      → Followed t n q a w t′ → Walking (suc j) (w .node) (w .nodes) t′
+      → Followed (root (set .rules)) t n q a w t′ → Walking (suc j) (w .node) (w .nodes) t′
   walk-next e roomy lt j q n t k more a is w t′ f =
       record {
         within = more;
         trie = rw next (step .trie);
-        owned = rw next (step .owned (take i (set .rules)) (k .owned) (new-lowest j (getD (sofar j) q [] ++ a ∷ [])));
+        owned = rw next (step .owned (take i (set .rules)) (k .owned) (new-own j (getD (sofar j) q [] ++ a ∷ [])));
         nodes = rw next (step .nodes);
         node = rw next (step .node);
-        state = rw next (step .state ∙ string);
+        state = rw (next, on) (step .state ∙ string);
         size = step .size ∙ k .size;
       }
     where
+      on : lead (rule (set .rules) i) + suc j ≡ suc (lead (rule (set .rules) i) + j)
+      on = omega arith
+
+      inside : lead (rule (set .rules) i) + j < length (pattern (rule (set .rules) i))
+      inside = omega (arith, lead-left (rule (set .rules) i) j .1)
+
       small : a < set .symbols
       small =
           rw is
@@ -251,17 +360,21 @@ module _ (set : RuleSet) (i words : ℕ) where
       room : Room j q n t
       room = walk-room e roomy lt j q n t k more
 
-      string : getD (sofar j) q [] ++ a ∷ [] ≡ take (suc j) (rule (set .rules) i .left)
-      string = rw (k .state, is) (sym (take-suc (rule (set .rules) i .left) j 0 more))
+      string : getD (sofar j) q [] ++ a ∷ [] ≡ take (suc (lead (rule (set .rules) i) + j)) (pattern (rule (set .rules) i))
+      string =
+          rw (k .state, is, ← lead-left (rule (set .rules) i) j .0)
+          (sym (take-suc (pattern (rule (set .rules) i)) (lead (rule (set .rules) i) + j) 0 inside))
 
-      step : Stepped (sofar j) (set .symbols) t (k .trie) q a (k .node) small (rw (← k .nodes) (room .room)) w t′
-      step = stepped (sofar j) (set .symbols) t (k .trie) q a (k .node) small (rw (← k .nodes) (room .room)) w t′ (rw (← k .nodes) f)
+      step : Stepped (root (set .rules)) (sofar j) (set .symbols) t (k .trie) q a (k .node) small (rw (← k .nodes) (room .room)) w t′
+      step =
+          stepped (root (set .rules)) (sofar j) (set .symbols) t (k .trie) q a (k .node) small (rw (← k .nodes) (room .room)) w t′
+          (rw (← k .nodes) f)
 
       next : sofar (suc j) ≡ numbered (sofar j) ((getD (sofar j) q [] ++ a ∷ []) ∷ [])
       next =
-          rw (prefixes-next (rule (set .rules) i .left) j more, string)
-          (numbered-append (states (take i (set .rules))) (take j (prefixes (rule (set .rules) i .left)))
-          (take (suc j) (rule (set .rules) i .left) ∷ []))
+          rw (on, prefixes-next (pattern (rule (set .rules) i)) (lead (rule (set .rules) i) + j) inside, string)
+          (numbered-append (statesOf set i) (take (lead (rule (set .rules) i) + j) (prefixes (pattern (rule (set .rules) i))))
+          (take (suc (lead (rule (set .rules) i) + j)) (pattern (rule (set .rules) i)) ∷ []))
 
   -- the end
   pub walk-last : i < length (set .rules) → (j q n : ℕ) (t : List ℕ) → Walking j q n t → length (rule (set .rules) i .left) ≤ j
@@ -272,13 +385,16 @@ module _ (set : RuleSet) (i words : ℕ) where
         owned = rw whole (w .owned);
         nodes = rw whole (w .nodes);
         node = rw (w .nodes) (w .node);
-        ends = rw whole (w .state ∙ take-all j (rule (set .rules) i .left) far);
+        ends = rw whole (w .state ∙ take-all (lead (rule (set .rules) i) + j) (pattern (rule (set .rules) i)) long);
       }
     where
-      whole : states (take (suc i) (set .rules)) ≡ sofar j
+      long : length (pattern (rule (set .rules) i)) ≤ lead (rule (set .rules) i) + j
+      long = omega (arith, lead-left (rule (set .rules) i) j .1)
+
+      whole : statesOf set (suc i) ≡ sofar j
       whole =
-          states-next (set .rules) i lt
-          ∙ rw (take-all j (prefixes (rule (set .rules) i .left)) (rw length-prefixes far))
+          states-next set i lt
+          ∙ rw (take-all (lead (rule (set .rules) i) + j) (prefixes (pattern (rule (set .rules) i))) (rw length-prefixes long))
 
 -- the symbols of a left side in the image
 module _ (b : List ℕ) (e : valid b ≡ true) (i at j : ℕ) (lt : i < length (read b .rules)) (here : at ≡ leftAt (read b) i)

@@ -7,11 +7,10 @@ use mathlib.Core.List.{List, [], _∷_, _++_, flatMap}
 use lib.Dec.{eqb, ltb}
 use lib.ListN.{length, getD}
 use Rattle.rewriting.specs.Rules.{RuleSet}
-use Rattle.rewriting.specs.Occurrences.{lowest}
 use Rattle.layout.specs.States.{next, matching, known, states, number}
 use Rattle.layout.specs.Table.{matchWord, row}
-use Rattle.layout.specs.Words.{text, transition, ownOr}
-use Rattle.trie.specs.Nodes.{matchAt, failureAt, matched, failure, Trie, RightFailure}
+use Rattle.layout.specs.Words.{root, text, own, transition, ownOr}
+use Rattle.trie.specs.Nodes.{matchAt, failureAt, matched, failure, TrieOf, RightFailure}
 
 -- the child of state v by symbol a, 0 where it has none
 unfoldable pub childNumber : List (List ℕ) → List ℕ → ℕ → ℕ
@@ -22,6 +21,13 @@ pub record Laid (set : RuleSet) (rows : List ℕ) : Type 0 where
   pub size : length rows ≡ length (states (set .rules)) * set .symbols
   pub table : (c a : ℕ) → c < length (states (set .rules)) → a < set .symbols
       → transition rows (set .symbols) c a ≡ childNumber (states (set .rules)) (text (set .rules) c) a
+
+-- each 0 among the first n words of the root's row has become the root's number, and all else is as it was
+pub record Rooted (rows rows′ : List ℕ) (symbols root n : ℕ) : Type 0 where
+  pub size : length rows′ ≡ length rows
+  pub own : (a : ℕ) → a < n → transition rows′ symbols root a ≡ ownOr (transition rows symbols root a) root
+  pub before : (k : ℕ) → k < root * symbols → getD rows′ k 0 ≡ getD rows k 0
+  pub behind : (k : ℕ) → root * symbols + n ≤ k → getD rows′ k 0 ≡ getD rows k 0
 
 -- each 0 among the first n words of row q has become the word of row f, and all else is as it was
 pub record Merged (rows rows′ : List ℕ) (symbols q f n : ℕ) : Type 0 where
@@ -45,11 +51,11 @@ reached s d q c = ltb (length (getD s c [])) d || (eqb (length (getD s c [])) d 
 -- The states that are done have their failure state and the match word and row of the table, the others their own left
 -- side's match word and the row of their children.
 pub record Filling (set : RuleSet) (done : ℕ → Bool) (t rows : List ℕ) : Type 0 where
-  pub trie : Trie (states (set .rules)) (set .symbols) t
+  pub trie : TrieOf set t
   pub size : length rows ≡ length (states (set .rules)) * set .symbols
   pub matches : (c : ℕ) → c < length (states (set .rules))
-      → matched t c ≡ cond (done c) (matchWord (matching (set .rules) (text (set .rules) c))) (matchWord (lowest (set .rules) (text (set .rules) c)))
-  pub failures : (c : ℕ) → 0 < c → c < length (states (set .rules)) → done c ≡ true → RightFailure (set .rules) t c
+      → matched t c ≡ cond (done c) (matchWord (matching (set .rules) (text (set .rules) c))) (matchWord (own (set .rules) (text (set .rules) c)))
+  pub failures : (c : ℕ) → (c ≡ root (set .rules) → ⊥) → c < length (states (set .rules)) → done c ≡ true → RightFailure (set .rules) t c
   pub table : (c a : ℕ) → c < length (states (set .rules)) → a < set .symbols
       → transition rows (set .symbols) c a
       ≡ cond (done c) (number (states (set .rules)) (next (set .rules) (text (set .rules) c) a))

@@ -1,12 +1,14 @@
 // The trie of the left sides, one node of eight words for each state. specs/Nodes.antt has the layout.
 // What its functions ask, compile and check of the crate table have shown: it is the only one that calls them.
-ghost use Prim.Native.Nat.{_+_, _*_, _<_};
+ghost use Prim.Native.Nat.{_+_, _*_, _<_, _≤_};
 ghost use mathlib.Core.Path.{_≡_};
 ghost use mathlib.Core.Bool.{true};
-ghost use lib.ListN.{length, take, replicate};
+ghost use mathlib.Core.Logic.{_≢_};
+ghost use lib.ListN.{length, replicate};
 ghost use Rattle.layout.specs.Image.{read, valid};
 ghost use Rattle.layout.specs.Places.{leftAt};
-ghost use Rattle.layout.specs.States.{statesMost, states};
+ghost use Rattle.layout.specs.States.{statesMost};
+ghost use Rattle.layout.specs.Words as Words;
 ghost use Rattle.trie.specs.Nodes.{
   failureAt,
   symbolAt,
@@ -20,7 +22,10 @@ ghost use Rattle.trie.specs.Nodes.{
   ChildOr,
   added,
   Followed,
-  marked,
+  claimed,
+  firstNode,
+  planted,
+  statesOf,
   Grown,
   FollowedRule,
   Roomy,
@@ -69,8 +74,8 @@ fn word(x: u8) -> u16
 pub fn failure_of(trie: &[u16], rows: &[u16], s: usize, root: usize, q: usize) -> usize
     requires node { ⌜ symbolAt q < length (now trie) ⌝ }
     requires up { ⌜ failureAt (parent (now trie) q) < length (now trie) ⌝ }
-    requires row { ⌜ (0 < parent (now trie) q → failure (now trie) (parent (now trie) q) * s + symbol (now trie) q < length (now rows)) ⌝ }
-    ensures { λ r. ⌜ r ≡ failureBy (now (trie .entry)) (now (rows .entry)) s q ⌝ }
+    requires row { ⌜ (parent (now trie) q ≢ root → failure (now trie) (parent (now trie) q) * s + symbol (now trie) q < length (now rows)) ⌝ }
+    ensures { λ r. ⌜ r ≡ failureBy (now (trie .entry)) (now (rows .entry)) s root q ⌝ }
 {
     let p = wide::word(trie[NODE * q]);
     if p == root {
@@ -82,13 +87,13 @@ pub fn failure_of(trie: &[u16], rows: &[u16], s: usize, root: usize, q: usize) -
 }
 
 // The child of node q by symbol a, or n, the number of nodes, where it has none.
-fn child(trie: &[u16], n: usize, q: usize, a: u16) -> usize
-    requires links { ⌜ Linked (now trie) n ⌝ }
+fn child(trie: &[u16], root: usize, n: usize, q: usize, a: u16) -> usize
+    requires links { ⌜ Linked root (now trie) n ⌝ }
     requires node { ⌜ q < n ⌝ }
-    ensures { λ r. ⌜ ChildOr (now (trie .entry)) n q a r ⌝ }
+    ensures { λ r. ⌜ ChildOr root (now (trie .entry)) n q a r ⌝ }
 {
     let mut c = wide::word(trie[NODE * q + YOUNGEST]);
-    while 0 < c {
+    while root < c {
         if trie[NODE * c + SYMBOL] == a {
             return c;
         }
@@ -116,14 +121,14 @@ fn add(trie: &mut [u16], n: usize, q: usize, a: u16)
 }
 
 // The child of node q by symbol a, added where there is none.
-fn follow(trie: &mut [u16], n: usize, q: usize, a: u16) -> Walked
-    requires links { ⌜ Linked (now trie) n ⌝ }
+fn follow(trie: &mut [u16], root: usize, n: usize, q: usize, a: u16) -> Walked
+    requires links { ⌜ Linked root (now trie) n ⌝ }
     requires node { ⌜ (q < n) × (n < statesMost) ⌝ }
     requires room { ⌜ failureAt n < length (now trie) ⌝ }
     requires counts { ⌜ (depth (now trie) q < statesMost) × (children (now trie) q < statesMost) ⌝ }
-    ensures { λ r. ⌜ Followed (now (trie .entry)) n q a r (now (trie .exit)) ⌝ }
+    ensures { λ r. ⌜ Followed root (now (trie .entry)) n q a r (now (trie .exit)) ⌝ }
 {
-    let c = child(trie, n, q, a);
+    let c = child(trie, root, n, q, a);
     if c < n {
         return Walked { node: c, nodes: n };
     }
@@ -138,7 +143,7 @@ fn follow(trie: &mut [u16], n: usize, q: usize, a: u16) -> Walked
 fn claim(trie: &mut [u16], q: usize, i: usize)
     requires node { ⌜ failureAt q < length (now trie) ⌝ }
     requires rule { ⌜ i < 64 ⌝ }
-    ensures { λ _. ⌜ now (trie .exit) ≡ marked (now (trie .entry)) q i ⌝ }
+    ensures { λ _. ⌜ now (trie .exit) ≡ claimed (now (trie .entry)) q i ⌝ }
 {
     if trie[NODE * q + MATCH] == 0 {
         trie[NODE * q + MATCH] = (i + 1) as u16;
@@ -146,7 +151,12 @@ fn claim(trie: &mut [u16], q: usize, i: usize)
 }
 
 // The node that the left side of rule i is followed from.
-fn first_node(image: &[u8], root: usize, i: usize) -> usize {
+fn first_node(image: &[u8], root: usize, i: usize) -> usize
+    requires image { ⌜ valid (now image) ≡ true ⌝ }
+    requires rule { ⌜ i < length (read (now image) .rules) ⌝ }
+    requires root { ⌜ root ≡ Words.root (read (now image) .rules) ⌝ }
+    ensures { λ r. ⌜ r ≡ firstNode (read (now (image .entry))) i ⌝ }
+{
     if image::is_marked(image, i) {
         return 0;
     }
@@ -157,9 +167,10 @@ fn first_node(image: &[u8], root: usize, i: usize) -> usize {
 // node where the rule has the mark, else from the root.
 fn walk(image: &[u8], root: usize, i: usize, at: usize, trie: &mut [u16], n: usize) -> Walked
     requires image { ⌜ valid (now image) ≡ true ⌝ }
+    requires root { ⌜ root ≡ Words.root (read (now image) .rules) ⌝ }
     requires rule { ⌜ (i < length (read (now image) .rules)) × (at ≡ leftAt (read (now image)) i) ⌝ }
     requires trie { ⌜ (Grown (read (now image)) i (now trie)) × (Roomy (read (now image)) (length (now trie))) ⌝ }
-    requires nodes { ⌜ n ≡ length (states (take i (read (now image) .rules))) ⌝ }
+    requires nodes { ⌜ n ≡ length (statesOf (read (now image)) i) ⌝ }
     ensures { λ r. ⌜ (FollowedRule (read (now (image .entry))) i r (now (trie .exit))) × (length (now (trie .exit)) ≡ length (now (trie .entry))) ⌝ }
 {
     let long = image::left_length(image, i);
@@ -167,7 +178,7 @@ fn walk(image: &[u8], root: usize, i: usize, at: usize, trie: &mut [u16], n: usi
     let mut nodes = n;
     let mut j = 0;
     while j < long {
-        let w = follow(trie, nodes, q, word(image[at + j]));
+        let w = follow(trie, root, nodes, q, word(image[at + j]));
         q = w.node;
         nodes = w.nodes;
         j += 1;
@@ -177,7 +188,11 @@ fn walk(image: &[u8], root: usize, i: usize, at: usize, trie: &mut [u16], n: usi
 
 // The nodes before any rule: the root and, where a rule has the mark, node 0 for the mark alone, of which the root is the parent
 // and the failure state.
-fn plant(trie: &mut [u16], root: usize) {
+fn plant(trie: &mut [u16], root: usize)
+    requires room { ⌜ 8 ≤ length (now trie) ⌝ }
+    requires low { ⌜ root ≤ 1 ⌝ }
+    ensures { λ _. ⌜ now (trie .exit) ≡ planted root (now (trie .entry)) ⌝ }
+{
     trie[0] = root as u16;
     trie[DEPTH] = root as u16;
     trie[FAILURE] = root as u16;
@@ -186,6 +201,7 @@ fn plant(trie: &mut [u16], root: usize) {
 // The trie of all left sides, in words that were 0, and the number of its nodes.
 pub fn build(image: &[u8], root: usize, trie: &mut [u16]) -> usize
     requires image { ⌜ valid (now image) ≡ true ⌝ }
+    requires root { ⌜ root ≡ Words.root (read (now image) .rules) ⌝ }
     requires trie { ⌜ (now trie ≡ replicate (length (now trie)) 0) × (Roomy (read (now image)) (length (now trie))) ⌝ }
     ensures { λ r. ⌜ Built (read (now (image .entry))) r (now (trie .exit)) ⌝ }
 {

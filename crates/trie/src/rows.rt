@@ -3,14 +3,16 @@
 ghost use Prim.Native.Nat.{_+_, _*_, _≤_, _<_};
 ghost use mathlib.Core.Path.{_≡_};
 ghost use mathlib.Core.Bool.{true};
+ghost use mathlib.Core.Logic.{_≢_};
 ghost use mathlib.Core.List.{map};
 ghost use lib.ListN.{length, replicate};
 ghost use Rattle.layout.specs.Image.{read, valid};
 ghost use Rattle.layout.specs.States.{states, matching};
 ghost use Rattle.layout.specs.Table.{matchWord};
+ghost use Rattle.layout.specs.Words as Words;
 ghost use Rattle.layout.specs.Words.{ownOr};
-ghost use Rattle.trie.specs.Nodes.{failureAt, nodeWords, depth, Trie, Built};
-ghost use Rattle.trie.specs.Rows.{Laid, Merged, Noted, FillingAt, Matched, Filled};
+ghost use Rattle.trie.specs.Nodes.{failureAt, nodeWords, depth, TrieOf, Built};
+ghost use Rattle.trie.specs.Rows.{Laid, Rooted, Merged, Noted, FillingAt, Matched, Filled};
 use crate::DEPTH;
 use crate::FAILURE;
 use crate::MATCH;
@@ -31,7 +33,8 @@ fn clear(rows: &mut [u16])
 // Each node's number into the row of its parent.
 fn lay_children(image: &[u8], root: usize, trie: &[u16], n: usize, rows: &mut [u16])
     requires { ⌜ valid (now image) ≡ true ⌝ }
-    requires trie { ⌜ Trie (states (read (now image) .rules)) (read (now image) .symbols) (now trie) ⌝ }
+    requires root { ⌜ root ≡ Words.root (read (now image) .rules) ⌝ }
+    requires trie { ⌜ TrieOf (read (now image)) (now trie) ⌝ }
     requires count { ⌜ n ≡ length (states (read (now image) .rules)) ⌝ }
     requires clear { ⌜ now rows ≡ replicate (n * read (now image) .symbols) 0 ⌝ }
     ensures { λ _. ⌜ Laid (read (now (image .entry))) (now (rows .exit)) ⌝ }
@@ -53,7 +56,11 @@ fn chosen(own: u16, other: u16) -> u16
 }
 
 // Each 0 in the row of the root becomes the root's number.
-fn fill_root(rows: &mut [u16], s: usize, root: usize) {
+fn fill_root(rows: &mut [u16], s: usize, root: usize)
+    requires own { ⌜ root * s + s ≤ length (now rows) ⌝ }
+    requires low { ⌜ root ≤ 1 ⌝ }
+    ensures { λ _. ⌜ Rooted (now (rows .entry)) (now (rows .exit)) s root s ⌝ }
+{
     let first = root * s;
     let word = root as u16;
     for a in 0..s {
@@ -89,7 +96,8 @@ fn note(trie: &mut [u16], q: usize, f: usize)
 // State q, whose turn it is: its failure state, match word and row.
 fn fill_state(image: &[u8], root: usize, trie: &mut [u16], rows: &mut [u16], q: usize)
     requires { ⌜ valid (now image) ≡ true ⌝ }
-    requires state { ⌜ (0 < q) × (q < length (states (read (now image) .rules))) ⌝ }
+    requires root { ⌜ root ≡ Words.root (read (now image) .rules) ⌝ }
+    requires state { ⌜ (q ≢ root) × (q < length (states (read (now image) .rules))) ⌝ }
     requires filling { ⌜ FillingAt (read (now image)) (depth (now trie) q) q (now trie) (now rows) ⌝ }
     ensures { λ _. ⌜ FillingAt (read (now (image .entry))) (depth (now (trie .entry)) q) (q + 1) (now (trie .exit)) (now (rows .exit)) ⌝ }
 {
@@ -102,9 +110,11 @@ fn fill_state(image: &[u8], root: usize, trie: &mut [u16], rows: &mut [u16], q: 
 // The states of depth d, whose turn it is.
 fn fill_depth(image: &[u8], root: usize, trie: &mut [u16], rows: &mut [u16], n: usize, d: u16)
     requires { ⌜ valid (now image) ≡ true ⌝ }
+    requires root { ⌜ root ≡ Words.root (read (now image) .rules) ⌝ }
     requires count { ⌜ n ≡ length (states (read (now image) .rules)) ⌝ }
-    requires filling { ⌜ FillingAt (read (now image)) d 1 (now trie) (now rows) ⌝ }
-    ensures { λ _. ⌜ FillingAt (read (now (image .entry))) (d + 1) 1 (now (trie .exit)) (now (rows .exit)) ⌝ }
+    requires some { ⌜ 0 < d ⌝ }
+    requires filling { ⌜ FillingAt (read (now image)) d 0 (now trie) (now rows) ⌝ }
+    ensures { λ _. ⌜ FillingAt (read (now (image .entry))) (d + 1) 0 (now (trie .exit)) (now (rows .exit)) ⌝ }
 {
     for q in 0..n {
         if trie[NODE * q + DEPTH] == d {
@@ -116,6 +126,7 @@ fn fill_depth(image: &[u8], root: usize, trie: &mut [u16], rows: &mut [u16], n: 
 // The rows of the table, and its match words in the nodes: short states before long, as a failure state is shorter.
 pub fn fill(image: &[u8], root: usize, trie: &mut [u16], n: usize, rows: &mut [u16])
     requires { ⌜ valid (now image) ≡ true ⌝ }
+    requires root { ⌜ root ≡ Words.root (read (now image) .rules) ⌝ }
     requires trie { ⌜ Built (read (now image)) n (now trie) ⌝ }
     requires room { ⌜ length (now rows) ≡ length (states (read (now image) .rules)) * read (now image) .symbols ⌝ }
     ensures { λ _. ⌜ Filled (read (now (image .entry))) (now (trie .entry)) (now (trie .exit)) (now (rows .exit)) ⌝ }

@@ -1,64 +1,93 @@
--- `table::trie::build` meets its contract. After i rules it has the trie of the first i.
+-- `trie::build` meets its contract. After i rules it has the trie of the first i.
 -- Assumes nothing.
 use Prim.Native.Nat.{_-_}
-use mathlib.Core.Path.{refl, _∙_}
+use mathlib.Core.Path.{refl, sym, ap, _∙_}
 use native.Mathlib.Omega.{arith}
 use native.Mathlib.Numerals.{add-one}
 use lib.ListN.{length}
+use borrow.Author.Needs.{needs}
 use Rattle.rewriting.proofs.Ranges.{ranges}
 use Rattle.layout.specs.Image.{read}
+use Rattle.layout.specs.Words as Words
 use Rattle.layout.proofs.Image.{valid-in-range}
 use Rattle.layout.proofs.Places.{left-within}
+use Rattle.layout.proofs.States.{root-small}
+use Rattle.trie.specs.Nodes.{planted}
 use Rattle.trie.proofs.Building.{Building, build-first, build-next, build-last, followed-room}
 use Rattle.trie.proofs.build.Statement.{statement}
 use Rattle.trie.proofs.build.Tie as tie
 
 abbrev Inv-loop : tie.InvT-loop
-Inv-loop image trie₀ rules n₀ at₀ i₀ trie n at i = Building (read image) (length trie₀) i n at trie
+Inv-loop image root trie₀ rules n₀ at₀ i₀ trie n at i = Building (read image) (length trie₀) i n at trie
 
 abbrev μ-loop : tie.MeasureT-loop
-μ-loop image trie₀ rules n₀ at₀ i₀ trie n at i = rules - i
+μ-loop image root trie₀ rules n₀ at₀ i₀ trie n at i = rules - i
 
 rules-requires : tie.Need-rules-requires Inv-loop μ-loop
-rules-requires c κs = c .before .before .pre .0
+rules-requires c κs =
+    let start = c .before .before in
+    start .pre .0
+
+plant-requires : tie.Need-plant-requires Inv-loop μ-loop
+plant-requires c κs =
+    let start = c .before .before .before .before in
+    (omega (arith, start .pre .1 .1 .1), omega (arith, start .pre .1 .0, root-small (read (start .args .image .now) .rules)))
+
+add-n : tie.Need-add-n Inv-loop μ-loop
+add-n c =
+    let start = c .before .before .before .before .before .before .before in
+    omega (arith, start .pre .1 .0, root-small (read (start .args .image .now) .rules))
 
 mul-at : tie.Need-mul-at Inv-loop μ-loop
-mul-at c = omega (arith, c .rules .ensures, ranges _ (valid-in-range _ (c .before .before .before .pre .0)))
+mul-at c =
+    let rules = c .before .before .before .before in
+    let start = rules .before .before .before in
+    omega (arith, rules .rules .ensures, ranges _ (valid-in-range _ (start .pre .0)))
 
 add-at : tie.Need-add-at Inv-loop μ-loop
-add-at c = omega (arith, c .rules .ensures, ranges _ (valid-in-range _ (c .before .before .before .pre .0)))
+add-at c =
+    let rules = c .before .before .before .before in
+    let start = rules .before .before .before in
+    omega (arith, rules .rules .ensures, ranges _ (valid-in-range _ (start .pre .0)))
 
 loop-holds : tie.Need-loop-holds Inv-loop μ-loop
 loop-holds c =
-    let start = c .before .before .before in
-    build-first _ _ (start .pre .1 .0) (start .pre .1 .1) _ (rw (c .rules .ensures) refl)
+    let plant = c .before .before in
+    let rules = plant .before .before in
+    let start = rules .before .before .before in
+    build-first _ (valid-in-range _ (start .pre .0)) _ (start .pre .1 .1 .0) (start .pre .1 .1 .1) _ (rw (rules .rules .ensures) refl) _
+    (rw (start .pre .1 .0) refl) _ (plant .plant .ensures ∙ rw (start .pre .1 .0) refl)
 
 walk-requires : tie.Need-walk-requires Inv-loop μ-loop
 walk-requires c κs =
-    let start = c .before .before .before .before .before .before in
-    let turn = c .before .before .loop .inv in
-    let more = rw (c .before .before .before .rules .ensures) at (c .before .loop-test .taken) in
-    (start .pre .0, ((more, turn .place), ((turn .grown, rw (turn .size) (start .pre .1 .1)), turn .nodes)))
-
-mark-requires : tie.Need-mark-requires Inv-loop μ-loop
-mark-requires c κs =
-    let loop-test = c .before .before .before .before .before in
+    let loop-test = c .before in
     let loop = loop-test .before in
-    let rules = loop .before in
+    let plant = loop .before .before .before in
+    let rules = plant .before .before in
     let start = rules .before .before .before in
     let turn = loop .loop .inv in
     let more = rw (rules .rules .ensures) at (loop-test .loop-test .taken) in
-    let walked = c .before .before .before .walk .ensures in
-    let room = followed-room _ (valid-in-range _ (start .pre .0)) _ (start .pre .1 .1) _ more _ _ (walked .0) in
-    (rw (walked .1 ∙ turn .size) (room .2), room .1)
+    (start .pre .0, (start .pre .1 .0, ((more, turn .place), ((turn .grown, rw (turn .size ∙ plant .plant .kept .0) (start .pre .1 .1 .1)), turn .nodes))))
+
+claim-requires : tie.Need-claim-requires Inv-loop μ-loop
+claim-requires c κs =
+    let walk = c .before .before .before in
+    let loop-test = walk .before .before in
+    let loop = loop-test .before in
+    let plant = loop .before .before .before in
+    let rules = plant .before .before in
+    let start = rules .before .before .before in
+    let turn = loop .loop .inv in
+    let more = rw (rules .rules .ensures) at (loop-test .loop-test .taken) in
+    let walked = walk .walk .ensures in
+    let room = followed-room _ (valid-in-range _ (start .pre .0)) _ (start .pre .1 .1 .1) _ more _ _ (walked .0) in
+    (rw (walked .1 ∙ turn .size ∙ plant .plant .kept .0) (room .2), room .1)
 
 body-length-requires : tie.Need-body-length-requires Inv-loop μ-loop
 body-length-requires c κs =
     let loop-test = c .before .before .before .before .before .before .before .before in
-    let loop = loop-test .before in
-    let rules = loop .before in
+    let rules = loop-test .before .before .before .before .before .before in
     let start = rules .before .before .before in
-    let turn = loop .loop .inv in
     let more = rw (rules .rules .ensures) at (loop-test .loop-test .taken) in
     (start .pre .0, more)
 
@@ -66,39 +95,47 @@ add-at-2 : tie.Need-add-at-2 Inv-loop μ-loop
 add-at-2 c =
     let loop-test = c .before .before .before .before .before .before .before .before .before in
     let loop = loop-test .before in
-    let rules = loop .before in
+    let rules = loop .before .before .before .before .before in
     let start = rules .before .before .before in
-    let turn = loop .loop .inv in
     let more = rw (rules .rules .ensures) at (loop-test .loop-test .taken) in
-    omega (arith, c .body-length .ensures, turn .place, left-within _ (start .pre .0) _ more)
+    omega (arith, c .body-length .ensures, loop .loop .inv .place, left-within _ (start .pre .0) _ more)
 
 add-i : tie.Need-add-i Inv-loop μ-loop
-add-i c = omega arith
+add-i c =
+    omega arith
 
 loop-less : tie.Need-loop-less Inv-loop μ-loop
-loop-less c = omega arith
+loop-less c =
+    omega arith
 
 loop-again : tie.Need-loop-again Inv-loop μ-loop
 loop-again c =
-    let mark = c .before .before .before in
-    let walk = mark .before .before .before .before in
+    let claim = c .before .before .before in
+    let walk = claim .before .before .before .before in
     let loop-test = walk .before .before in
     let loop = loop-test .before in
-    let rules = loop .before in
+    let plant = loop .before .before .before in
+    let rules = plant .before .before in
     let start = rules .before .before .before in
     let turn = loop .loop .inv in
     let more = rw (rules .rules .ensures) at (loop-test .loop-test .taken) in
     let walked = walk .walk .ensures in
-    let room = followed-room _ (valid-in-range _ (start .pre .0)) _ (start .pre .1 .1) _ more _ _ (walked .0) in
+    let room = followed-room _ (valid-in-range _ (start .pre .0)) _ (start .pre .1 .1 .1) _ more _ _ (walked .0) in
     rw add-one
-    (build-next _ _ _ _ _ _ turn more _ _ (walked .0) (rw (walked .1 ∙ turn .size) (room .0)) _ (mark .mark .ensures)
-    (mark .mark .kept .0 ∙ walked .1 ∙ turn .size) _ (c .body-length .ensures))
+    (build-next _ (valid-in-range _ (start .pre .0)) _ _ _ _ _ turn more _ _ (walked .0) (rw (walked .1 ∙ turn .size ∙ plant .plant .kept .0) (room .0)) _
+    (claim .claim .ensures) (claim .claim .kept .0 ∙ walked .1 ∙ turn .size) _ (c .body-length .ensures))
 
 same-length : tie.Need-same-length Inv-loop μ-loop
-same-length c = c .before .loop .inv .size
+same-length c =
+    let loop = c .before in
+    let plant = loop .before .before .before in
+    loop .loop .inv .size ∙ plant .plant .kept .0
 
 returns : tie.Need-returns Inv-loop μ-loop
-returns c = build-last _ _ _ _ _ _ (c .before .loop .inv) (rw (c .before .before .rules .ensures) at (c .loop-test .left))
+returns c =
+    let loop = c .before in
+    let rules = loop .before .before .before .before .before in
+    build-last _ _ _ _ _ _ (loop .loop .inv) (rw (rules .rules .ensures) at (c .loop-test .left))
 
 pub build-spec : {M : Type 1} → statement M
 build-spec =
@@ -107,11 +144,13 @@ build-spec =
     Inv-loop
     μ-loop
     rules-requires
+    plant-requires
+    add-n
     mul-at
     add-at
     loop-holds
     walk-requires
-    mark-requires
+    claim-requires
     body-length-requires
     add-at-2
     add-i

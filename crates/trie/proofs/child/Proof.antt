@@ -7,10 +7,10 @@ use Rattle.trie.proofs.child.Statement.{statement}
 use Rattle.trie.proofs.child.Tie as tie
 
 abbrev Inv-loop : tie.InvT-loop
-Inv-loop trie n q a c₀ c = Searching trie n q a c
+Inv-loop trie root n q a c₀ c = Searching root trie n q a c
 
 abbrev μ-loop : tie.MeasureT-loop
-μ-loop trie n q a c₀ c = c
+μ-loop trie root n q a c₀ c = c
 
 mul-word : tie.Need-mul-word Inv-loop μ-loop
 mul-word c = search needs
@@ -28,7 +28,7 @@ word-requires : tie.Need-word-requires Inv-loop μ-loop
 word-requires c κs = search needs
 
 loop-holds : tie.Need-loop-holds Inv-loop μ-loop
-loop-holds c = (let start = c .before .before .before in search-first _ _ _ _ (start .pre .0) (start .pre .1) _ (c .word .ensures))
+loop-holds c = (let start = c .before .before .before in search-first _ _ _ _ _ (start .pre .0) (start .pre .1) _ (c .word .ensures))
 
 mul-if1 : tie.Need-mul-if1 Inv-loop μ-loop
 mul-if1 c = search needs
@@ -43,7 +43,7 @@ shared-slice-read-if1 : tie.Need-shared-slice-read-if1 Inv-loop μ-loop
 shared-slice-read-if1 c = search needs
 
 returns : tie.Need-returns Inv-loop μ-loop
-returns c = search-found _ _ _ _ _ (c .before .before .before .loop .inv) (c .before .before .loop-test .taken) (c .if1 .taken)
+returns c = search-found _ _ _ _ _ _ (c .before .before .before .loop .inv) (c .before .before .loop-test .taken) (c .if1 .taken)
 
 mul-word-3 : tie.Need-mul-word-3 Inv-loop μ-loop
 mul-word-3 c = search needs
@@ -72,11 +72,11 @@ loop-again c =
     let loop-test = c .before .before .before .before in
     let loop = loop-test .before in
     let start = loop .before .before .before .before in
-    search-next _ _ _ _ (start .pre .0) _ (loop .loop .inv) (loop-test .loop-test .taken) (c .before .before .if1 .left) _
+    search-next _ _ _ _ _ (start .pre .0) _ (loop .loop .inv) (loop-test .loop-test .taken) (c .before .before .if1 .left) _
     (c .word2 .ensures)
 
 returns-2 : tie.Need-returns-2 Inv-loop μ-loop
-returns-2 c = search-none _ _ _ _ _ (c .before .loop .inv) (c .loop-test .left)
+returns-2 c = search-none _ _ _ _ _ _ (c .before .loop .inv) (c .loop-test .left)
 
 pub child-spec : {M : Type 1} → statement M
 child-spec =

@@ -19,7 +19,7 @@ inside c =
     let turn = c .before .before .before .before in
     let word = turn .before in
     let start = word .before .before .before .before in
-    word-inside (start .args .trie .now) (start .args .rows .now) (start .args .s) (start .args .q) (word .word .ensures)
+    word-inside (start .args .trie .now) (start .args .rows .now) (start .args .s) (start .args .root) (start .args .q) (word .word .ensures)
     (c .before .before .word2 .ensures) (c .word3 .ensures) (turn .if1 .left) (start .pre .1 .1)
 
 mul-word : tie.Need-mul-word
@@ -36,7 +36,7 @@ word-requires c κs = search needs
 
 returns : tie.Need-returns
 unfolding failureBy
-returns c = rw (eq-eqb _ 0 (sym (c .before .word .ensures) ∙ c .if1 .taken))
+returns c = rw (eq-eqb _ _ (sym (c .before .word .ensures) ∙ c .if1 .taken))
 
 mul-word-3 : tie.Need-mul-word-3
 mul-word-3 c = search needs
@@ -90,7 +90,7 @@ returns-2 c =
     let word = turn .before in
     let start = word .before .before .before .before in
     c .word4 .ensures
-    ∙ word-read (start .args .trie .now) (start .args .rows .now) (start .args .s) (start .args .q) (word .word .ensures)
+    ∙ word-read (start .args .trie .now) (start .args .rows .now) (start .args .s) (start .args .root) (start .args .q) (word .word .ensures)
     (word2 .word2 .ensures) (c .before .before .word3 .ensures) (turn .if1 .left)
 
 pub failure-of-spec : {M : Type 1} → statement M

@@ -17,7 +17,7 @@ returns : tie.Need-returns
 returns c =
     inl
     (record {
-      child = child-there _ _ _ _ _ (c .before .child .ensures) (c .if1 .taken);
+      child = child-there _ _ _ _ _ _ (c .before .child .ensures) (c .if1 .taken);
       nodes = refl;
       kept = refl;
     })
@@ -25,8 +25,8 @@ returns c =
 add-requires : tie.Need-add-requires
 add-requires c κs = search needs
 
-add-t12 : tie.Need-add-t12
-add-t12 c = search needs
+add-t13 : tie.Need-add-t13
+add-t13 c = search needs
 
 same-length-2 : tie.Need-same-length-2
 same-length-2 c = search needs
@@ -37,7 +37,7 @@ returns-2 c =
     let child = if1 .before in
     inr
     (record {
-      none = child-missing _ _ _ _ _ (child .child .ensures) (if1 .if1 .left);
+      none = child-missing _ _ _ _ _ _ (child .child .ensures) (if1 .if1 .left);
       node = refl;
       nodes = refl;
       grown = c .before .before .add .ensures;
@@ -46,4 +46,4 @@ returns-2 c =
 pub follow-spec : {M : Type 1} → statement M
 follow-spec =
     tie.close
-    (tie.spec child-requires same-length returns add-requires add-t12 same-length-2 returns-2)
+    (tie.spec child-requires same-length returns add-requires add-t13 same-length-2 returns-2)

@@ -1,23 +1,26 @@
--- `table::rows::fill` meets its contract. The loop's invariant: the states of depth below `d` are done.
+-- `trie::rows::fill` meets its contract. The loop's invariant: the states of depth below `d` are done.
 -- Assumes nothing.
-use Prim.Native.Nat.{ℕ, _*_, _≤_, _-_}
+use Prim.Native.Nat.{ℕ, _*_, _≤_, _<_, _-_}
 use mathlib.Core.Path.{_≡_, refl, sym, ap, _∙_}
 use native.Mathlib.Omega.{arith}
 use lib.ListN.{length, replicate}
 use borrow.Author.Needs.{needs}
 use Rattle.layout.specs.Image.{read}
 use Rattle.layout.proofs.Image.{valid-in-range}
+use Rattle.layout.proofs.States.{root-below, root-small}
+use Rattle.layout.proofs.RowPlaces.{row-end}
+use Rattle.layout.specs.States.{states}
 use Rattle.trie.specs.Rows.{FillingAt}
 use Rattle.trie.proofs.Filled.{filling-start, filling-end}
 use Rattle.trie.proofs.rows.fill.Statement.{statement}
 use Rattle.trie.proofs.rows.fill.Tie as tie
 
 abbrev Inv-loop : tie.InvT-loop
-Inv-loop image trie₀ n rows₀ d₀ trie rows d =
-    (d ≤ 9) × (length trie ≡ length trie₀) × FillingAt (read image) d 1 trie rows
+Inv-loop image root trie₀ n rows₀ d₀ trie rows d =
+    (0 < d) × (d ≤ 10) × (length trie ≡ length trie₀) × FillingAt (read image) d 0 trie rows
 
 abbrev μ-loop : tie.MeasureT-loop
-μ-loop image trie₀ n rows₀ d₀ trie rows d = 9 - d
+μ-loop image root trie₀ n rows₀ d₀ trie rows d = 10 - d
 
 clear-requires : tie.Need-clear-requires Inv-loop μ-loop
 clear-requires c κs = search needs
@@ -29,36 +32,61 @@ lay-children-requires c κs =
     let symbols = read (start .args .image .now) .symbols in (
       start .pre .0,
       (
-        start .pre .1 .0 .trie,
+        start .pre .1 .0,
         (
-          start .pre .1 .0 .nodes,
-          clear .clear .ensures
-              ∙ ap (λ (k : ℕ). replicate k 0) (start .pre .1 .1 ∙ ap (λ (k : ℕ). k * symbols) (sym (start .pre .1 .0 .nodes))),
+          start .pre .1 .1 .0 .trie,
+          (
+            start .pre .1 .1 .0 .nodes,
+            clear .clear .ensures
+                ∙ ap (λ (k : ℕ). replicate k 0) (start .pre .1 .1 .1 ∙ ap (λ (k : ℕ). k * symbols) (sym (start .pre .1 .1 .0 .nodes))),
+          ),
         ),
       ),
     )
 
+symbols-requires : tie.Need-symbols-requires Inv-loop μ-loop
+symbols-requires c κs = search needs
+
+fill-root-requires : tie.Need-fill-root-requires Inv-loop μ-loop
+fill-root-requires c κs =
+    let lay-children = c .before .before .before .before in
+    let clear = lay-children .before .before .before .before .before in
+    let start = clear .before .before .before .before .before in
+    let image = start .args .image .now in
+    let end = row-end (read image .symbols) (start .args .root) (length (states (read image .rules)))
+    (omega (arith, start .pre .1 .0, root-below (read image .rules))) in (
+      rw (c .symbols .ensures)
+          (omega (arith, lay-children .lay-children .kept .1 .1 .1 .1 .0, clear .clear .kept .0, start .pre .1 .1 .1, end)),
+      omega (arith, start .pre .1 .0, root-small (read image .rules)),
+    )
+
 loop-holds : tie.Need-loop-holds Inv-loop μ-loop
 loop-holds c =
-    let lay-children = c .before .before in
+    let fill-root = c .before .before in
+    let symbols = fill-root .before in
+    let lay-children = symbols .before .before .before .before in
     let start = lay-children .before .before .before .before .before .before .before .before .before .before in (
       omega arith,
+      omega arith,
       refl,
-      filling-start (read (start .args .image .now)) (start .args .trie .now) (lay-children .lay-children .last .1 .1 .1 .0)
-          (valid-in-range (start .args .image .now) (start .pre .0)) (start .pre .1 .0 .trie) (start .pre .1 .0 .owned)
-          (lay-children .lay-children .ensures),
+      filling-start (read (start .args .image .now)) (start .args .trie .now) (lay-children .lay-children .last .1 .1 .1 .1 .0) (fill-root .fill-root .last .0)
+          (valid-in-range (start .args .image .now) (start .pre .0)) (start .pre .1 .1 .0 .trie) (start .pre .1 .1 .0 .owned)
+          (lay-children .lay-children .ensures) (rw (symbols .symbols .ensures, start .pre .1 .0) at (fill-root .fill-root .ensures)),
     )
 
 fill-depth-requires : tie.Need-fill-depth-requires Inv-loop μ-loop
 fill-depth-requires c κs =
-    let start = c .before .before .before .before .before .before .before .before .before .before .before .before .before .before .before .before in
-    (start .pre .0, (start .pre .1 .0 .nodes, c .before .before .before .loop .inv .2))
+    let loop = c .before .before .before in
+    let start = loop .before .before .before .before .before .before .before .before .before .before .before .before .before .before .before .before .before .before in
+    (start .pre .0, (start .pre .1 .0, (start .pre .1 .1 .0 .nodes, (loop .loop .inv .0, loop .loop .inv .3))))
 
 add-d : tie.Need-add-d Inv-loop μ-loop
-add-d c = omega arith
+add-d c =
+    omega arith
 
 loop-less : tie.Need-loop-less Inv-loop μ-loop
-loop-less c = omega arith
+loop-less c =
+    omega arith
 
 loop-again : tie.Need-loop-again Inv-loop μ-loop
 loop-again c =
@@ -66,23 +94,27 @@ loop-again c =
     let loop = fill-depth .before .before .before .before in
     let turn = loop .loop in
     let call = fill-depth .fill-depth in
-    (omega arith, call .kept .1 .0 ∙ turn .inv .1, call .ensures)
+    (omega arith, omega arith, call .kept .1 .1 .0 ∙ turn .inv .2, call .ensures)
 
 same-length : tie.Need-same-length Inv-loop μ-loop
-same-length c = c .before .loop .inv .1
+same-length c =
+    let loop = c .before in
+    loop .loop .inv .2
 
 same-length-2 : tie.Need-same-length-2 Inv-loop μ-loop
 same-length-2 c =
-    let start = c .before .before .before .before .before .before .before .before .before .before .before .before .before .before in
-    c .before .loop .inv .2 .size ∙ sym (start .pre .1 .1)
+    let loop = c .before in
+    let start = loop .before .before .before .before .before .before .before .before .before .before .before .before .before .before .before .before .before .before in
+    loop .loop .inv .3 .size ∙ sym (start .pre .1 .1 .1)
 
 returns : tie.Need-returns Inv-loop μ-loop
 returns c =
-    let start = c .before .before .before .before .before .before .before .before .before .before .before .before .before .before in
-    let turn = c .before .loop in
-    let all : turn .d ≡ 9 = omega arith in
+    let loop = c .before in
+    let start = loop .before .before .before .before .before .before .before .before .before .before .before .before .before .before .before .before .before .before in
+    let turn = loop .loop in
+    let all : turn .d ≡ 10 = omega arith in
     filling-end (read (start .args .image .now)) (start .args .trie .now) (turn .trie) (turn .rows)
-    (valid-in-range (start .args .image .now) (start .pre .0)) (turn .inv .1) (rw all at (turn .inv .2))
+    (valid-in-range (start .args .image .now) (start .pre .0)) (turn .inv .2) (rw all at (turn .inv .3))
 
 pub fill-spec : {M : Type 1} → statement M
 fill-spec =
@@ -92,6 +124,8 @@ fill-spec =
     μ-loop
     clear-requires
     lay-children-requires
+    symbols-requires
+    fill-root-requires
     loop-holds
     fill-depth-requires
     add-d

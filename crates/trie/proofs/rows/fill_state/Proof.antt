@@ -1,22 +1,32 @@
 -- `table::rows::fill_state` meets its contract: by the failure state, whose own row and match word are done.
 -- Assumes nothing.
-use Prim.Native.Nat.{ℕ}
-use mathlib.Core.Path.{_≡_, _∙_, ap}
+use Prim.Native.Nat.{ℕ, _+_, _*_, _<_}
+use mathlib.Core.Path.{_≡_, sym, _∙_, ap}
+use mathlib.Core.Bool.{true}
 use native.Mathlib.Omega.{arith}
+use lib.ListN.{length}
+use Rattle.rewriting.specs.Rules.{inRange}
 use Rattle.layout.specs.Image.{read}
+use Rattle.layout.specs.Words.{root}
 use Rattle.layout.proofs.Image.{valid-in-range}
-use Rattle.trie.specs.Nodes.{failureBy}
-use Rattle.trie.proofs.Laying.{Within, within}
-use Rattle.trie.proofs.Turns.{failure-place, failure-within, filling-more}
+use Rattle.trie.specs.Nodes.{parent, failureBy}
+use Rattle.trie.proofs.Turns.{nodes-within, failure-place, failure-within, filling-more}
 use borrow.Author.Needs.{needs}
 use Rattle.trie.proofs.rows.fill_state.Statement.{statement}
 use Rattle.trie.proofs.rows.fill_state.Tie as tie
 
+in-range : (c : tie.Start) → inRange (read (c .args .image .now)) ≡ true
+in-range c = valid-in-range (c .args .image .now) (c .pre .0)
+
+-- it is not the root
+other : (c : tie.Start) → c .args .q ≡ root (read (c .args .image .now) .rules) → ⊥
+other c e = c .pre .1 .1 .0 .0 (e ∙ sym (c .pre .1 .0))
+
 bounds : (c : tie.Start)
-    → Within (c .args .trie .now) (c .args .rows .now) (read (c .args .image .now) .symbols) (c .args .q)
+    → (8 * c .args .q + 7 < length (c .args .trie .now)) × (8 * parent (c .args .trie .now) (c .args .q) + 7 < length (c .args .trie .now))
 bounds c =
-    within (read (c .args .image .now)) (c .args .trie .now) (c .args .rows .now) (valid-in-range (c .args .image .now) (c .pre .0))
-    (c .pre .1 .1 .trie) (c .pre .1 .1 .size) (c .args .q) (c .pre .1 .0 .0) (c .pre .1 .0 .1)
+    nodes-within (read (c .args .image .now)) (c .args .q) (c .args .trie .now) (c .args .rows .now) (c .pre .1 .1 .1) (in-range c) (other c)
+    (c .pre .1 .1 .0 .1)
 
 -- the failure state, with the number of symbols that was read
 found : (c : tie.After-failure-of)
@@ -24,11 +34,16 @@ found : (c : tie.After-failure-of)
     ≡ failureBy (c .before .before .before .before .before .before .before .args .trie .now)
     (c .before .before .before .before .before .before .before .args .rows .now)
     (read (c .before .before .before .before .before .before .before .args .image .now) .symbols)
+    (root (read (c .before .before .before .before .before .before .before .args .image .now) .rules))
     (c .before .before .before .before .before .before .before .args .q)
 found c =
     let start = c .before .before .before .before .before .before .before in
     c .failure-of .ensures
-    ∙ ap (λ (n : ℕ). failureBy (start .args .trie .now) (start .args .rows .now) n (start .args .q)) (c .before .before .before .symbols .ensures)
+    ∙ ap (λ (n : ℕ). failureBy (start .args .trie .now) (start .args .rows .now) n (start .args .root) (start .args .q))
+    (c .before .before .before .symbols .ensures)
+    ∙ ap
+    (λ (n : ℕ). failureBy (start .args .trie .now) (start .args .rows .now) (read (start .args .image .now) .symbols) n (start .args .q))
+    (start .pre .1 .0)
 
 symbols-requires : tie.Need-symbols-requires
 symbols-requires c κs = search needs
@@ -39,10 +54,10 @@ failure-of-requires c κs =
       omega (arith, bounds start),
       (
         omega (arith, bounds start),
-        λ pos.
+        λ high.
             rw (c .before .before .symbols .ensures)
             (failure-place (read (start .args .image .now)) (start .args .q) (start .args .trie .now) (start .args .rows .now)
-            (start .pre .1 .1) (start .pre .1 .0 .0) (start .pre .1 .0 .1) pos),
+            (start .pre .1 .1 .1) (in-range start) (other start) (start .pre .1 .1 .0 .1) (λ e. high (e ∙ sym (start .pre .1 .0)))),
       ),
     )
 
@@ -50,9 +65,8 @@ note-requires : tie.Need-note-requires
 note-requires c κs =
     let failure-of = c .before in
     let start = failure-of .before .before .before .before .before .before .before in
-    let room = failure-within (read (start .args .image .now)) (start .args .q) (start .args .trie .now) (start .args .rows .now) (start .pre .1 .1)
-    (start .pre .1 .0 .0) (start .pre .1 .0 .1) (valid-in-range (start .args .image .now) (start .pre .0)) (failure-of .failure-of .result)
-    (found failure-of) in
+    let room = failure-within (read (start .args .image .now)) (start .args .q) (start .args .trie .now) (start .args .rows .now)
+    (start .pre .1 .1 .1) (in-range start) (other start) (start .pre .1 .1 .0 .1) (failure-of .failure-of .result) (found failure-of) in
     (omega (arith, bounds start), (room .0, room .1))
 
 merge-requires : tie.Need-merge-requires
@@ -60,9 +74,8 @@ merge-requires c κs =
     let failure-of = c .before .before .before .before .before in
     let symbols = failure-of .before .before .before in
     let start = symbols .before .before .before .before in
-    let room = failure-within (read (start .args .image .now)) (start .args .q) (start .args .trie .now) (start .args .rows .now) (start .pre .1 .1)
-    (start .pre .1 .0 .0) (start .pre .1 .0 .1) (valid-in-range (start .args .image .now) (start .pre .0)) (failure-of .failure-of .result)
-    (found failure-of) in
+    let room = failure-within (read (start .args .image .now)) (start .args .q) (start .args .trie .now) (start .args .rows .now)
+    (start .pre .1 .1 .1) (in-range start) (other start) (start .pre .1 .1 .0 .1) (failure-of .failure-of .result) (found failure-of) in
     rw (symbols .symbols .ensures) (room .2, room .3)
 
 same-length : tie.Need-same-length
@@ -78,8 +91,8 @@ returns c =
     let failure-of = note .before .before in
     let symbols = failure-of .before .before .before in
     let start = symbols .before .before .before .before in
-    filling-more (read (start .args .image .now)) (start .args .q) (start .args .trie .now) (start .args .rows .now) (start .pre .1 .1)
-    (start .pre .1 .0 .0) (start .pre .1 .0 .1) (note .note .last .0) (merge .merge .last .0) (failure-of .failure-of .result)
+    filling-more (read (start .args .image .now)) (start .args .q) (start .args .trie .now) (start .args .rows .now) (start .pre .1 .1 .1)
+    (in-range start) (other start) (start .pre .1 .1 .0 .1) (note .note .last .0) (merge .merge .last .0) (failure-of .failure-of .result)
     (found failure-of) (note .note .ensures) (rw (symbols .symbols .ensures) at (merge .merge .ensures))
 
 pub fill-state-spec : {M : Type 1} → statement M

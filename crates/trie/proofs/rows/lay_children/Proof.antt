@@ -9,17 +9,17 @@ use Rattle.layout.specs.Image.{read}
 use Rattle.layout.proofs.Image.{valid-in-range}
 use Rattle.layout.specs.States.{states}
 use Rattle.trie.specs.Nodes.{parent, symbol}
-use Rattle.layout.proofs.States.{some-state}
+use Rattle.layout.proofs.States.{root-below, root-small}
 use Rattle.trie.proofs.Laying.{LaidBelow, laid-none, laid-more, laid-all, Within, within}
 use Rattle.trie.proofs.rows.lay_children.Statement.{statement}
 use Rattle.trie.proofs.rows.lay_children.Tie as tie
 
 abbrev Inv-loop : tie.InvT-loop
-Inv-loop image trie n rows₀ s c₀ rows c =
-    (0 < c) × (c ≤ n) × (length rows ≡ length rows₀) × LaidBelow (read image) rows c
+Inv-loop image root trie n rows₀ s c₀ rows c =
+    (root < c) × (c ≤ n) × (length rows ≡ length rows₀) × LaidBelow (read image) rows c
 
 abbrev μ-loop : tie.MeasureT-loop
-μ-loop image trie n rows₀ s c₀ rows c = n - c
+μ-loop image root trie n rows₀ s c₀ rows c = n - c
 
 -- the rows have their length at each turn
 sized : (c : tie.At-loop Inv-loop μ-loop)
@@ -28,8 +28,8 @@ sized : (c : tie.At-loop Inv-loop μ-loop)
     * read (c .before .before .before .before .before .args .image .now) .symbols
 sized c =
     let start = c .before .before .before .before .before in
-    c .loop .inv .2 ∙ ap length (start .pre .1 .1 .1) ∙ length-replicate _ 0
-    ∙ ap (λ (n : ℕ). n * read (start .args .image .now) .symbols) (start .pre .1 .1 .0)
+    c .loop .inv .2 ∙ ap length (start .pre .1 .1 .1 .1) ∙ length-replicate _ 0
+    ∙ ap (λ (n : ℕ). n * read (start .args .image .now) .symbols) (start .pre .1 .1 .1 .0)
 
 bounds : (c : tie.In-loop Inv-loop μ-loop)
     → Within (c .before .before .before .before .before .before .args .trie .now) (c .before .loop .rows)
@@ -38,8 +38,8 @@ bounds c =
     let loop = c .before in
     let start = loop .before .before .before .before .before in
     within (read (start .args .image .now)) (start .args .trie .now) (loop .loop .rows)
-    (valid-in-range (start .args .image .now) (start .pre .0)) (start .pre .1 .0) (sized loop) (loop .loop .c)
-    (loop .loop .inv .0) (omega arith)
+    (valid-in-range (start .args .image .now) (start .pre .0)) (start .pre .1 .1 .0) (sized loop) (loop .loop .c)
+    (rw (start .pre .1 .0) at (loop .loop .inv .0)) (omega arith)
 
 -- the word that is stored is the one of the node in its parent's row
 place : (c : tie.After-word2 Inv-loop μ-loop)
@@ -56,16 +56,22 @@ place c =
 symbols-requires : tie.Need-symbols-requires Inv-loop μ-loop
 symbols-requires c κs = search needs
 
+add-c : tie.Need-add-c Inv-loop μ-loop
+add-c c =
+    let start = c .before .before .before .before in
+    omega (arith, start .pre .1 .0, root-small (read (start .args .image .now) .rules))
+
 loop-holds : tie.Need-loop-holds Inv-loop μ-loop
 loop-holds c =
     let start = c .before .before .before .before in
     let image = start .args .image .now in (
       omega arith,
-      omega (arith, some-state (read image .rules)),
+      omega (arith, start .pre .1 .0, root-below (read image .rules), start .pre .1 .1 .1 .0),
       refl,
-      laid-none (read image) (start .args .rows .now)
-          (start .pre .1 .1 .1
-          ∙ ap (λ (n : ℕ). replicate (n * read image .symbols) 0) (start .pre .1 .1 .0)),
+      rw (start .pre .1 .0)
+          (laid-none (read image) (start .args .rows .now) (start .pre .1 .1 .0 .few)
+          (start .pre .1 .1 .1 .1
+          ∙ ap (λ (n : ℕ). replicate (n * read image .symbols) 0) (start .pre .1 .1 .1 .0))),
     )
 
 mul-word : tie.Need-mul-word Inv-loop μ-loop
@@ -120,8 +126,8 @@ slice-write-rows c =
     let place2 = c .before .before .before .before in
     omega (arith, place c, bounds place2)
 
-add-c : tie.Need-add-c Inv-loop μ-loop
-add-c c = omega arith
+add-c-2 : tie.Need-add-c-2 Inv-loop μ-loop
+add-c-2 c = omega arith
 
 loop-less : tie.Need-loop-less Inv-loop μ-loop
 loop-less c = omega arith
@@ -135,8 +141,8 @@ loop-again c =
       omega arith,
       simp length-set (turn .inv .2),
       rw (place c)
-          (laid-more (read (start .args .image .now)) (start .args .trie .now) (turn .rows) (turn .c) (start .pre .1 .0)
-          (sized loop) (turn .inv .0) (omega arith) (turn .inv .3)),
+          (laid-more (read (start .args .image .now)) (start .args .trie .now) (turn .rows) (turn .c) (start .pre .1 .1 .0)
+          (sized loop) (rw (start .pre .1 .0) at (turn .inv .0)) (omega arith) (turn .inv .3)),
     )
 
 same-length : tie.Need-same-length Inv-loop μ-loop
@@ -157,6 +163,7 @@ lay-children-spec =
     Inv-loop
     μ-loop
     symbols-requires
+    add-c
     loop-holds
     mul-word
     mul-word-2
@@ -172,7 +179,7 @@ lay-children-spec =
     add-rows
     mul-rows-2
     slice-write-rows
-    add-c
+    add-c-2
     loop-less
     loop-again
     same-length

@@ -1,10 +1,10 @@
--- `table::trie::mark` meets its contract, by whether the node has a rule.
+-- `table::trie::claim` meets its contract, by whether the node has a rule.
 -- Assumes nothing.
 use borrow.Author.Tests.{eq-eqb, ne-eqb}
-use Rattle.trie.specs.Nodes.{marked}
+use Rattle.trie.specs.Nodes.{claimed}
 use borrow.Author.Needs.{needs}
-use Rattle.trie.proofs.mark.Statement.{statement}
-use Rattle.trie.proofs.mark.Tie as tie
+use Rattle.trie.proofs.claim.Statement.{statement}
+use Rattle.trie.proofs.claim.Tie as tie
 
 mul-if1 : tie.Need-mul-if1
 mul-if1 c = search needs
@@ -40,15 +40,15 @@ same-length : tie.Need-same-length
 same-length c = search needs
 
 returns : tie.Need-returns
-unfolding marked
+unfolding claimed
 returns c = rw (eq-eqb _ 0 (c .if1 .taken))
 
 returns-2 : tie.Need-returns-2
-unfolding marked
+unfolding claimed
 returns-2 c = rw (ne-eqb _ 0 (c .if1 .left))
 
-pub mark-spec : {M : Type 1} → statement M
-mark-spec =
+pub claim-spec : {M : Type 1} → statement M
+claim-spec =
     tie.close
     (tie.spec
     mul-if1
