@@ -56,7 +56,7 @@ pub fn compile(image: &[u8], table: &mut [u16]) -> Compiled
 {
     if image::is_valid(image) {
         let root = image::root(image);
-        if image::bodies_length(image) < 64 {
+        if image::bodies_length(image) + root < 64 {
             let mut few = [0u16; FEW_WORDS];
             return compile_with(image, root, &mut few, table);
         }
@@ -82,7 +82,7 @@ fn begins_with_table(image: &[u8], table: &[u16]) -> bool
     ensures { λ r. ⌜ r ≡ prefix (tableOf (read (now (image .entry)))) (now (table .entry)) ⌝ }
 {
     let root = image::root(image);
-    if image::bodies_length(image) < 64 {
+    if image::bodies_length(image) + root < 64 {
         let mut few = [0u16; FEW_WORDS];
         return begins_by(image, root, &mut few, table);
     }

@@ -52,10 +52,10 @@ pub const MATCH: usize = 6;
 
 pub const FAILURE: usize = 7;
 
-// The words of 514 nodes, the bound on the number of states, and of 65, for a small rule set.
+// The words of 514 nodes, the bound on the number of states, and of 64, for a small rule set.
 pub const WORDS: usize = 4112;
 
-pub const FEW_WORDS: usize = 520;
+pub const FEW_WORDS: usize = 512;
 
 // Where a walk has come to, and the number of nodes.
 pub struct Walked {
@@ -186,19 +186,18 @@ fn walk(image: &[u8], root: usize, i: usize, at: usize, trie: &mut [u16], n: usi
     Walked { node: q, nodes }
 }
 
-// The nodes before any rule: the root and, where a rule has the mark, node 0 for the mark alone, of which the root is the parent
-// and the failure state.
-fn plant(trie: &mut [u16], root: usize)
+// Node 0 for the mark alone: node 1, the root, is its parent and its failure state.
+fn plant(trie: &mut [u16])
     requires room { ⌜ 8 ≤ length (now trie) ⌝ }
-    requires low { ⌜ root ≤ 1 ⌝ }
-    ensures { λ _. ⌜ now (trie .exit) ≡ planted root (now (trie .entry)) ⌝ }
+    ensures { λ _. ⌜ now (trie .exit) ≡ planted 1 (now (trie .entry)) ⌝ }
 {
-    trie[0] = root as u16;
-    trie[DEPTH] = root as u16;
-    trie[FAILURE] = root as u16;
+    trie[0] = 1;
+    trie[DEPTH] = 1;
+    trie[FAILURE] = 1;
 }
 
-// The trie of all left sides, in words that were 0, and the number of its nodes.
+// The trie of all left sides, in words that were 0, and the number of its nodes. Without a mark nothing is written before the first
+// rule, so that clearing the words stays one run.
 pub fn build(image: &[u8], root: usize, trie: &mut [u16]) -> usize
     requires image { ⌜ valid (now image) ≡ true ⌝ }
     requires root { ⌜ root ≡ Words.root (read (now image) .rules) ⌝ }
@@ -206,7 +205,9 @@ pub fn build(image: &[u8], root: usize, trie: &mut [u16]) -> usize
     ensures { λ r. ⌜ Built (read (now (image .entry))) r (now (trie .exit)) ⌝ }
 {
     let rules = image::rules(image);
-    plant(trie, root);
+    if 0 < root {
+        plant(trie);
+    }
     let mut n = root + 1;
     let mut at = 4 + 4 * rules;
     let mut i = 0;
