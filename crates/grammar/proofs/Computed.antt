@@ -7,9 +7,9 @@ use mathlib.Core.Path.{_≡_, refl}
 use mathlib.Core.List.{List, [], _∷_, _++_, flatMap}
 use lib.ListN.{length, take, drop, replicate}
 use Rattle.rewriting.specs.Lists.{over}
-use Rattle.rewriting.specs.Rules.{Put, Close, _⇒_, symbolsOf}
+use Rattle.rewriting.specs.Rules.{Put, Close, _⇒_, atStart, symbolsOf}
 use Rattle.rewriting.specs.Sample.{sample}
-use Rattle.layout.specs.Image.{kind, lengthOrVerdict, contents, body, imageOf}
+use Rattle.layout.specs.Image.{kind, lengthOrVerdict, markByte, contents, body, imageOf}
 use Rattle.layout.specs.Refusals.{refusal}
 use Rattle.grammar.specs.declared.Read.the-variants.{Image, Refused}
 use Rattle.grammar.specs.Tokens.{separator, letter, digit, nameByte, isName, tokenOf, unbroken, runsFrom, runs}
@@ -23,11 +23,13 @@ use Rattle.grammar.specs.Grammar.{
   symbol,
   event,
   sideSymbol,
+  firstSymbol,
   name,
   withVerdict,
   rightWord,
   word,
   arrow,
+  mark,
   closeEvents,
   closeRule,
   stop,
@@ -47,14 +49,14 @@ bytes (c then s) = code c ∷ bytes s
 computes : Unit {0}
 unfolding
     bytes separator letter digit nameByte isName tokenOf unbroken runsFrom runs numberOf orNew numbered
-    begun placed withSymbol symbol event sideSymbol name withVerdict rightWord word arrow closeEvents closeRule stop
+    begun placed withSymbol symbol event sideSymbol firstSymbol name withVerdict rightWord word arrow mark closeEvents closeRule stop
     afterToken afterRun complete ruleSetOf ended orBroken readRuns readText
 computes = tt
 
 -- the same for the two areas
 whole : Unit {0}
 unfolding
-    slot slots namesOf imageOf kind lengthOrVerdict contents body symbolsOf flatMap over refusal readChecks written unless readOf
+    slot slots namesOf imageOf kind lengthOrVerdict markByte contents body symbolsOf flatMap over refusal readChecks written unless readOf
 whole = tt
 
 -- The sample of document 01.
@@ -82,7 +84,7 @@ sample-rules = refl
 pub sample-image :
     imageOf (ruleSetOf sampleRead)
     ≡ 4 ∷ 3 ∷ 2 ∷ 3 ∷ 2 ∷ 0 ∷ 1 ∷ 0 ∷ 2 ∷ 0 ∷ 0 ∷ 0 ∷ 1 ∷ 1 ∷ 0 ∷ 0 ∷ 0 ∷ 1 ∷ 3 ∷ 3 ∷ 2 ∷ 1 ∷ []
-unfolding computes sampleRead imageOf contents body kind lengthOrVerdict symbolsOf flatMap
+unfolding computes sampleRead imageOf contents body kind lengthOrVerdict markByte symbolsOf flatMap
 sample-image = refl
 
 -- its first name, and the first of its words
@@ -224,6 +226,79 @@ pub word-15 :
     × (readText (fourteen ++ bytes "a -> #o .") ≡ Bad 5 156)
 unfolding computes sizes
 word-15 = (refl, refl)
+
+-- Document 02, No. 1: `^` before a rule's names is no name, and sets the rule's fourth contents byte to 1.
+abbrev pub markText : List ℕ
+markText = bytes "events lock take free . lock take -> held . held free -> #epsilon . ^ take -> #fail . held take -> #fail ."
+
+unfoldable pub markRead : Reading
+markRead =
+    record {
+      symbols = bytes "lock" ∷ bytes "take" ∷ bytes "free" ∷ bytes "held" ∷ [];
+      words = bytes "fail" ∷ bytes "succeed" ∷ [];
+      events = 3;
+      rules =
+          (0 ∷ 1 ∷ [] ⇒ Put (3 ∷ [])) ∷ (3 ∷ 2 ∷ [] ⇒ Put []) ∷ atStart (1 ∷ [] ⇒ Close 0) ∷ (3 ∷ 1 ∷ [] ⇒ Close 0) ∷ [];
+      place = Between;
+    }
+
+pub mark-read : readText markText ≡ Good markRead
+unfolding computes markRead
+mark-read = refl
+
+-- "28 bytes"
+pub mark-image :
+    imageOf (ruleSetOf markRead)
+    ≡ 4 ∷ 4 ∷ 2 ∷ 3 ∷ 2 ∷ 0 ∷ 1 ∷ 0 ∷ 2 ∷ 0 ∷ 0 ∷ 0 ∷ 1 ∷ 1 ∷ 0 ∷ 1 ∷ 2 ∷ 1 ∷ 0 ∷ 0 ∷ 0 ∷ 1 ∷ 3 ∷ 3 ∷ 2 ∷ 1 ∷ 3 ∷ 1 ∷ []
+unfolding computes whole markRead
+mark-image = refl
+
+-- "before 1 to 8 names", with any right side; the ninth name is 5
+pub mark-names :
+    Sizes (bytes "events a . ^ a a a a a a a a -> a . ^ a -> #epsilon . ^ b -> #x .") 2 3 1 3
+    × RefusedText "events a . ^ a a a a a a a a a -> a ." 5 29
+unfolding computes sizes
+mark-names = (refl, refl)
+
+-- `^` and a name in one run are no token, nor are two `^`
+pub mark-no-token :
+    RefusedText "events a . ^a -> a ." 3 11
+    × RefusedText "events a . a^ -> a ." 3 11
+    × RefusedText "events a . ^^ a -> a ." 3 11
+unfolding computes
+mark-no-token = (refl, refl, refl)
+
+-- "A misplaced `^` is refusal 4": first, among the events, behind `^` or a name, and in or behind a right side
+pub mark-misplaced :
+    RefusedText "^ events a ." 4 0
+    × RefusedText "events ^ a ." 4 7
+    × RefusedText "events a ^ ." 4 9
+    × RefusedText "events a . ^ ^ a -> a ." 4 13
+    × RefusedText "events a . a ^ -> a ." 4 13
+    × RefusedText "events a . a a a a a a a a ^ -> a ." 4 27
+    × RefusedText "events a . a -> ^ a ." 4 16
+    × RefusedText "events a . a -> a ^ ." 4 18
+    × RefusedText "events a . a -> #x ^ ." 4 19
+unfolding computes
+mark-misplaced = (refl, refl, refl, refl, refl, refl, refl, refl, refl)
+
+-- behind `^` only a name may stand, and the text may not end
+pub behind-mark :
+    RefusedText "events a . ^ -> a ." 4 13
+    × RefusedText "events a . ^ #x ." 4 13
+    × RefusedText "events a . ^ ." 4 13
+    × RefusedText "events a . ^" 4 12
+    × RefusedText "events a . ^ " 4 13
+unfolding computes
+behind-mark = (refl, refl, refl, refl, refl)
+
+-- where rule 65 would begin, `^` is taken, and the name behind it is its first
+pub mark-65 :
+    (readText (bytes "events a . " ++ times 64 (bytes "a -> a . ") ++ bytes "^ a") ≡ Bad 5 589)
+    × (readText (bytes "events a . " ++ times 64 (bytes "a -> a . ") ++ bytes "^ ->") ≡ Bad 4 589)
+    × (readText (bytes "events a . " ++ times 64 (bytes "a -> a . ") ++ bytes "^") ≡ Bad 4 588)
+unfolding computes times
+mark-65 = (refl, refl, refl)
 
 -- "It returns the image's length; bytes beyond either stay.": the sample into areas that are one byte longer than needed
 pub sample-taken :

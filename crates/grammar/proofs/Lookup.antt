@@ -13,15 +13,16 @@ use lib.ListN.{length, getD, take, drop, replicate, length-append, replicate-app
 use lib.Seq.{take-at, drop-at, getD-at}
 use borrow.Author.Tests.{ne-eqb, le-leb, ltb-true, ltb-false}
 use Rattle.rewriting.specs.Lists.{all, same, between, over}
-use Rattle.rewriting.specs.Rules.{Put, Rule, _⇒_}
+use Rattle.rewriting.specs.Rules.{Put, Rule}
 use Rattle.rewriting.proofs.Lists.{and-left, and-right, and-both, all-at, same-eq, same-refl, between-low}
-use Rattle.grammar.specs.Tokens.{isName, Token, Name, Word, Arrow, Stop}
+use Rattle.grammar.specs.Tokens.{isName, Token, Name, Word, Arrow, Stop, Mark}
 use Rattle.grammar.specs.Names.{numberOf, Numbered, orNew, numbered, slot, slots}
 use Rattle.grammar.specs.Grammar.{
   Place,
   First,
   Events,
   Between,
+  Marked,
   InLeft,
   InRight,
   Ending,
@@ -39,12 +40,15 @@ use Rattle.grammar.specs.Grammar.{
   symbol,
   event,
   sideSymbol,
+  firstSymbol,
   name,
   withVerdict,
   rightWord,
   word,
   arrow,
+  mark,
   closeEvents,
+  ruleWith,
   closeRule,
   stop,
   afterToken,
@@ -318,22 +322,27 @@ unfolding event
 added-event s x none = added-symbol s x (λ i. Events)
 added-event s x (some i) = added-breaks s 6
 
+added-first-symbol : (s : Reading) (x : List ℕ) (m : Bool) → Added s (firstSymbol s x m)
+unfolding firstSymbol
+added-first-symbol s x m =
+    cond-either (Added s) (ltb (length (s .rules)) 64) _ _ (λ _. added-side s x [] (InLeft m)) (λ _. added-breaks s 5)
+
 added-name : (s : Reading) (x : List ℕ) (p : Place) → Added s (name s x p)
 unfolding name
 added-name s x First =
     cond-either (Added s) (same x eventsWord) _ _ (λ _. added-placed s Events) (λ _. added-breaks s 4)
 added-name s x Events = added-event s x (numberOf (s .symbols) x)
-added-name s x Between =
-    cond-either (Added s) (ltb (length (s .rules)) 64) _ _ (λ _. added-side s x [] InLeft) (λ _. added-breaks s 5)
-added-name s x (InLeft l) = added-side s x l InLeft
-added-name s x (InRight l v) = added-side s x v (InRight l)
-added-name s x (Ending l r) = added-breaks s 4
+added-name s x Between = added-first-symbol s x false
+added-name s x Marked = added-first-symbol s x true
+added-name s x (InLeft m l) = added-side s x l (InLeft m)
+added-name s x (InRight m l v) = added-side s x v (InRight m l)
+added-name s x (Ending m l r) = added-breaks s 4
 
-added-verdict : (s : Reading) (x l : List ℕ) → Added s (withVerdict s l (numbered 16 (s .words) x))
+added-verdict : (s : Reading) (x : List ℕ) (m : Bool) (l : List ℕ) → Added s (withVerdict s m l (numbered 16 (s .words) x))
 unfolding withVerdict
-added-verdict s x l = go (numbered 16 (s .words) x) refl
+added-verdict s x m l = go (numbered 16 (s .words) x) refl
   where
-    go : (o : Option Numbered) → numbered 16 (s .words) x ≡ o → Added s (withVerdict s l o)
+    go : (o : Option Numbered) → numbered 16 (s .words) x ≡ o → Added s (withVerdict s m l o)
     go none e = added-breaks s 5
     go (some n) e = added-goes s _ (inl refl) (adds-numbered 16 (s .words) x n e)
 
@@ -342,20 +351,32 @@ unfolding word rightWord
 added-word s x First = added-breaks s 4
 added-word s x Events = added-breaks s 4
 added-word s x Between = added-breaks s 4
-added-word s x (InLeft l) = added-breaks s 4
-added-word s x (InRight l []) =
-    cond-either (Added s) (same x epsilonWord) _ _ (λ _. added-placed s (Ending l (Put []))) (λ _. added-verdict s x l)
-added-word s x (InRight l (a ∷ v)) = added-breaks s 4
-added-word s x (Ending l r) = added-breaks s 4
+added-word s x Marked = added-breaks s 4
+added-word s x (InLeft m l) = added-breaks s 4
+added-word s x (InRight m l []) =
+    cond-either (Added s) (same x epsilonWord) _ _ (λ _. added-placed s (Ending m l (Put []))) (λ _. added-verdict s x m l)
+added-word s x (InRight m l (a ∷ v)) = added-breaks s 4
+added-word s x (Ending m l r) = added-breaks s 4
 
 added-arrow : (s : Reading) (p : Place) → Added s (arrow s p)
 unfolding arrow
 added-arrow s First = added-breaks s 4
 added-arrow s Events = added-breaks s 4
 added-arrow s Between = added-breaks s 4
-added-arrow s (InLeft l) = added-placed s (InRight l [])
-added-arrow s (InRight l v) = added-breaks s 4
-added-arrow s (Ending l r) = added-breaks s 4
+added-arrow s Marked = added-breaks s 4
+added-arrow s (InLeft m l) = added-placed s (InRight m l [])
+added-arrow s (InRight m l v) = added-breaks s 4
+added-arrow s (Ending m l r) = added-breaks s 4
+
+added-mark : (s : Reading) (p : Place) → Added s (mark s p)
+unfolding mark
+added-mark s First = added-breaks s 4
+added-mark s Events = added-breaks s 4
+added-mark s Between = added-placed s Marked
+added-mark s Marked = added-breaks s 4
+added-mark s (InLeft m l) = added-breaks s 4
+added-mark s (InRight m l v) = added-breaks s 4
+added-mark s (Ending m l r) = added-breaks s 4
 
 added-close-events : (s : Reading) (names : List (List ℕ)) → Added s (closeEvents s names)
 unfolding closeEvents
@@ -371,10 +392,11 @@ unfolding stop
 added-stop s First = added-breaks s 4
 added-stop s Events = added-close-events s (s .symbols)
 added-stop s Between = added-breaks s 4
-added-stop s (InLeft l) = added-breaks s 4
-added-stop s (InRight l []) = added-breaks s 4
-added-stop s (InRight l (a ∷ v)) = added-close-rule s (l ⇒ Put (a ∷ v))
-added-stop s (Ending l r) = added-close-rule s (l ⇒ r)
+added-stop s Marked = added-breaks s 4
+added-stop s (InLeft m l) = added-breaks s 4
+added-stop s (InRight m l []) = added-breaks s 4
+added-stop s (InRight m l (a ∷ v)) = added-close-rule s (ruleWith m l (Put (a ∷ v)))
+added-stop s (Ending m l r) = added-close-rule s (ruleWith m l r)
 
 pub added-after : (s : Reading) (t : Token) → Added s (afterToken s t)
 unfolding afterToken
@@ -382,6 +404,7 @@ added-after s (Name x) = added-name s x (s .place)
 added-after s (Word x) = added-word s x (s .place)
 added-after s Arrow = added-arrow s (s .place)
 added-after s Stop = added-stop s (s .place)
+added-after s Mark = added-mark s (s .place)
 
 -- So no two symbols of a text have one name, nor have two verdicts, and verdicts 0 and 1 are `fail` and `succeed`.
 pub record NamesKept (s : Reading) : Type 0 where

@@ -16,13 +16,14 @@ use Rattle.rewriting.proofs.Lists.{and-left, and-right, length-over}
 use Rattle.layout.specs.Image.{imageOf}
 use Rattle.layout.specs.Refusals.{refusal}
 use Rattle.layout.proofs.Image.{read-image}
-use Rattle.grammar.specs.Tokens.{Token, Name, Word, Arrow, Stop, tokenOf, separator, unbroken, runsFrom, runs}
+use Rattle.grammar.specs.Tokens.{Token, Name, Word, Arrow, Stop, Mark, tokenOf, separator, unbroken, runsFrom, runs}
 use Rattle.grammar.specs.Names.{numberOf, Numbered, numbered}
 use Rattle.grammar.specs.Grammar.{
   Place,
   First,
   Events,
   Between,
+  Marked,
   InLeft,
   InRight,
   Ending,
@@ -37,11 +38,13 @@ use Rattle.grammar.specs.Grammar.{
   symbol,
   event,
   sideSymbol,
+  firstSymbol,
   name,
   withVerdict,
   rightWord,
   word,
   arrow,
+  mark,
   closeEvents,
   closeRule,
   stop,
@@ -109,38 +112,56 @@ by-side : (s : Reading) (x side : List ℕ) (to : List ℕ → Place) → Breaks
 unfolding sideSymbol
 by-side s x side to = cond-either BreaksBy (ltb (length side) 8) _ _ (λ _. by-symbol s x _) (λ _. by-5)
 
+by-first-symbol : (s : Reading) (x : List ℕ) (m : Bool) → BreaksBy (firstSymbol s x m)
+unfolding firstSymbol
+by-first-symbol s x m =
+    cond-either BreaksBy (ltb (length (s .rules)) 64) _ _ (λ _. by-side s x [] (InLeft m)) (λ _. by-5)
+
 by-name : (s : Reading) (x : List ℕ) (p : Place) → BreaksBy (name s x p)
 unfolding name
 by-name s x First = cond-either BreaksBy (same x eventsWord) _ _ (λ _. tt) (λ _. by-4)
 by-name s x Events = by-event s x (numberOf (s .symbols) x)
-by-name s x Between = cond-either BreaksBy (ltb (length (s .rules)) 64) _ _ (λ _. by-side s x [] InLeft) (λ _. by-5)
-by-name s x (InLeft l) = by-side s x l InLeft
-by-name s x (InRight l v) = by-side s x v (InRight l)
-by-name s x (Ending l r) = by-4
+by-name s x Between = by-first-symbol s x false
+by-name s x Marked = by-first-symbol s x true
+by-name s x (InLeft m l) = by-side s x l (InLeft m)
+by-name s x (InRight m l v) = by-side s x v (InRight m l)
+by-name s x (Ending m l r) = by-4
 
-by-verdict : (s : Reading) (l : List ℕ) (o : Option Numbered) → BreaksBy (withVerdict s l o)
+by-verdict : (s : Reading) (m : Bool) (l : List ℕ) (o : Option Numbered) → BreaksBy (withVerdict s m l o)
 unfolding withVerdict
-by-verdict s l none = by-5
-by-verdict s l (some n) = tt
+by-verdict s m l none = by-5
+by-verdict s m l (some n) = tt
 
 by-word : (s : Reading) (x : List ℕ) (p : Place) → BreaksBy (word s x p)
 unfolding word rightWord
 by-word s x First = by-4
 by-word s x Events = by-4
 by-word s x Between = by-4
-by-word s x (InLeft l) = by-4
-by-word s x (InRight l []) = cond-either BreaksBy (same x epsilonWord) _ _ (λ _. tt) (λ _. by-verdict s l (numbered 16 (s .words) x))
-by-word s x (InRight l (a ∷ v)) = by-4
-by-word s x (Ending l r) = by-4
+by-word s x Marked = by-4
+by-word s x (InLeft m l) = by-4
+by-word s x (InRight m l []) = cond-either BreaksBy (same x epsilonWord) _ _ (λ _. tt) (λ _. by-verdict s m l (numbered 16 (s .words) x))
+by-word s x (InRight m l (a ∷ v)) = by-4
+by-word s x (Ending m l r) = by-4
 
 by-arrow : (s : Reading) (p : Place) → BreaksBy (arrow s p)
 unfolding arrow
 by-arrow s First = by-4
 by-arrow s Events = by-4
 by-arrow s Between = by-4
-by-arrow s (InLeft l) = tt
-by-arrow s (InRight l v) = by-4
-by-arrow s (Ending l r) = by-4
+by-arrow s Marked = by-4
+by-arrow s (InLeft m l) = tt
+by-arrow s (InRight m l v) = by-4
+by-arrow s (Ending m l r) = by-4
+
+by-mark : (s : Reading) (p : Place) → BreaksBy (mark s p)
+unfolding mark
+by-mark s First = by-4
+by-mark s Events = by-4
+by-mark s Between = tt
+by-mark s Marked = by-4
+by-mark s (InLeft m l) = by-4
+by-mark s (InRight m l v) = by-4
+by-mark s (Ending m l r) = by-4
 
 by-events : (s : Reading) (names : List (List ℕ)) → BreaksBy (closeEvents s names)
 unfolding closeEvents
@@ -152,10 +173,11 @@ unfolding stop closeRule
 by-stop s First = by-4
 by-stop s Events = by-events s (s .symbols)
 by-stop s Between = by-4
-by-stop s (InLeft l) = by-4
-by-stop s (InRight l []) = by-4
-by-stop s (InRight l (a ∷ v)) = tt
-by-stop s (Ending l r) = tt
+by-stop s Marked = by-4
+by-stop s (InLeft m l) = by-4
+by-stop s (InRight m l []) = by-4
+by-stop s (InRight m l (a ∷ v)) = tt
+by-stop s (Ending m l r) = tt
 
 by-run : (s : Reading) (o : Option Token) → BreaksBy (afterRun s o)
 unfolding afterRun afterToken
@@ -164,6 +186,7 @@ by-run s (some (Name x)) = by-name s x (s .place)
 by-run s (some (Word x)) = by-word s x (s .place)
 by-run s (some Arrow) = by-arrow s (s .place)
 by-run s (some Stop) = by-stop s (s .place)
+by-run s (some Mark) = by-mark s (s .place)
 
 -- A text that breaks does so by one of these numbers, inside the text or at its end.
 abbrev BreaksAt : ℕ → Result → Type 0

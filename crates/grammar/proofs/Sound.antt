@@ -11,18 +11,19 @@ use lib.Dec.{eqb, leb, ltb}
 use lib.ListN.{length, length-append}
 use borrow.Author.Tests.{ltb-true, le-leb, lt-ltb}
 use Rattle.rewriting.specs.Lists.{all, same, below}
-use Rattle.rewriting.specs.Rules.{Right, Put, Close, symbolsOf, Rule, _⇒_, RuleSet, rightInRange, ruleInRange, inRange}
+use Rattle.rewriting.specs.Rules.{Right, Put, Close, symbolsOf, Rule, RuleSet, rightInRange, ruleInRange, inRange}
 use Rattle.rewriting.proofs.Lists.{and-left, and-right, and-both, all-append, below-weaken}
 use Rattle.rewriting.proofs.Ranges.{right-below, RuleRanges, rule-ranges}
 use Rattle.layout.specs.Image.{imageOf, valid}
 use Rattle.layout.proofs.Image.{image-valid, longest}
-use Rattle.grammar.specs.Tokens.{letter, nameByte, isName, digit, Token, Name, Word, Arrow, Stop, tokenOf, Run, runs}
+use Rattle.grammar.specs.Tokens.{letter, nameByte, isName, digit, Token, Name, Word, Arrow, Stop, Mark, tokenOf, Run, runs}
 use Rattle.grammar.specs.Names.{numberOf, Numbered, orNew, numbered}
 use Rattle.grammar.specs.Grammar.{
   Place,
   First,
   Events,
   Between,
+  Marked,
   InLeft,
   InRight,
   Ending,
@@ -38,12 +39,15 @@ use Rattle.grammar.specs.Grammar.{
   symbol,
   event,
   sideSymbol,
+  firstSymbol,
   name,
   withVerdict,
   rightWord,
   word,
   arrow,
+  mark,
   closeEvents,
+  ruleWith,
   closeRule,
   stop,
   afterToken,
@@ -67,6 +71,7 @@ NamedToken (Name x) = isName x ≡ true
 NamedToken (Word x) = isName x ≡ true
 NamedToken Arrow = Unit {0}
 NamedToken Stop = Unit {0}
+NamedToken Mark = Unit {0}
 
 abbrev NamedIn : Option Token → Type 0
 NamedIn none = Unit {0}
@@ -79,7 +84,8 @@ token-named (b ∷ t) =
     cond-either NamedIn (isName (b ∷ t)) _ _ (λ e. e) λ _.
     cond-either NamedIn (eqb b 35 && isName t) _ _ (and-right (eqb b 35) (isName t)) λ _.
     cond-either NamedIn (same (b ∷ t) (45 ∷ 62 ∷ [])) _ _ (λ _. tt) λ _.
-    cond-either NamedIn (same (b ∷ t) (46 ∷ [])) _ _ (λ _. tt) (λ _. tt)
+    cond-either NamedIn (same (b ∷ t) (46 ∷ [])) _ _ (λ _. tt) λ _.
+    cond-either NamedIn (same (b ∷ t) (94 ∷ [])) _ _ (λ _. tt) (λ _. tt)
 
 -- A run of bytes that is a token has such a name.
 pub named-is-name : (bytes : List ℕ) (t : Token) → tokenOf bytes ≡ some t → NamedToken t
@@ -234,9 +240,10 @@ pub place-grows : (s s′ : Reading) (p : Place) → Grows s s′ → SoundAt s 
 place-grows s s′ First g h = tt
 place-grows s s′ Events g h = tt
 place-grows s s′ Between g h = events-grow s s′ g h
-place-grows s s′ (InLeft l) g h = begun-grows s s′ (l ⇒ Put []) g h
-place-grows s s′ (InRight l v) g h = begun-grows s s′ (l ⇒ Put v) g h
-place-grows s s′ (Ending l r) g h = begun-grows s s′ (l ⇒ r) g h
+place-grows s s′ Marked g h = events-grow s s′ g h
+place-grows s s′ (InLeft m l) g h = begun-grows s s′ (ruleWith m l (Put [])) g h
+place-grows s s′ (InRight m l v) g h = begun-grows s s′ (ruleWith m l (Put v)) g h
+place-grows s s′ (Ending m l r) g h = begun-grows s s′ (ruleWith m l r) g h
 
 -- the same at another place
 pub grows-placed : (s : Reading) (p : Place) → Grows s (placed s p)
@@ -327,22 +334,22 @@ below-names names n side k e =
     (below-weaken (length names) (length (n .names)) side (k .no-fewer) e)
     (and-both (lt-ltb (n .number) (length (n .names)) (k .number-in)) refl)
 
--- The first symbol of a left side, and one more.
+-- The first symbol of a left side, with a mark or without, and one more.
 pub sound-left :
-    (s : Reading) (x : List ℕ) (l : List ℕ) → Sound s → isName x ≡ true → EventsKnown s → length (s .rules) < 64
-    → below (length (s .symbols)) l ≡ true → KeepsSound (sideSymbol s x l InLeft)
+    (s : Reading) (x : List ℕ) (m : Bool) (l : List ℕ) → Sound s → isName x ≡ true → EventsKnown s → length (s .rules) < 64
+    → below (length (s .symbols)) l ≡ true → KeepsSound (sideSymbol s x l (InLeft m))
 unfolding ruleSetOf rightInRange
-sound-left s x l h nx known room in-l = sound-side s x l InLeft h nx one-more
+sound-left s x m l h nx known room in-l = sound-side s x l (InLeft m) h nx one-more
   where
     one-more :
         length l < 8 → (n : Numbered) → Kept 32 (s .symbols) n
-        → RuleBegun (withNames s n (InLeft (l ++ n .number ∷ []))) (l ++ n .number ∷ [] ⇒ Put [])
+        → RuleBegun (withNames s n (InLeft m (l ++ n .number ∷ []))) (ruleWith m (l ++ n .number ∷ []) (Put []))
     one-more short n k =
-        let s′ : Reading = withNames s n (InLeft (l ++ n .number ∷ [])) in
+        let s′ : Reading = withNames s n (InLeft m (l ++ n .number ∷ [])) in
         let long : length (l ++ n .number ∷ []) ≡ suc (length l) = simp length-append (omega arith) in (
           events-grow s s′ (grows-names s n (s′ .place) k) known,
           room,
-          rule-in-range (ruleSetOf s′) (l ++ n .number ∷ [] ⇒ Put [])
+          rule-in-range (ruleSetOf s′) (ruleWith m (l ++ n .number ∷ []) (Put []))
               (record {
                 some-left = omega arith;
                 short-left = omega arith;
@@ -353,23 +360,23 @@ sound-left s x l h nx known room in-l = sound-side s x l InLeft h nx one-more
 
 -- One more symbol of a right side.
 pub sound-right :
-    (s : Reading) (x : List ℕ) (l v : List ℕ) → Sound s → isName x ≡ true → RuleBegun s (l ⇒ Put v)
-    → KeepsSound (sideSymbol s x v (InRight l))
+    (s : Reading) (x : List ℕ) (m : Bool) (l v : List ℕ) → Sound s → isName x ≡ true → RuleBegun s (ruleWith m l (Put v))
+    → KeepsSound (sideSymbol s x v (InRight m l))
 unfolding ruleSetOf rightInRange symbolsOf
-sound-right s x l v h nx b = sound-side s x v (InRight l) h nx one-more
+sound-right s x m l v h nx b = sound-side s x v (InRight m l) h nx one-more
   where
     one-more :
         length v < 8 → (n : Numbered) → Kept 32 (s .symbols) n
-        → RuleBegun (withNames s n (InRight l (v ++ n .number ∷ []))) (l ⇒ Put (v ++ n .number ∷ []))
+        → RuleBegun (withNames s n (InRight m l (v ++ n .number ∷ []))) (ruleWith m l (Put (v ++ n .number ∷ [])))
     one-more short n k =
-        let s′ : Reading = withNames s n (InRight l (v ++ n .number ∷ [])) in
+        let s′ : Reading = withNames s n (InRight m l (v ++ n .number ∷ [])) in
         let g : Grows s s′ = grows-names s n (s′ .place) k in
-        let r : RuleRanges (ruleSetOf s) (l ⇒ Put v) = rule-ranges (ruleSetOf s) (l ⇒ Put v) (b .2) in
+        let r : RuleRanges (ruleSetOf s) (ruleWith m l (Put v)) = rule-ranges (ruleSetOf s) (ruleWith m l (Put v)) (b .2) in
         let low : below (length (s .symbols)) v ≡ true = right-below (ruleSetOf s) (Put v) (r .right-in-range) in
         let long : length (v ++ n .number ∷ []) ≡ suc (length v) = simp length-append (omega arith) in (
           events-grow s s′ g (b .0),
           b .1,
-          rule-in-range (ruleSetOf s′) (l ⇒ Put (v ++ n .number ∷ []))
+          rule-in-range (ruleSetOf s′) (ruleWith m l (Put (v ++ n .number ∷ [])))
               (record {
                 some-left = r .some-left;
                 short-left = r .short-left;
@@ -379,6 +386,15 @@ sound-right s x l v h nx b = sound-side s x v (InRight l) h nx one-more
               }),
         )
 
+-- The first name of a rule.
+pub sound-first-symbol :
+    (s : Reading) (x : List ℕ) (m : Bool) → Sound s → EventsKnown s → isName x ≡ true → KeepsSound (firstSymbol s x m)
+unfolding firstSymbol
+sound-first-symbol s x m h known nx =
+    cond-either KeepsSound (ltb (length (s .rules)) 64) _ _
+    (λ e. sound-left s x m [] h nx known (ltb-true (length (s .rules)) 64 e) refl)
+    (λ _. keeps-breaks 5)
+
 -- A name, at each place.
 pub sound-name : (s : Reading) (x : List ℕ) (p : Place) → Sound s → SoundAt s p → isName x ≡ true → KeepsSound (name s x p)
 unfolding name ruleSetOf
@@ -387,15 +403,13 @@ sound-name s x First h sound-at nx =
     (λ _. keeps-goes (placed s Events) (sound-placed s Events h tt))
     (λ _. keeps-breaks 4)
 sound-name s x Events h sound-at nx = sound-event s x (numberOf (s .symbols) x) h nx
-sound-name s x Between h sound-at nx =
-    cond-either KeepsSound (ltb (length (s .rules)) 64) _ _
-    (λ e. sound-left s x [] h nx sound-at (ltb-true (length (s .rules)) 64 e) refl)
-    (λ _. keeps-breaks 5)
-sound-name s x (InLeft l) h sound-at nx =
-    let r : RuleRanges (ruleSetOf s) (l ⇒ Put []) = rule-ranges (ruleSetOf s) (l ⇒ Put []) (sound-at .2) in
-    sound-left s x l h nx (sound-at .0) (sound-at .1) (r .left-below)
-sound-name s x (InRight l v) h sound-at nx = sound-right s x l v h nx sound-at
-sound-name s x (Ending l r) h sound-at nx = keeps-breaks 4
+sound-name s x Between h sound-at nx = sound-first-symbol s x false h sound-at nx
+sound-name s x Marked h sound-at nx = sound-first-symbol s x true h sound-at nx
+sound-name s x (InLeft m l) h sound-at nx =
+    let r : RuleRanges (ruleSetOf s) (ruleWith m l (Put [])) = rule-ranges (ruleSetOf s) (ruleWith m l (Put [])) (sound-at .2) in
+    sound-left s x m l h nx (sound-at .0) (sound-at .1) (r .left-below)
+sound-name s x (InRight m l v) h sound-at nx = sound-right s x m l v h nx sound-at
+sound-name s x (Ending m l r) h sound-at nx = keeps-breaks 4
 
 -- the words with one more, at another place
 abbrev pub withWords : Reading → Numbered → Place → Reading
@@ -424,13 +438,13 @@ sound-words s n p h k sound-at =
 
 -- a rule begun may have another right side that is in range
 pub begun-right :
-    (s : Reading) (l : List ℕ) (r r′ : Right) → RuleBegun s (l ⇒ r) → rightInRange (ruleSetOf s) r′ ≡ true
-    → RuleBegun s (l ⇒ r′)
-begun-right s l r r′ b e =
-    let g : RuleRanges (ruleSetOf s) (l ⇒ r) = rule-ranges (ruleSetOf s) (l ⇒ r) (b .2) in (
+    (s : Reading) (m : Bool) (l : List ℕ) (r r′ : Right) → RuleBegun s (ruleWith m l r) → rightInRange (ruleSetOf s) r′ ≡ true
+    → RuleBegun s (ruleWith m l r′)
+begun-right s m l r r′ b e =
+    let g : RuleRanges (ruleSetOf s) (ruleWith m l r) = rule-ranges (ruleSetOf s) (ruleWith m l r) (b .2) in (
       b .0,
       b .1,
-      rule-in-range (ruleSetOf s) (l ⇒ r′)
+      rule-in-range (ruleSetOf s) (ruleWith m l r′)
           (record {
             some-left = g .some-left;
             short-left = g .short-left;
@@ -441,39 +455,40 @@ begun-right s l r r′ b e =
 
 -- A `#` word, behind the left side l and `->`.
 pub sound-verdict :
-    (s : Reading) (x l : List ℕ) → Sound s → isName x ≡ true → RuleBegun s (l ⇒ Put [])
-    → KeepsSound (withVerdict s l (numbered 16 (s .words) x))
+    (s : Reading) (x : List ℕ) (m : Bool) (l : List ℕ) → Sound s → isName x ≡ true → RuleBegun s (ruleWith m l (Put []))
+    → KeepsSound (withVerdict s m l (numbered 16 (s .words) x))
 unfolding withVerdict rightInRange ruleSetOf
-sound-verdict s x l h nx b = go (numbered 16 (s .words) x) refl
+sound-verdict s x m l h nx b = go (numbered 16 (s .words) x) refl
   where
-    go : (o : Option Numbered) → numbered 16 (s .words) x ≡ o → KeepsSound (withVerdict s l o)
+    go : (o : Option Numbered) → numbered 16 (s .words) x ≡ o → KeepsSound (withVerdict s m l o)
     go none e = keeps-breaks 5
     go (some n) e =
         let k : Kept 16 (s .words) n = numbered-kept 16 (s .words) x n (h .few-words) (h .words-named) nx e in
-        let p : Place = Ending l (Close (n .number)) in
+        let p : Place = Ending m l (Close (n .number)) in
         let s′ : Reading = withWords s n p in
-        let b′ : RuleBegun s′ (l ⇒ Put []) = begun-grows s s′ (l ⇒ Put []) (grows-words s n p k) b in
+        let b′ : RuleBegun s′ (ruleWith m l (Put [])) = begun-grows s s′ (ruleWith m l (Put [])) (grows-words s n p k) b in
         keeps-goes s′
         (sound-words s n p h k
-        (begun-right s′ l (Put []) (Close (n .number)) b′ (lt-ltb (n .number) (length (n .names)) (k .number-in))))
+        (begun-right s′ m l (Put []) (Close (n .number)) b′ (lt-ltb (n .number) (length (n .names)) (k .number-in))))
 
 pub sound-right-word :
-    (s : Reading) (x l : List ℕ) → Sound s → isName x ≡ true → RuleBegun s (l ⇒ Put []) → KeepsSound (rightWord s x l)
+    (s : Reading) (x : List ℕ) (m : Bool) (l : List ℕ) → Sound s → isName x ≡ true → RuleBegun s (ruleWith m l (Put [])) → KeepsSound (rightWord s x m l)
 unfolding rightWord
-sound-right-word s x l h nx b =
+sound-right-word s x m l h nx b =
     cond-either KeepsSound (same x epsilonWord) _ _
-    (λ _. keeps-goes (placed s (Ending l (Put []))) (sound-placed s (Ending l (Put [])) h b))
-    (λ _. sound-verdict s x l h nx b)
+    (λ _. keeps-goes (placed s (Ending m l (Put []))) (sound-placed s (Ending m l (Put [])) h b))
+    (λ _. sound-verdict s x m l h nx b)
 
 pub sound-word : (s : Reading) (x : List ℕ) (p : Place) → Sound s → SoundAt s p → isName x ≡ true → KeepsSound (word s x p)
 unfolding word
 sound-word s x First h sound-at nx = keeps-breaks 4
 sound-word s x Events h sound-at nx = keeps-breaks 4
 sound-word s x Between h sound-at nx = keeps-breaks 4
-sound-word s x (InLeft l) h sound-at nx = keeps-breaks 4
-sound-word s x (InRight l []) h sound-at nx = sound-right-word s x l h nx sound-at
-sound-word s x (InRight l (a ∷ v)) h sound-at nx = keeps-breaks 4
-sound-word s x (Ending l r) h sound-at nx = keeps-breaks 4
+sound-word s x Marked h sound-at nx = keeps-breaks 4
+sound-word s x (InLeft m l) h sound-at nx = keeps-breaks 4
+sound-word s x (InRight m l []) h sound-at nx = sound-right-word s x m l h nx sound-at
+sound-word s x (InRight m l (a ∷ v)) h sound-at nx = keeps-breaks 4
+sound-word s x (Ending m l r) h sound-at nx = keeps-breaks 4
 
 -- `->`
 pub sound-arrow : (s : Reading) (p : Place) → Sound s → SoundAt s p → KeepsSound (arrow s p)
@@ -481,9 +496,21 @@ unfolding arrow
 sound-arrow s First h sound-at = keeps-breaks 4
 sound-arrow s Events h sound-at = keeps-breaks 4
 sound-arrow s Between h sound-at = keeps-breaks 4
-sound-arrow s (InLeft l) h sound-at = keeps-goes (placed s (InRight l [])) (sound-placed s (InRight l []) h sound-at)
-sound-arrow s (InRight l v) h sound-at = keeps-breaks 4
-sound-arrow s (Ending l r) h sound-at = keeps-breaks 4
+sound-arrow s Marked h sound-at = keeps-breaks 4
+sound-arrow s (InLeft m l) h sound-at = keeps-goes (placed s (InRight m l [])) (sound-placed s (InRight m l []) h sound-at)
+sound-arrow s (InRight m l v) h sound-at = keeps-breaks 4
+sound-arrow s (Ending m l r) h sound-at = keeps-breaks 4
+
+-- `^`
+pub sound-mark : (s : Reading) (p : Place) → Sound s → SoundAt s p → KeepsSound (mark s p)
+unfolding mark
+sound-mark s First h sound-at = keeps-breaks 4
+sound-mark s Events h sound-at = keeps-breaks 4
+sound-mark s Between h sound-at = keeps-goes (placed s Marked) (sound-placed s Marked h sound-at)
+sound-mark s Marked h sound-at = keeps-breaks 4
+sound-mark s (InLeft m l) h sound-at = keeps-breaks 4
+sound-mark s (InRight m l v) h sound-at = keeps-breaks 4
+sound-mark s (Ending m l r) h sound-at = keeps-breaks 4
 
 -- `.` behind the events
 pub sound-close-events : (s : Reading) (names : List (List ℕ)) → Sound s → s .symbols ≡ names → KeepsSound (closeEvents s names)
@@ -552,10 +579,11 @@ unfolding stop
 sound-stop s First h sound-at = keeps-breaks 4
 sound-stop s Events h sound-at = sound-close-events s (s .symbols) h refl
 sound-stop s Between h sound-at = keeps-breaks 4
-sound-stop s (InLeft l) h sound-at = keeps-breaks 4
-sound-stop s (InRight l []) h sound-at = keeps-breaks 4
-sound-stop s (InRight l (a ∷ v)) h sound-at = sound-close-rule s (l ⇒ Put (a ∷ v)) h sound-at
-sound-stop s (Ending l r) h sound-at = sound-close-rule s (l ⇒ r) h sound-at
+sound-stop s Marked h sound-at = keeps-breaks 4
+sound-stop s (InLeft m l) h sound-at = keeps-breaks 4
+sound-stop s (InRight m l []) h sound-at = keeps-breaks 4
+sound-stop s (InRight m l (a ∷ v)) h sound-at = sound-close-rule s (ruleWith m l (Put (a ∷ v))) h sound-at
+sound-stop s (Ending m l r) h sound-at = sound-close-rule s (ruleWith m l r) h sound-at
 
 -- Each token keeps a reading sound.
 pub sound-after : (s : Reading) (t : Token) → Sound s → NamedToken t → KeepsSound (afterToken s t)
@@ -564,6 +592,7 @@ sound-after s (Name x) h nx = sound-name s x (s .place) h (h .here) nx
 sound-after s (Word x) h nx = sound-word s x (s .place) h (h .here) nx
 sound-after s Arrow h nx = sound-arrow s (s .place) h (h .here)
 sound-after s Stop h nx = sound-stop s (s .place) h (h .here)
+sound-after s Mark h nx = sound-mark s (s .place) h (h .here)
 
 -- a text may end behind a `.`
 pub complete-between : (p : Place) → complete p ≡ true → p ≡ Between
@@ -571,9 +600,10 @@ unfolding complete
 complete-between First e = let z : _≡_ {A = ℕ} 0 1 = cc in absurd (omega arith)
 complete-between Events e = let z : _≡_ {A = ℕ} 0 1 = cc in absurd (omega arith)
 complete-between Between e = refl
-complete-between (InLeft l) e = let z : _≡_ {A = ℕ} 0 1 = cc in absurd (omega arith)
-complete-between (InRight l v) e = let z : _≡_ {A = ℕ} 0 1 = cc in absurd (omega arith)
-complete-between (Ending l r) e = let z : _≡_ {A = ℕ} 0 1 = cc in absurd (omega arith)
+complete-between Marked e = let z : _≡_ {A = ℕ} 0 1 = cc in absurd (omega arith)
+complete-between (InLeft m l) e = let z : _≡_ {A = ℕ} 0 1 = cc in absurd (omega arith)
+complete-between (InRight m l v) e = let z : _≡_ {A = ℕ} 0 1 = cc in absurd (omega arith)
+complete-between (Ending m l r) e = let z : _≡_ {A = ℕ} 0 1 = cc in absurd (omega arith)
 
 -- What each token keeps, and holds before the first, holds of what a text is read as. It is then behind a `.`.
 module _
