@@ -88,10 +88,17 @@ unfolding lead
 lead-stop [] e = absurd (omega (arith, e))
 lead-stop (b ∷ t) e = rw e
 
-pub lead-none : (t : List ℕ) → (getD t 0 32 ≡ 35 → ⊥) → (getD t 0 32 ≡ 46 → ⊥) → (getD t 0 32 ≡ 45 → ⊥) → 0 ≡ lead t
+pub lead-mark : (t : List ℕ) → getD t 0 32 ≡ 94 → 1 ≡ lead t
 unfolding lead
-lead-none [] hash stop dash = refl
-lead-none (b ∷ t) hash stop dash = rw (ne-eqb b 35 hash, ne-eqb b 46 stop, ne-eqb b 45 dash)
+lead-mark [] e = absurd (omega (arith, e))
+lead-mark (b ∷ t) e = rw e
+
+pub lead-none :
+    (t : List ℕ) → (getD t 0 32 ≡ 35 → ⊥) → (getD t 0 32 ≡ 46 → ⊥) → (getD t 0 32 ≡ 94 → ⊥) → (getD t 0 32 ≡ 45 → ⊥)
+    → 0 ≡ lead t
+unfolding lead
+lead-none [] hash stop mark dash = refl
+lead-none (b ∷ t) hash stop mark dash = rw (ne-eqb b 35 hash, ne-eqb b 46 stop, ne-eqb b 94 mark, ne-eqb b 45 dash)
 
 pub lead-arrow : (t : List ℕ) → getD t 0 32 ≡ 45 → getD t 1 32 ≡ 62 → 2 ≡ lead t
 unfolding lead
@@ -128,9 +135,19 @@ unfolding kindOf
 kind-word [] e = absurd (omega (arith, e))
 kind-word (b ∷ t) e = rw e
 
+pub kind-mark : (run : List ℕ) → getD run 0 0 ≡ 94 → length run ≡ 1 → kinds.Mark ≡ kindOf run
+unfolding kindOf
+kind-mark [] e one = absurd (omega (arith, one))
+kind-mark (b ∷ t) e one = rw (e, one)
+
+pub kind-no-mark : (run : List ℕ) → getD run 0 0 ≡ 94 → (length run ≡ 1 → ⊥) → kinds.None ≡ kindOf run
+unfolding kindOf
+kind-no-mark [] e one = refl
+kind-no-mark (b ∷ t) e one = rw (e, ne-eqb (length (b ∷ t)) 1 one)
+
 pub kind-name :
     (run : List ℕ) → 1 ≤ length run → (getD run 0 0 ≡ 46 → ⊥) → (getD run 0 0 ≡ 45 → ⊥) → (getD run 0 0 ≡ 35 → ⊥)
-    → namedAs kinds.Name (drop 0 run) ≡ kindOf run
+    → (getD run 0 0 ≡ 94 → ⊥) → namedAs kinds.Name (drop 0 run) ≡ kindOf run
 unfolding kindOf
-kind-name [] some stop dash hash = absurd (not-suc-le-zero some)
-kind-name (b ∷ t) some stop dash hash = rw (ne-eqb b 46 stop, ne-eqb b 45 dash, ne-eqb b 35 hash)
+kind-name [] some stop dash hash mark = absurd (not-suc-le-zero some)
+kind-name (b ∷ t) some stop dash hash mark = rw (ne-eqb b 46 stop, ne-eqb b 45 dash, ne-eqb b 35 hash, ne-eqb b 94 mark)

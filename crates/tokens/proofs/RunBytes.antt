@@ -117,17 +117,23 @@ unfolding lead unbroken separator
 leads [] = (refl, refl)
 leads (b ∷ t) = hash (eqb b 35) refl
   where
-    other : (h : Bool) → separator b ≡ h → eqb b 35 ≡ false → eqb b 46 ≡ false → eqb b 45 ≡ false → Leads (b ∷ t)
-    other true e f g k = rw (f, g, k, e) (refl, omega arith)
-    other false e f g k = rw (f, g, k, e, f, g, k) (refl, omega arith)
+    other :
+        (h : Bool) → separator b ≡ h → eqb b 35 ≡ false → eqb b 46 ≡ false → eqb b 94 ≡ false → eqb b 45 ≡ false
+        → Leads (b ∷ t)
+    other true e f g m k = rw (f, g, m, k, e) (refl, omega arith)
+    other false e f g m k = rw (f, g, m, k, e, f, g, m, k) (refl, omega arith)
 
-    dash : (h : Bool) → eqb b 45 ≡ h → eqb b 35 ≡ false → eqb b 46 ≡ false → Leads (b ∷ t)
-    dash true e f g = rw (eqb-true b 45 e) (leads-dash t)
-    dash false e f g = other (separator b) refl f g e
+    dash : (h : Bool) → eqb b 45 ≡ h → eqb b 35 ≡ false → eqb b 46 ≡ false → eqb b 94 ≡ false → Leads (b ∷ t)
+    dash true e f g m = rw (eqb-true b 45 e) (leads-dash t)
+    dash false e f g m = other (separator b) refl f g m e
+
+    mark : (h : Bool) → eqb b 94 ≡ h → eqb b 35 ≡ false → eqb b 46 ≡ false → Leads (b ∷ t)
+    mark true e f g = rw (eqb-true b 94 e) (refl, omega arith)
+    mark false e f g = dash (eqb b 45) refl f g e
 
     stop : (h : Bool) → eqb b 46 ≡ h → eqb b 35 ≡ false → Leads (b ∷ t)
     stop true e f = rw (eqb-true b 46 e) (refl, omega arith)
-    stop false e f = dash (eqb b 45) refl f e
+    stop false e f = mark (eqb b 94) refl f e
 
     hash : (h : Bool) → eqb b 35 ≡ h → Leads (b ∷ t)
     hash true e = rw (eqb-true b 35 e) (refl, omega arith)

@@ -15,7 +15,7 @@ use Rattle.tokens.specs.declared.Kind.{Kind}
 use Rattle.grammar.specs.Tokens.{letter, nameByte, isName, Token, tokenOf}
 use Rattle.tokens.specs.Scanned.{lead, namedAs, kindOf, tokenAs, Named}
 
--- the name in a run: what stands behind its `#`, `.` or `->`
+-- the name in a run: what stands behind its `#`, `.`, `^` or `->`
 abbrev pub nameOf : List ℕ → List ℕ
 nameOf run = drop (lead run) run
 
@@ -55,6 +55,15 @@ told-stop (y ∷ u) =
     in
     rw more (neither (all nameByte (y ∷ u)), λ h. tt)
 
+told-mark : (t : List ℕ) → Told (kindOf (94 ∷ t)) (94 ∷ t)
+unfolding tokenOf isName letter kindOf tokenAs lead
+told-mark [] = (refl, λ h. tt)
+told-mark (y ∷ u) =
+    let more : eqb (length (94 ∷ y ∷ u)) 1 ≡ false =
+    ne-eqb (length (94 ∷ y ∷ u)) 1 (λ (e : length (94 ∷ y ∷ u) ≡ 1). omega arith)
+    in
+    rw more (neither (all nameByte (y ∷ u)), λ h. tt)
+
 told-dash : (t : List ℕ) → Told (kindOf (45 ∷ t)) (45 ∷ t)
 unfolding tokenOf isName letter kindOf tokenAs lead
 told-dash t = go (same t (62 ∷ [])) refl
@@ -87,9 +96,11 @@ told-hash (y ∷ u) = go (leb (length (y ∷ u)) 24 && letter y) refl (name-is y
         let is : isName (y ∷ u) ≡ false = rw e at n in
         rw (no-name-hash (y ∷ u), is, e) (neither (all nameByte (y ∷ u)), λ h. tt)
 
-told-name : (b : ℕ) (t : List ℕ) → eqb b 46 ≡ false → eqb b 45 ≡ false → eqb b 35 ≡ false → Told (kindOf (b ∷ t)) (b ∷ t)
+told-name :
+    (b : ℕ) (t : List ℕ) → eqb b 46 ≡ false → eqb b 45 ≡ false → eqb b 35 ≡ false → eqb b 94 ≡ false
+    → Told (kindOf (b ∷ t)) (b ∷ t)
 unfolding tokenOf kindOf tokenAs namedAs lead
-told-name b t stop dash hash = go (leb (length (b ∷ t)) 24 && letter b) refl (name-is b t)
+told-name b t stop dash hash mark = go (leb (length (b ∷ t)) 24 && letter b) refl (name-is b t)
   where
     go :
         (h : Bool) → (leb (length (b ∷ t)) 24 && letter b) ≡ h
@@ -97,10 +108,10 @@ told-name b t stop dash hash = go (leb (length (b ∷ t)) 24 && letter b) refl (
         → Told (kindOf (b ∷ t)) (b ∷ t)
     go true e n =
         let is : isName (b ∷ t) ≡ all nameByte (b ∷ t) = rw e at n in
-        rw (is, e, stop, dash, hash) (refl, λ h. is ∙ h)
+        rw (is, e, stop, dash, hash, mark) (refl, λ h. is ∙ h)
     go false e n =
         let is : isName (b ∷ t) ≡ false = rw e at n in
-        rw (is, e, stop, dash, hash) (neither (all nameByte (b ∷ t)), λ h. tt)
+        rw (is, e, stop, dash, hash, mark) (neither (all nameByte (b ∷ t)), λ h. tt)
 
 -- Every run is the token of its kind.
 pub told : (run : List ℕ) → Told (kindOf run) run
@@ -108,9 +119,14 @@ unfolding tokenOf kindOf tokenAs lead
 told [] = (refl, λ h. tt)
 told (b ∷ t) = stop (eqb b 46) refl
   where
+    mark :
+        (h : Bool) → eqb b 94 ≡ h → eqb b 46 ≡ false → eqb b 45 ≡ false → eqb b 35 ≡ false → Told (kindOf (b ∷ t)) (b ∷ t)
+    mark true e f g k = rw (eqb-true b 94 e) (told-mark t)
+    mark false e f g k = told-name b t f g k e
+
     hash : (h : Bool) → eqb b 35 ≡ h → eqb b 46 ≡ false → eqb b 45 ≡ false → Told (kindOf (b ∷ t)) (b ∷ t)
     hash true e f g = rw (eqb-true b 35 e) (told-hash t)
-    hash false e f g = told-name b t f g e
+    hash false e f g = mark (eqb b 94) refl f g e
 
     dash : (h : Bool) → eqb b 45 ≡ h → eqb b 46 ≡ false → Told (kindOf (b ∷ t)) (b ∷ t)
     dash true e f = rw (eqb-true b 45 e) (told-dash t)
