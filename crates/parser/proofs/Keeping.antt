@@ -2,7 +2,7 @@
 -- Assumes nothing.
 use Prim.Native.Nat.{ℕ, suc, _+_, _*_, _≤_, _<_}
 use mathlib.Core.Path.{_≡_, refl, sym, ap, _∙_}
-use mathlib.Core.Bool.{true}
+use mathlib.Core.Bool.{Bool, true}
 use mathlib.Core.List.{List, [], _∷_, _++_, append-assoc, append-nil, flatMap}
 use native.Mathlib.Omega.{arith}
 use lib.ListN.{length, set, take, drop, length-append, length-set}
@@ -10,7 +10,7 @@ use lib.Seq.{sets, sets-eq, length-sets, take-append-seam}
 use Rattle.rewriting.specs.Lists.{prefix}
 use Rattle.rewriting.specs.Rules.{Right, Close, symbolsOf, Rule}
 use Rattle.rewriting.proofs.Lists.{prefix-rest, prefix-append, flatMap-snoc}
-use Rattle.layout.specs.Image.{kind, lengthOrVerdict, contents, body}
+use Rattle.layout.specs.Image.{kind, lengthOrVerdict, markByte, contents, body}
 use Rattle.layout.proofs.Image.{length-contents}
 use Rattle.parser.specs.declared.Place.the-variants as places
 use Rattle.parser.specs.declared.Reader.{Reader}
@@ -19,6 +19,7 @@ use Rattle.grammar.specs.Grammar.{
   Place,
   Events,
   Between,
+  Marked,
   InLeft,
   InRight,
   Ending,
@@ -83,6 +84,10 @@ module _ (s : Reading) {r : Reader} (e : r ≡ readerOf s) where
   unfolding readerOf
   kind-number = ap (λ (x : Reader). x .kind) e
 
+  pub mark-number : r .mark ≡ markByte (ruleAt (s .place) .marked)
+  unfolding readerOf
+  mark-number = ap (λ (x : Reader). x .mark) e
+
 -- Those of the rule begun, where the place is p.
 module _ (s : Reading) {r : Reader} (e : r ≡ readerOf s) {p : Place} (here : s .place ≡ p) where
   pub bodies-at : r .bodies ≡ length (flatMap body (s .rules) ++ body (ruleAt p))
@@ -97,11 +102,15 @@ module _ (s : Reading) {r : Reader} (e : r ≡ readerOf s) {p : Place} (here : s
   pub kind-at : r .kind ≡ kind (ruleAt p .right)
   kind-at = kind-number s e ∙ ap (λ (q : Place). kind (ruleAt q .right)) here
 
+  pub mark-at : r .mark ≡ markByte (ruleAt p .marked)
+  mark-at = mark-number s e ∙ ap (λ (q : Place). markByte (ruleAt q .marked)) here
+
 -- the rule begun is the same at both places
 pub record Alike (p q : Place) : Type 0 where
   pub left : leftOf p ≡ leftOf q
   pub side : sideOf p ≡ sideOf q
   pub kinds : kind (ruleAt p .right) ≡ kind (ruleAt q .right)
+  pub marks : ruleAt p .marked ≡ ruleAt q .marked
   pub bodies : body (ruleAt p) ≡ body (ruleAt q)
 
 module _ {s : Reading} {r : Reader} {a b c d : List ℕ} (k : Keeps s r a b c d) where
@@ -119,6 +128,7 @@ module _ {s : Reading} {r : Reader} {a b c d : List ℕ} (k : Keeps s r a b c d)
         left = r .left;
         side = r .side;
         kind = r .kind;
+        mark = r .mark;
       }) a b c d
   unfolding placed readerOf
   keeps-placed q h =
@@ -136,6 +146,7 @@ module _ {s : Reading} {r : Reader} {a b c d : List ℕ} (k : Keeps s r a b c d)
               left = (left-number s (k .numbers) ∙ h .left) i;
               side = (side-number s (k .numbers) ∙ h .side) i;
               kind = (kind-number s (k .numbers) ∙ h .kinds) i;
+              mark = (mark-number s (k .numbers) ∙ ap markByte (h .marks)) i;
             };
         symbol-slots = k .symbol-slots;
         word-slots = k .word-slots;
@@ -168,6 +179,7 @@ module _ {s : Reading} {r : Reader} {a b c d : List ℕ} (k : Keeps s r a b c d)
         left = r .left;
         side = r .side + 1;
         kind = r .kind;
+        mark = r .mark;
       }) area b c (set d (r .bodies) number)
   unfolding readerOf
   keeps-longer {side} {to} {q} n number count area h at-number at-count at-area room =
@@ -193,6 +205,7 @@ module _ {s : Reading} {r : Reader} {a b c d : List ℕ} (k : Keeps s r a b c d)
               left = (left-number s (k .numbers) ∙ sym (h .left x)) i;
               side = side-size i;
               kind = (kind-number s (k .numbers) ∙ sym (h .kept x)) i;
+              mark = (mark-number s (k .numbers) ∙ ap markByte (sym (h .same-mark x))) i;
             };
         symbol-slots = at-area;
         word-slots = k .word-slots;
@@ -219,6 +232,7 @@ module _ {s : Reading} {r : Reader} {a b c d : List ℕ} (k : Keeps s r a b c d)
         left = r .left;
         side = r .side;
         kind = r .kind;
+        mark = r .mark;
       }) area b c d
   unfolding readerOf
   keeps-event n count area here at-count at-area =
@@ -235,6 +249,7 @@ module _ {s : Reading} {r : Reader} {a b c d : List ℕ} (k : Keeps s r a b c d)
               left = left-at s (k .numbers) here i;
               side = side-at s (k .numbers) here i;
               kind = kind-at s (k .numbers) here i;
+              mark = mark-at s (k .numbers) here i;
             };
         symbol-slots = at-area;
         word-slots = k .word-slots;
@@ -246,8 +261,8 @@ module _ {s : Reading} {r : Reader} {a b c d : List ℕ} (k : Keeps s r a b c d)
 
   -- behind `->`
   pub keeps-arrow :
-      (l : List ℕ) → s .place ≡ InLeft l
-      → Keeps (placed s (InRight l []))
+      (m : Bool) (l : List ℕ) → s .place ≡ InLeft m l
+      → Keeps (placed s (InRight m l []))
       (record {
         place = places.Right;
         symbols = r .symbols;
@@ -258,9 +273,10 @@ module _ {s : Reading} {r : Reader} {a b c d : List ℕ} (k : Keeps s r a b c d)
         left = r .side;
         side = 0;
         kind = r .kind;
+        mark = r .mark;
       }) a b c d
   unfolding placed readerOf placeOf leftOf sideOf ruleAt
-  keeps-arrow l here =
+  keeps-arrow m l here =
       record {
         numbers =
             λ i.
@@ -274,6 +290,48 @@ module _ {s : Reading} {r : Reader} {a b c d : List ℕ} (k : Keeps s r a b c d)
               left = side-at s (k .numbers) here i;
               side = 0;
               kind = kind-at s (k .numbers) here i;
+              mark = mark-at s (k .numbers) here i;
+            };
+        symbol-slots = k .symbol-slots;
+        word-slots = k .word-slots;
+        contents-begin = k .contents-begin;
+        contents-size = k .contents-size;
+        bodies-begin = rw here at (k .bodies-begin);
+        bodies-size = k .bodies-size;
+      }
+
+  -- behind `^`
+  pub keeps-mark :
+      s .place ≡ Between
+      → Keeps (placed s Marked)
+      (record {
+        place = places.Marked;
+        symbols = r .symbols;
+        words = r .words;
+        events = r .events;
+        rules = r .rules;
+        bodies = r .bodies;
+        left = r .left;
+        side = r .side;
+        kind = r .kind;
+        mark = 1;
+      }) a b c d
+  unfolding placed readerOf placeOf leftOf sideOf ruleAt markByte body
+  keeps-mark here =
+      record {
+        numbers =
+            λ i.
+            record {
+              place = places.Marked;
+              symbols = symbols-number s (k .numbers) i;
+              words = words-number s (k .numbers) i;
+              events = events-number s (k .numbers) i;
+              rules = rules-number s (k .numbers) i;
+              bodies = bodies-at s (k .numbers) here i;
+              left = left-at s (k .numbers) here i;
+              side = side-at s (k .numbers) here i;
+              kind = kind-at s (k .numbers) here i;
+              mark = 1;
             };
         symbol-slots = k .symbol-slots;
         word-slots = k .word-slots;
@@ -285,7 +343,7 @@ module _ {s : Reading} {r : Reader} {a b c d : List ℕ} (k : Keeps s r a b c d)
 
   -- behind a word that is the verdict n
   pub keeps-verdict :
-      (l : List ℕ) (n : Numbered) (number count : ℕ) (area : List ℕ) → s .place ≡ InRight l []
+      (m : Bool) (l : List ℕ) (n : Numbered) (number count : ℕ) (area : List ℕ) → s .place ≡ InRight m l []
       → number ≡ n .number → count ≡ length (n .names) → area ≡ slots 16 (n .names)
       → Keeps
       (record {
@@ -293,7 +351,7 @@ module _ {s : Reading} {r : Reader} {a b c d : List ℕ} (k : Keeps s r a b c d)
         words = n .names;
         events = s .events;
         rules = s .rules;
-        place = Ending l (Close (n .number));
+        place = Ending m l (Close (n .number));
       })
       (record {
         place = places.Ending;
@@ -305,9 +363,10 @@ module _ {s : Reading} {r : Reader} {a b c d : List ℕ} (k : Keeps s r a b c d)
         left = r .left;
         side = number;
         kind = 1;
+        mark = r .mark;
       }) a area c d
   unfolding readerOf placeOf leftOf sideOf ruleAt kind lengthOrVerdict body symbolsOf
-  keeps-verdict l n number count area here at-number at-count at-area =
+  keeps-verdict m l n number count area here at-number at-count at-area =
       record {
         numbers =
             λ i.
@@ -321,6 +380,7 @@ module _ {s : Reading} {r : Reader} {a b c d : List ℕ} (k : Keeps s r a b c d)
               left = left-at s (k .numbers) here i;
               side = at-number i;
               kind = 1;
+              mark = mark-at s (k .numbers) here i;
             };
         symbol-slots = k .symbol-slots;
         word-slots = at-area;
@@ -351,6 +411,7 @@ module _ {s : Reading} {r : Reader} {a b c d : List ℕ} (k : Keeps s r a b c d)
         left = r .left;
         side = r .side;
         kind = r .kind;
+        mark = r .mark;
       }) a b c d
   unfolding readerOf placeOf leftOf sideOf ruleAt
   keeps-events here =
@@ -367,6 +428,7 @@ module _ {s : Reading} {r : Reader} {a b c d : List ℕ} (k : Keeps s r a b c d)
               left = left-at s (k .numbers) here i;
               side = side-at s (k .numbers) here i;
               kind = kind-at s (k .numbers) here i;
+              mark = mark-at s (k .numbers) here i;
             };
         symbol-slots = k .symbol-slots;
         word-slots = k .word-slots;
@@ -397,9 +459,10 @@ module _ {s : Reading} {r : Reader} {a b c d : List ℕ} (k : Keeps s r a b c d)
         left = 0;
         side = 0;
         kind = 0;
+        mark = 0;
       }) a b
-      (sets c (4 * r .rules) (r .left ∷ r .kind ∷ r .side ∷ 0 ∷ [])) d
-  unfolding readerOf placeOf leftOf sideOf kind ruleAt contents body symbolsOf
+      (sets c (4 * r .rules) (r .left ∷ r .kind ∷ r .side ∷ r .mark ∷ [])) d
+  unfolding readerOf placeOf leftOf sideOf kind markByte ruleAt contents body symbolsOf
   keeps-rule h room =
       let old : List Rule = s .rules in
       let new : Rule = ruleAt (s .place) in
@@ -407,10 +470,11 @@ module _ {s : Reading} {r : Reader} {a b c d : List ℕ} (k : Keeps s r a b c d)
       sym (append-nil (flatMap body (old ++ new ∷ [])) ∙ flatMap-snoc body old new)
       in
       let size : r .rules + 1 ≡ length (old ++ new ∷ []) = rw length-append (omega (arith, rules-number s (k .numbers))) in
-      let written : r .left ∷ r .kind ∷ r .side ∷ 0 ∷ [] ≡ contents new =
+      let written : r .left ∷ r .kind ∷ r .side ∷ r .mark ∷ [] ≡ contents new =
       let left : r .left ≡ length (new .left) = left-number s (k .numbers) ∙ h .left in
       let kinds : r .kind ≡ kind (new .right) = kind-number s (k .numbers) in
       let right : r .side ≡ lengthOrVerdict (new .right) = side-number s (k .numbers) ∙ h .right in
+      let mark : r .mark ≡ markByte (new .marked) = mark-number s (k .numbers) in
       cc
       in
       let at : 4 * r .rules ≡ length (flatMap contents old) = omega (arith, rules-number s (k .numbers), length-contents old) in
@@ -427,6 +491,7 @@ module _ {s : Reading} {r : Reader} {a b c d : List ℕ} (k : Keeps s r a b c d)
               left = 0;
               side = 0;
               kind = 0;
+              mark = 0;
             };
         symbol-slots = k .symbol-slots;
         word-slots = k .word-slots;
@@ -435,7 +500,7 @@ module _ {s : Reading} {r : Reader} {a b c d : List ℕ} (k : Keeps s r a b c d)
             ∙ ap (λ (n : ℕ). prefix (flatMap contents (old ++ new ∷ [])) (sets c n (contents new))) at
             ∙ ap (λ (l : List ℕ). prefix l (sets c (length (flatMap contents old)) (contents new))) (flatMap-snoc contents old new)
             ∙ prefix-sets (flatMap contents old) (contents new) c (k .contents-begin) (omega arith);
-        contents-size = length-sets c (4 * r .rules) (r .left ∷ r .kind ∷ r .side ∷ 0 ∷ []) ∙ k .contents-size;
+        contents-size = length-sets c (4 * r .rules) (r .left ∷ r .kind ∷ r .side ∷ r .mark ∷ []) ∙ k .contents-size;
         bodies-begin = rw (← all-bodies) (k .bodies-begin);
         bodies-size = k .bodies-size;
       }

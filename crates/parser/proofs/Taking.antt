@@ -10,7 +10,7 @@ use lib.Dec.{ltb}
 use lib.ListN.{length, set, length-append}
 use borrow.Author.Tests.{lt-ltb, le-ltb}
 use Rattle.rewriting.specs.Lists.{all, same}
-use Rattle.rewriting.specs.Rules.{Right, Put, symbolsOf, _⇒_}
+use Rattle.rewriting.specs.Rules.{Right, Put, symbolsOf}
 use Rattle.layout.specs.Image.{kind, lengthOrVerdict, body}
 use Rattle.parser.specs.declared.Place as code
 use Rattle.parser.specs.declared.Place.the-variants as places
@@ -25,6 +25,7 @@ use Rattle.grammar.specs.Grammar.{
   First,
   Events,
   Between,
+  Marked,
   InLeft,
   InRight,
   Ending,
@@ -38,12 +39,15 @@ use Rattle.grammar.specs.Grammar.{
   symbol,
   event,
   sideSymbol,
+  firstSymbol,
   name,
   withVerdict,
   rightWord,
   word,
   arrow,
+  mark,
   closeEvents,
+  ruleWith,
   closeRule,
   stop,
 }
@@ -53,12 +57,14 @@ use Rattle.tokens.specs.Numbered.{NumberedIs}
 use Rattle.grammar.proofs.Sound.{Kept, number-below, numbered-kept}
 use Rattle.parser.proofs.Keeping.{
   symbols-number,
+  rules-number,
   side-number,
   side-at,
   keeps-placed,
   keeps-longer,
   keeps-event,
   keeps-arrow,
+  keeps-mark,
   keeps-verdict,
   keeps-events,
 }
@@ -132,12 +138,13 @@ module _ {s : Reading} {r : Reader} {a b c d : List ℕ} (k : Keeps s r a b c d)
         left = r .left;
         side = r .side;
         kind = r .kind;
+        mark = r .mark;
       })) a b c d
   unfolding name placed placeOf leftOf sideOf ruleAt
   first-events x here e =
       rw (here, e)
       (keeps-placed k Events
-      (rw here (record { left = refl; side = refl; kinds = refl; bodies = refl })))
+      (rw here (record { left = refl; side = refl; kinds = refl; marks = refl; bodies = refl })))
 
   pub first-other : (x : List ℕ) → s .place ≡ First → same x eventsWord ≡ false
       → TakenIs (name s x (s .place)) (taken.Breaks 4) a b c d
@@ -174,6 +181,7 @@ module _ {s : Reading} {r : Reader} {a b c d : List ℕ} (k : Keeps s r a b c d)
           left = r .left;
           side = r .side;
           kind = r .kind;
+          mark = r .mark;
         })) area b c d
     unfolding name event symbol withSymbol
     event-new high low =
@@ -209,22 +217,33 @@ module _ {s : Reading} {r : Reader} {a b c d : List ℕ} (k : Keeps s r a b c d)
             left = r .left;
             side = r .side + 1;
             kind = r .kind;
+            mark = r .mark;
           })) area b c (set d (r .bodies) (n .number))
       unfolding sideSymbol symbol withSymbol
       side-longer low inside =
           let m = has-number 32 (s .symbols) x (sound .few-symbols) (sound .symbols-named) named n area is low in
           rw (short, m .found) (keeps-longer k (m .is) (n .number) (n .count) area h (m .number) (m .count) (m .slots) inside)
 
+  -- A rule's first name, with a mark or without.
+  module _ (x : List ℕ) (m : Bool) where
+    pub rule-65 : 64 ≤ r .rules → TakenIs (firstSymbol s x m) (taken.Breaks 5) a b c d
+    unfolding firstSymbol
+    rule-65 full = rw (le-ltb (length (s .rules)) 64 (omega (arith, rules-number s (k .numbers)))) refl
+
+    pub few-rules : r .rules < 64 → firstSymbol s x m ≡ sideSymbol s x [] (InLeft m)
+    unfolding firstSymbol
+    few-rules few = rw (lt-ltb (length (s .rules)) 64 (omega (arith, rules-number s (k .numbers))))
+
   -- Behind `->`.
-  module _ (l v : List ℕ) (here : s .place ≡ InRight l v) where
+  module _ (m : Bool) (l v : List ℕ) (here : s .place ≡ InRight m l v) where
     -- the side is empty where the code says so
     open-side : r .side ≡ length v
     unfolding sideOf
     open-side = side-at s (k .numbers) here
 
     -- the side that the code has no symbol of
-    empty-side : r .side ≡ 0 → s .place ≡ InRight l []
-    empty-side none-yet = here ∙ ap (InRight l) (go v (sym open-side ∙ none-yet))
+    empty-side : r .side ≡ 0 → s .place ≡ InRight m l []
+    empty-side none-yet = here ∙ ap (InRight m l) (go v (sym open-side ∙ none-yet))
       where
         go : (w : List ℕ) → length w ≡ 0 → w ≡ []
         go [] e = refl
@@ -245,7 +264,7 @@ module _ {s : Reading} {r : Reader} {a b c d : List ℕ} (k : Keeps s r a b c d)
     stop-right some-yet =
         ap (stop s) here ∙ go v (some-side some-yet) ∙ ap (λ (p : Place). closeRule s (ruleAt p)) (sym here)
       where
-        go : (w : List ℕ) → (length w ≡ 0 → ⊥) → stop s (InRight l w) ≡ closeRule s (l ⇒ Put w)
+        go : (w : List ℕ) → (length w ≡ 0 → ⊥) → stop s (InRight m l w) ≡ closeRule s (ruleWith m l (Put w))
         go [] some-of = absurd (some-of refl)
         go (y ∷ w) some-of = refl
 
@@ -255,7 +274,7 @@ module _ {s : Reading} {r : Reader} {a b c d : List ℕ} (k : Keeps s r a b c d)
       unfolding word
       word-behind some-yet = rw (ap (word s x) here) (go v (some-side some-yet))
         where
-          go : (w : List ℕ) → (length w ≡ 0 → ⊥) → TakenIs (word s x (InRight l w)) (taken.Breaks 4) a b c d
+          go : (w : List ℕ) → (length w ≡ 0 → ⊥) → TakenIs (word s x (InRight m l w)) (taken.Breaks 4) a b c d
           go [] some-of = absurd (some-of refl)
           go (y ∷ w) some-of = refl
 
@@ -272,12 +291,13 @@ module _ {s : Reading} {r : Reader} {a b c d : List ℕ} (k : Keeps s r a b c d)
             left = r .left;
             side = r .side;
             kind = r .kind;
+            mark = r .mark;
           })) a b c d
       unfolding word rightWord placed placeOf leftOf sideOf ruleAt lengthOrVerdict
       word-epsilon none-yet e =
           rw (empty-side none-yet, e)
-          (keeps-placed k (Ending l (Put []))
-          (rw (empty-side none-yet) (record { left = refl; side = refl; kinds = refl; bodies = refl })))
+          (keeps-placed k (Ending m l (Put []))
+          (rw (empty-side none-yet) (record { left = refl; side = refl; kinds = refl; marks = refl; bodies = refl })))
 
       module _ (sound : Sound s) (named : isName x ≡ true) (none-yet : r .side ≡ 0) (other : same x epsilonWord ≡ false)
           (n : numbered-as.Numbered) (area : List ℕ) (is : NumberedIs 16 (s .words) (numbered 16 (s .words) x) n area) where
@@ -299,15 +319,16 @@ module _ {s : Reading} {r : Reader} {a b c d : List ℕ} (k : Keeps s r a b c d)
               left = r .left;
               side = n .number;
               kind = 1;
+              mark = r .mark;
             })) a area c d
         unfolding word rightWord withVerdict
         word-verdict low =
-            let m = has-number 16 (s .words) x (sound .few-words) (sound .words-named) named n area is low in
-            rw (empty-side none-yet, other, m .found)
-            (keeps-verdict k l (m .is) (n .number) (n .count) area (empty-side none-yet) (m .number) (m .count) (m .slots))
+            let w = has-number 16 (s .words) x (sound .few-words) (sound .words-named) named n area is low in
+            rw (empty-side none-yet, other, w .found)
+            (keeps-verdict k m l (w .is) (n .number) (n .count) area (empty-side none-yet) (w .number) (w .count) (w .slots))
 
   -- `->`
-  pub arrow-left : (l : List ℕ) → s .place ≡ InLeft l
+  pub arrow-left : (m : Bool) (l : List ℕ) → s .place ≡ InLeft m l
       → TakenIs (arrow s (s .place))
       (taken.Goes
       (record {
@@ -320,9 +341,29 @@ module _ {s : Reading} {r : Reader} {a b c d : List ℕ} (k : Keeps s r a b c d)
         left = r .side;
         side = 0;
         kind = r .kind;
+        mark = r .mark;
       })) a b c d
   unfolding arrow placed
-  arrow-left l here = rw here (keeps-arrow k l here)
+  arrow-left m l here = rw here (keeps-arrow k m l here)
+
+  -- `^`
+  pub mark-between : s .place ≡ Between
+      → TakenIs (mark s (s .place))
+      (taken.Goes
+      (record {
+        place = places.Marked;
+        symbols = r .symbols;
+        words = r .words;
+        events = r .events;
+        rules = r .rules;
+        bodies = r .bodies;
+        left = r .left;
+        side = r .side;
+        kind = r .kind;
+        mark = 1;
+      })) a b c d
+  unfolding mark placed
+  mark-between here = rw here (keeps-mark k here)
 
   -- The end of the list of events.
   pub no-events : s .place ≡ Events → r .symbols ≡ 0 → TakenIs (stop s (s .place)) (taken.Breaks 4) a b c d
@@ -346,6 +387,7 @@ module _ {s : Reading} {r : Reader} {a b c d : List ℕ} (k : Keeps s r a b c d)
         left = r .left;
         side = r .side;
         kind = r .kind;
+        mark = r .mark;
       })) a b c d
   unfolding stop closeEvents
   some-events here some-yet = rw (ap (stop s) here) (go (s .symbols) (λ e. some-yet (symbols-number s (k .numbers) ∙ e)))
@@ -363,74 +405,102 @@ module _ {s : Reading} {r : Reader} {a b c d : List ℕ} (k : Keeps s r a b c d)
             left = r .left;
             side = r .side;
             kind = r .kind;
+            mark = r .mark;
           })) a b c d
       go [] e = absurd (e refl)
       go (y ∷ names) e = keeps-events k here
 
 -- The sides of a rule that the next symbol goes to.
 
-pub first-left : (p : Place) → p ≡ Between → Lengthens p [] InLeft places.Left
+pub first-left : (p : Place) → p ≡ Between → Lengthens p [] (InLeft false) places.Left
 unfolding leftOf sideOf ruleAt placeOf kind body symbolsOf
 first-left p e =
-    rw e (record { size = refl; left = λ x. refl; longer = λ x. refl; kept = λ x. refl; more = λ x. refl; called = λ x. refl })
+    rw e
+    (record {
+      size = refl;
+      left = λ x. refl;
+      longer = λ x. refl;
+      kept = λ x. refl;
+      same-mark = λ x. refl;
+      more = λ x. refl;
+      called = λ x. refl;
+    })
 
-pub next-left : (p : Place) (l : List ℕ) → p ≡ InLeft l → Lengthens p l InLeft places.Left
+pub marked-left : (p : Place) → p ≡ Marked → Lengthens p [] (InLeft true) places.Left
 unfolding leftOf sideOf ruleAt placeOf kind body symbolsOf
-next-left p l e =
+marked-left p e =
+    rw e
+    (record {
+      size = refl;
+      left = λ x. refl;
+      longer = λ x. refl;
+      kept = λ x. refl;
+      same-mark = λ x. refl;
+      more = λ x. refl;
+      called = λ x. refl;
+    })
+
+pub next-left : (p : Place) (m : Bool) (l : List ℕ) → p ≡ InLeft m l → Lengthens p l (InLeft m) places.Left
+unfolding leftOf sideOf ruleAt placeOf kind body symbolsOf
+next-left p m l e =
     rw e
     (record {
       size = refl;
       left = λ x. refl;
       longer = λ x. length-append l (x ∷ []);
       kept = λ x. refl;
+      same-mark = λ x. refl;
       more = λ x. append-nil (l ++ x ∷ []) ∙ ap (λ (v : List ℕ). v ++ x ∷ []) (sym (append-nil l));
       called = λ x. refl;
     })
 
-pub next-right : (p : Place) (l v : List ℕ) → p ≡ InRight l v → Lengthens p v (InRight l) places.Right
+pub next-right : (p : Place) (m : Bool) (l v : List ℕ) → p ≡ InRight m l v → Lengthens p v (InRight m l) places.Right
 unfolding leftOf sideOf ruleAt placeOf kind body symbolsOf
-next-right p l v e =
+next-right p m l v e =
     rw e
     (record {
       size = refl;
       left = λ x. refl;
       longer = λ x. length-append v (x ∷ []);
       kept = λ x. refl;
+      same-mark = λ x. refl;
       more = λ x. sym (append-assoc l v (x ∷ []));
       called = λ x. refl;
     })
 
 -- both sides are known
-pub closed-right : (p : Place) (l v : List ℕ) → p ≡ InRight l v → Closed p
+pub closed-right : (p : Place) (m : Bool) (l v : List ℕ) → p ≡ InRight m l v → Closed p
 unfolding leftOf sideOf ruleAt lengthOrVerdict
-closed-right p l v e = rw e (record { left = refl; right = refl })
+closed-right p m l v e = rw e (record { left = refl; right = refl })
 
-pub closed-ending : (p : Place) (l : List ℕ) (x : Right) → p ≡ Ending l x → Closed p
+pub closed-ending : (p : Place) (m : Bool) (l : List ℕ) (x : Right) → p ≡ Ending m l x → Closed p
 unfolding leftOf sideOf ruleAt
-closed-ending p l x e = rw e (record { left = refl; right = refl })
+closed-ending p m l x e = rw e (record { left = refl; right = refl })
 
-pub stop-ending : (s : Reading) (l : List ℕ) (x : Right) → s .place ≡ Ending l x → stop s (s .place) ≡ closeRule s (ruleAt (s .place))
+pub stop-ending :
+    (s : Reading) (m : Bool) (l : List ℕ) (x : Right) → s .place ≡ Ending m l x
+    → stop s (s .place) ≡ closeRule s (ruleAt (s .place))
 unfolding stop ruleAt closeRule
-stop-ending s l x e = rw e refl
+stop-ending s m l x e = rw e refl
 
 -- A name, by its place.
 module _ (s : Reading) (x : List ℕ) where
-  pub rule-65 : s .place ≡ Between → 64 ≤ length (s .rules) → name s x (s .place) ≡ Breaks 5
+  pub name-between : s .place ≡ Between → name s x (s .place) ≡ firstSymbol s x false
   unfolding name
-  rule-65 here full = ap (name s x) here ∙ rw (le-ltb (length (s .rules)) 64 full)
+  name-between here = ap (name s x) here
 
-  pub name-between : s .place ≡ Between → length (s .rules) < 64 → name s x (s .place) ≡ sideSymbol s x [] InLeft
+  pub name-marked : s .place ≡ Marked → name s x (s .place) ≡ firstSymbol s x true
   unfolding name
-  name-between here few = ap (name s x) here ∙ rw (lt-ltb (length (s .rules)) 64 few)
+  name-marked here = ap (name s x) here
 
-  pub name-left : (l : List ℕ) → s .place ≡ InLeft l → name s x (s .place) ≡ sideSymbol s x l InLeft
+  pub name-left : (m : Bool) (l : List ℕ) → s .place ≡ InLeft m l → name s x (s .place) ≡ sideSymbol s x l (InLeft m)
   unfolding name
-  name-left l here = ap (name s x) here
+  name-left m l here = ap (name s x) here
 
-  pub name-right : (l v : List ℕ) → s .place ≡ InRight l v → name s x (s .place) ≡ sideSymbol s x v (InRight l)
+  pub name-right : (m : Bool) (l v : List ℕ) → s .place ≡ InRight m l v → name s x (s .place) ≡ sideSymbol s x v (InRight m l)
   unfolding name
-  name-right l v here = ap (name s x) here
+  name-right m l v here = ap (name s x) here
 
-  pub name-ending : (l : List ℕ) (r : Right) → s .place ≡ Ending l r → name s x (s .place) ≡ Breaks 4
+  pub name-ending : (m : Bool) (l : List ℕ) (r : Right) → s .place ≡ Ending m l r → name s x (s .place) ≡ Breaks 4
   unfolding name
-  name-ending l r here = ap (name s x) here
+  name-ending m l r here = ap (name s x) here

@@ -2,14 +2,14 @@
 // The module is private: what its functions ask, the reader keeps from token to token.
 ghost use Prim.Native.Nat.{ℕ, _+_, _*_, _<_, _≤_};
 ghost use mathlib.Core.Path.{_≡_};
-ghost use mathlib.Core.Bool.{true};
-ghost use mathlib.Core.List.{List};
+ghost use mathlib.Core.Bool.{Bool, true};
+ghost use mathlib.Core.List.{List, []};
 ghost use lib.ListN.{length};
 ghost use Rattle.parser.specs.declared.Place.{Place};
 ghost use Rattle.grammar.specs.Tokens.{isName};
 ghost use Rattle.tokens.specs.Scanned.{tokenAs, Named};
 ghost use Rattle.grammar.specs.Grammar as Grammar;
-ghost use Rattle.grammar.specs.Grammar.{name, word, arrow, stop, sideSymbol, closeRule, afterRun};
+ghost use Rattle.grammar.specs.Grammar.{InLeft, name, word, arrow, mark, stop, sideSymbol, firstSymbol, closeRule, afterRun};
 ghost use Rattle.grammar.specs.Sound.{Sound};
 ghost use Rattle.parser.specs.Held.{contentsSize, bodiesSize, Keeps, Held, TakenIs, Takes, Lengthens, Closed, ruleAt};
 ghost use Rattle.grammar.specs.Names.{slotSize, symbolsSize, wordsSize};
@@ -105,8 +105,15 @@ impl Reader {
         Taken::Goes(next)
     }
 
-    // A rule's first name.
-    fn left_symbol(self, x: &[u8], symbols: &mut [u8], bodies: &mut [u8]) -> Taken {
+    // A rule's first name, behind `.` or `^`.
+    fn left_symbol(self, x: &[u8], symbols: &mut [u8], bodies: &mut [u8]) -> Taken
+        requires slots { ⌜ slotSize * self .symbols ≤ length (now symbols) ⌝ }
+        requires named { ⌜ isName (now x) ≡ true ⌝ }
+        requires room { ⌜ (self .rules < 64 → self .bodies < length (now bodies)) ⌝ }
+        ensures { λ r. ⌜ ((b c : List ℕ) (m : Bool) (s : Grammar.Reading)
+            → Lengthens (s .place) [] (InLeft m) Place.Left → Sound s → Keeps s self (now (symbols .entry)) b c (now (bodies .entry))
+            → TakenIs (firstSymbol s (now (x .entry)) m) r (now (symbols .exit)) b c (now (bodies .exit))) ⌝ }
+    {
         if 64 <= self.rules {
             return Taken::Breaks(5);
         }

@@ -6,7 +6,7 @@ use native.Mathlib.Omega.{arith}
 use lib.ListN.{length}
 use borrow.Author.Needs.{needs}
 use Rattle.rewriting.specs.Rules.{symbolsOf}
-use Rattle.layout.specs.Image.{kind, body}
+use Rattle.layout.specs.Image.{kind, markByte, body}
 use Rattle.grammar.specs.Names.{slot, slots}
 use Rattle.grammar.specs.Grammar.{begun}
 use Rattle.parser.specs.Held.{placeOf, ruleAt, leftOf, sideOf, readerOf}
@@ -47,7 +47,7 @@ same-length : tie.Need-same-length
 same-length c = search needs
 
 returns : tie.Need-returns
-unfolding begun readerOf placeOf ruleAt leftOf sideOf body kind symbolsOf flatMap slot slots
+unfolding begun readerOf placeOf ruleAt leftOf sideOf body kind markByte symbolsOf flatMap slot slots
 returns c =
     let make-slot2 = c .before .before .before .before .before in
     let keep = make-slot2 .before .before .before .before .before in

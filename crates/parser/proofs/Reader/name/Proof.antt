@@ -1,14 +1,24 @@
 -- `text::Reader::name` meets its contract.
 -- Assumes nothing.
 use mathlib.Core.Path.{refl, sym, _∙_}
-use mathlib.Core.List.{[]}
+use mathlib.Core.Bool.{true, false}
 use native.Mathlib.Omega.{arith}
 use borrow.Author.Needs.{needs}
 use Rattle.grammar.specs.Grammar.{InLeft, InRight}
 use Rattle.parser.proofs.Places.{place-at}
-use Rattle.parser.proofs.Keeping.{place-number, rules-number}
-use Rattle.parser.proofs.Room.{symbol-room, first-room, left-room, right-room}
-use Rattle.parser.proofs.Taking.{first-left, next-left, next-right, rule-65, name-between, name-left, name-right, name-ending}
+use Rattle.parser.proofs.Keeping.{place-number}
+use Rattle.parser.proofs.Room.{symbol-room, first-room, marked-room, left-room, right-room}
+use Rattle.parser.proofs.Taking.{
+  first-left,
+  marked-left,
+  next-left,
+  next-right,
+  name-between,
+  name-marked,
+  name-left,
+  name-right,
+  name-ending,
+}
 use Rattle.parser.proofs.Reader.name.Statement.{statement}
 use Rattle.parser.proofs.Reader.name.Tie as tie
 
@@ -29,53 +39,58 @@ event-requires c κs =
 enum-told-3 : tie.Need-enum-told-3
 enum-told-3 c = search needs
 
-returns : tie.Need-returns
-returns c =
-    let start = c .before .before .before .before .before .before .before in
-    λ b z s sound k. rw
-    (rule-65 s (start .args .x .now) (place-at _ (s .place) (sym (place-number s (k .numbers)) ∙ c .before .before .enum-told3 .given .1))
-    (omega (arith, rules-number s (k .numbers), c .if1 .taken))) refl
-
-side-symbol-requires : tie.Need-side-symbol-requires
-side-symbol-requires c κs =
-    let enum-told3 = c .before .before .before .before in
+left-symbol-requires : tie.Need-left-symbol-requires
+left-symbol-requires c κs =
+    let enum-told3 = c .before .before in
     let start = enum-told3 .before .before .before .before .before in
     let q = start .pre in (
       omega (arith, symbol-room (q .0), q .1 .0),
-      (q .1 .1 .1, λ low. omega (arith, first-room (q .0) (enum-told3 .enum-told3 .given .1) (c .before .before .if1 .left), q .1 .1 .0)),
+      (q .1 .1 .1, λ low. omega (arith, first-room (q .0) (enum-told3 .enum-told3 .given .1) low, q .1 .1 .0)),
     )
 
 enum-told-4 : tie.Need-enum-told-4
 enum-told-4 c = search needs
 
-side-symbol-requires-2 : tie.Need-side-symbol-requires-2
-side-symbol-requires-2 c κs =
-    let start = c .before .before .before .before .before .before .before in
-    let q = start .pre in
-    (omega (arith, symbol-room (q .0), q .1 .0), (q .1 .1 .1, λ low. omega (arith, left-room (q .0) (c .before .before .enum-told4 .given .1) low, q .1 .1 .0)))
+left-symbol-requires-2 : tie.Need-left-symbol-requires-2
+left-symbol-requires-2 c κs =
+    let enum-told4 = c .before .before in
+    let start = enum-told4 .before .before .before .before .before in
+    let q = start .pre in (
+      omega (arith, symbol-room (q .0), q .1 .0),
+      (q .1 .1 .1, λ low. omega (arith, marked-room (q .0) (enum-told4 .enum-told4 .given .1) low, q .1 .1 .0)),
+    )
 
 enum-told-5 : tie.Need-enum-told-5
 enum-told-5 c = search needs
 
-side-symbol-requires-3 : tie.Need-side-symbol-requires-3
-side-symbol-requires-3 c κs =
+side-symbol-requires : tie.Need-side-symbol-requires
+side-symbol-requires c κs =
     let start = c .before .before .before .before .before .before .before in
-    let q = start .pre in (
-      omega (arith, symbol-room (q .0), q .1 .0),
-      (q .1 .1 .1, λ low. omega (arith, right-room (q .0) (c .before .before .enum-told5 .given .1) low, q .1 .1 .0)),
-    )
+    let q = start .pre in
+    (omega (arith, symbol-room (q .0), q .1 .0), (q .1 .1 .1, λ low. omega (arith, left-room (q .0) (c .before .before .enum-told5 .given .1) low, q .1 .1 .0)))
 
 enum-told-6 : tie.Need-enum-told-6
 enum-told-6 c = search needs
 
-returns-2 : tie.Need-returns-2
-returns-2 c = λ b z s sound k. c .first .ensures _ b z _ (c .before .enum-told .given .1) s sound k
+side-symbol-requires-2 : tie.Need-side-symbol-requires-2
+side-symbol-requires-2 c κs =
+    let start = c .before .before .before .before .before .before .before in
+    let q = start .pre in (
+      omega (arith, symbol-room (q .0), q .1 .0),
+      (q .1 .1 .1, λ low. omega (arith, right-room (q .0) (c .before .before .enum-told6 .given .1) low, q .1 .1 .0)),
+    )
+
+enum-told-7 : tie.Need-enum-told-7
+enum-told-7 c = search needs
+
+returns : tie.Need-returns
+returns c = λ b z s sound k. c .first .ensures _ b z _ (c .before .enum-told .given .1) s sound k
 
 same-length : tie.Need-same-length
 same-length c = search needs
 
-returns-3 : tie.Need-returns-3
-returns-3 c =
+returns-2 : tie.Need-returns-2
+returns-2 c =
     let enum-told2 = c .before .before .before .before in
     λ b z s sound k. c .before .before .event .ensures b z _ (enum-told2 .enum-told2 .given .1) s sound k
 
@@ -85,16 +100,15 @@ same-length-2 c = search needs
 same-length-3 : tie.Need-same-length-3
 same-length-3 c = search needs
 
-returns-4 : tie.Need-returns-4
-returns-4 c =
-    let side-symbol = c .before .before .before .before in
-    let if1 = side-symbol .before .before .before in
-    let enum-told3 = if1 .before .before in
+returns-3 : tie.Need-returns-3
+returns-3 c =
+    let left-symbol = c .before .before .before .before in
+    let enum-told3 = left-symbol .before .before .before in
     let start = enum-told3 .before .before .before .before .before in
     λ b z s sound k.
     let here = place-at _ (s .place) (sym (place-number s (k .numbers)) ∙ enum-told3 .enum-told3 .given .1) in rw
-    (name-between s (start .args .x .now) here (omega (arith, rules-number s (k .numbers), if1 .if1 .left)))
-    (side-symbol .side-symbol .ensures b z [] InLeft s (first-left (s .place) here) sound k)
+    (name-between s (start .args .x .now) here)
+    (left-symbol .left-symbol .ensures b z false s (first-left (s .place) here) sound k)
 
 same-length-4 : tie.Need-same-length-4
 same-length-4 c = search needs
@@ -102,15 +116,15 @@ same-length-4 c = search needs
 same-length-5 : tie.Need-same-length-5
 same-length-5 c = search needs
 
-returns-5 : tie.Need-returns-5
-returns-5 c =
-    let side-symbol2 = c .before .before .before .before in
-    let enum-told4 = side-symbol2 .before .before .before in
+returns-4 : tie.Need-returns-4
+returns-4 c =
+    let left-symbol2 = c .before .before .before .before in
+    let enum-told4 = left-symbol2 .before .before .before in
     let start = enum-told4 .before .before .before .before .before in
     λ b z s sound k.
     let here = place-at _ (s .place) (sym (place-number s (k .numbers)) ∙ enum-told4 .enum-told4 .given .1) in rw
-    (name-left s (start .args .x .now) (here .0) (here .1))
-    (side-symbol2 .side-symbol2 .ensures b z (here .0) InLeft s (next-left (s .place) (here .0) (here .1)) sound k)
+    (name-marked s (start .args .x .now) here)
+    (left-symbol2 .left-symbol2 .ensures b z true s (marked-left (s .place) here) sound k)
 
 same-length-6 : tie.Need-same-length-6
 same-length-6 c = search needs
@@ -118,22 +132,39 @@ same-length-6 c = search needs
 same-length-7 : tie.Need-same-length-7
 same-length-7 c = search needs
 
-returns-6 : tie.Need-returns-6
-returns-6 c =
-    let side-symbol3 = c .before .before .before .before in
-    let enum-told5 = side-symbol3 .before .before .before in
+returns-5 : tie.Need-returns-5
+returns-5 c =
+    let side-symbol = c .before .before .before .before in
+    let enum-told5 = side-symbol .before .before .before in
     let start = enum-told5 .before .before .before .before .before in
     λ b z s sound k.
     let here = place-at _ (s .place) (sym (place-number s (k .numbers)) ∙ enum-told5 .enum-told5 .given .1) in rw
-    (name-right s (start .args .x .now) (here .0) (here .1 .0) (here .1 .1))
-    (side-symbol3 .side-symbol3 .ensures b z (here .1 .0) (InRight (here .0)) s (next-right (s .place) (here .0) (here .1 .0) (here .1 .1)) sound k)
+    (name-left s (start .args .x .now) (here .0) (here .1) (here .2))
+    (side-symbol .side-symbol .ensures b z (here .1) (InLeft (here .0)) s (next-left (s .place) (here .0) (here .1) (here .2)) sound k)
+
+same-length-8 : tie.Need-same-length-8
+same-length-8 c = search needs
+
+same-length-9 : tie.Need-same-length-9
+same-length-9 c = search needs
+
+returns-6 : tie.Need-returns-6
+returns-6 c =
+    let side-symbol2 = c .before .before .before .before in
+    let enum-told6 = side-symbol2 .before .before .before in
+    let start = enum-told6 .before .before .before .before .before in
+    λ b z s sound k.
+    let here = place-at _ (s .place) (sym (place-number s (k .numbers)) ∙ enum-told6 .enum-told6 .given .1) in rw
+    (name-right s (start .args .x .now) (here .0) (here .1) (here .2) (here .3))
+    (side-symbol2 .side-symbol2 .ensures b z (here .2) (InRight (here .0) (here .1)) s
+    (next-right (s .place) (here .0) (here .1) (here .2) (here .3)) sound k)
 
 returns-7 : tie.Need-returns-7
 returns-7 c =
     let start = c .before .before .before .before .before in
     λ b z s sound k.
-    let here = place-at _ (s .place) (sym (place-number s (k .numbers)) ∙ c .enum-told6 .given .1) in rw
-    (name-ending s (start .args .x .now) (here .0) (here .1 .0) (here .1 .1)) refl
+    let here = place-at _ (s .place) (sym (place-number s (k .numbers)) ∙ c .enum-told7 .given .1) in rw
+    (name-ending s (start .args .x .now) (here .0) (here .1) (here .2) (here .3)) refl
 
 pub name-spec : {M : Type 1} → statement M
 name-spec =
@@ -144,23 +175,27 @@ name-spec =
     enum-told-2
     event-requires
     enum-told-3
-    returns
-    side-symbol-requires
+    left-symbol-requires
     enum-told-4
-    side-symbol-requires-2
+    left-symbol-requires-2
     enum-told-5
-    side-symbol-requires-3
+    side-symbol-requires
     enum-told-6
-    returns-2
+    side-symbol-requires-2
+    enum-told-7
+    returns
     same-length
-    returns-3
+    returns-2
     same-length-2
     same-length-3
-    returns-4
+    returns-3
     same-length-4
     same-length-5
-    returns-5
+    returns-4
     same-length-6
     same-length-7
+    returns-5
+    same-length-8
+    same-length-9
     returns-6
     returns-7)

@@ -13,7 +13,7 @@ returns : tie.Need-returns
 returns c =
     let start = c .before .before .before .before in
     λ a z d told s sound k.
-    let w = place-at _ (s .place) (sym (place-number s (k .numbers)) ∙ told) in word-behind k (w .0) (w .1 .0) (w .1 .1) (start .args .x .now) (c .if1 .taken)
+    let w = place-at _ (s .place) (sym (place-number s (k .numbers)) ∙ told) in word-behind k (w .0) (w .1) (w .2) (w .3) (start .args .x .now) (c .if1 .taken)
 
 at-requires : tie.Need-at-requires
 at-requires c κs = search needs
@@ -30,7 +30,7 @@ returns-2 c =
     let start = if1 .before .before .before .before in
     λ a z d told s sound k.
     let w = place-at _ (s .place) (sym (place-number s (k .numbers)) ∙ told) in rw (c .before .before .before .at .ensures)
-    (word-epsilon k (w .0) (w .1 .0) (w .1 .1) (start .args .x .now) (if1 .if1 .left) (sym (c .before .is-same .ensures) ∙ c .if2 .taken))
+    (word-epsilon k (w .0) (w .1) (w .2) (w .3) (start .args .x .now) (if1 .if1 .left) (sym (c .before .is-same .ensures) ∙ c .if2 .taken))
 
 number-of-requires : tie.Need-number-of-requires
 number-of-requires c κs =
@@ -50,7 +50,7 @@ returns-3 c =
     let start = if1 .before .before .before .before in
     let q = start .pre in
     λ a z d told s sound k.
-    let w = place-at _ (s .place) (sym (place-number s (k .numbers)) ∙ told) in word-17 k (w .0) (w .1 .0) (w .1 .1) (start .args .x .now) sound (q .1)
+    let w = place-at _ (s .place) (sym (place-number s (k .numbers)) ∙ told) in word-17 k (w .0) (w .1) (w .2) (w .3) (start .args .x .now) sound (q .1)
     (if1 .if1 .left) (sym (is-same .is-same .ensures) ∙ if2 .if2 .left) _ _
     (number-of .number-of .ensures 16 (s .words) (k .word-slots) (words-number s (k .numbers)) (sound .few-words) (sound .words-named) (q .1)) (c .if3 .taken)
 
@@ -71,7 +71,7 @@ returns-4 c =
     let q = start .pre in
     λ a z d told s sound k.
     let w = place-at _ (s .place) (sym (place-number s (k .numbers)) ∙ told) in rw (at .at .ensures)
-    (word-verdict k (w .0) (w .1 .0) (w .1 .1) (start .args .x .now) sound (q .1) (if1 .if1 .left) (sym (is-same .is-same .ensures) ∙ if2 .if2 .left) _ _
+    (word-verdict k (w .0) (w .1) (w .2) (w .3) (start .args .x .now) sound (q .1) (if1 .if1 .left) (sym (is-same .is-same .ensures) ∙ if2 .if2 .left) _ _
     (number-of .number-of .ensures 16 (s .words) (k .word-slots) (words-number s (k .numbers)) (sound .few-words) (sound .words-named) (q .1))
     (c .before .if3 .left))
 

@@ -22,8 +22,8 @@ enum-told-2 c = search needs
 returns : tie.Need-returns
 returns c =
     λ a b d s sound k.
-    let here = place-at _ (s .place) (sym (place-number s (k .numbers)) ∙ c .before .before .enum-told2 .given .1) in stop-empty k (here .0) (here .1 .0)
-    (here .1 .1) (c .if1 .taken)
+    let here = place-at _ (s .place) (sym (place-number s (k .numbers)) ∙ c .before .before .enum-told2 .given .1) in stop-empty k (here .0) (here .1) (here .2)
+    (here .3) (c .if1 .taken)
 
 close-rule-requires : tie.Need-close-rule-requires
 close-rule-requires c κs =
@@ -52,8 +52,8 @@ returns-3 c =
     let enum-told2 = if1 .before .before in
     λ a b d s sound k.
     let here = place-at _ (s .place) (sym (place-number s (k .numbers)) ∙ enum-told2 .enum-told2 .given .1) in rw
-    (stop-right k (here .0) (here .1 .0) (here .1 .1) (if1 .if1 .left))
-    (c .before .before .close-rule .ensures a b d s (closed-right (s .place) (here .0) (here .1 .0) (here .1 .1)) k)
+    (stop-right k (here .0) (here .1) (here .2) (here .3) (if1 .if1 .left))
+    (c .before .before .close-rule .ensures a b d s (closed-right (s .place) (here .0) (here .1) (here .2) (here .3)) k)
 
 same-length-2 : tie.Need-same-length-2
 same-length-2 c = search needs
@@ -63,8 +63,8 @@ returns-4 c =
     let enum-told3 = c .before .before .before .before in
     λ a b d s sound k.
     let here = place-at _ (s .place) (sym (place-number s (k .numbers)) ∙ enum-told3 .enum-told3 .given .1) in rw
-    (stop-ending s (here .0) (here .1 .0) (here .1 .1))
-    (c .before .before .close-rule2 .ensures a b d s (closed-ending (s .place) (here .0) (here .1 .0) (here .1 .1)) k)
+    (stop-ending s (here .0) (here .1) (here .2) (here .3))
+    (c .before .before .close-rule2 .ensures a b d s (closed-ending (s .place) (here .0) (here .1) (here .2) (here .3)) k)
 
 returns-5 : tie.Need-returns-5
 returns-5 c = λ a b d s sound k. rw (stop-elsewhere s (s .place) (rw (place-number s (k .numbers)) at (c .match .keys4))) refl

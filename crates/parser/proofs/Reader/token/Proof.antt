@@ -40,6 +40,12 @@ stop-requires c κs = search needs
 enum-told-5 : tie.Need-enum-told-5
 enum-told-5 c = search needs
 
+mark-requires : tie.Need-mark-requires
+mark-requires c κs = search needs
+
+enum-told-6 : tie.Need-enum-told-6
+enum-told-6 c = search needs
+
 same-length : tie.Need-same-length
 same-length c = search needs
 
@@ -77,7 +83,11 @@ returns-4 c =
 
 returns-5 : tie.Need-returns-5
 unfolding afterRun afterToken tokenAs
-returns-5 c = λ s sound k. rw (c .enum-told5 .given .1) refl
+returns-5 c = λ s sound k. rw (c .before .enum-told5 .given .1) (c .mark .ensures _ _ _ _ s sound k)
+
+returns-6 : tie.Need-returns-6
+unfolding afterRun afterToken tokenAs
+returns-6 c = λ s sound k. rw (c .enum-told6 .given .1) refl
 
 pub token-spec : {M : Type 1} → statement M
 token-spec =
@@ -92,6 +102,8 @@ token-spec =
     enum-told-4
     stop-requires
     enum-told-5
+    mark-requires
+    enum-told-6
     same-length
     same-length-2
     returns
@@ -100,4 +112,5 @@ token-spec =
     returns-3
     same-length-4
     returns-4
-    returns-5)
+    returns-5
+    returns-6)
