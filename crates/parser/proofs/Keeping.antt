@@ -8,7 +8,7 @@ use native.Mathlib.Omega.{arith}
 use lib.ListN.{length, set, take, drop, length-append, length-set}
 use lib.Seq.{sets, sets-eq, length-sets, take-append-seam}
 use Rattle.rewriting.specs.Lists.{prefix}
-use Rattle.rewriting.specs.Rules.{Right, Close, symbolsOf, Rule}
+use Rattle.rewriting.specs.Rules.{Close, symbolsOf, Rule}
 use Rattle.rewriting.proofs.Lists.{prefix-rest, prefix-append, flatMap-snoc}
 use Rattle.layout.specs.Image.{kind, lengthOrVerdict, markByte, contents, body}
 use Rattle.layout.proofs.Image.{length-contents}

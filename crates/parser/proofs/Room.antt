@@ -6,7 +6,7 @@ use mathlib.Core.Bool.{Bool}
 use mathlib.Core.List.{List, [], _++_, flatMap}
 use native.Mathlib.Omega.{arith}
 use lib.ListN.{length, length-append}
-use Rattle.rewriting.specs.Rules.{Right, Put, symbolsOf}
+use Rattle.rewriting.specs.Rules.{Put, symbolsOf}
 use Rattle.rewriting.proofs.Ranges.{RuleRanges, rule-ranges}
 use Rattle.layout.specs.Image.{body}
 use Rattle.layout.proofs.Image.{length-bodies}

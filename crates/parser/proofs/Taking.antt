@@ -30,7 +30,6 @@ use Rattle.grammar.specs.Grammar.{
   InRight,
   Ending,
   Reading,
-  Goes,
   Breaks,
   eventsWord,
   epsilonWord,

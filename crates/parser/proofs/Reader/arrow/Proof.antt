@@ -17,7 +17,8 @@ at-requires c κs = search needs
 returns : tie.Need-returns
 returns c =
     λ a b z d s sound k.
-    let w = place-at _ (s .place) (sym (place-number s (k .numbers)) ∙ c .before .enum-told .given .1) in rw (c .at .ensures) (arrow-left k (w .0) (w .1) (w .2))
+    let w = place-at _ (s .place) (sym (place-number s (k .numbers)) ∙ c .before .enum-told .given .1) in rw (c .at .ensures)
+    (arrow-left k (w .0) (w .1) (w .2))
 
 returns-2 : tie.Need-returns-2
 returns-2 c = λ a b z d s sound k. rw (arrow-elsewhere s (s .place) (rw (place-number s (k .numbers)) at (c .match .keys2))) refl

@@ -47,9 +47,8 @@ unfolding closeRule
 returns c =
     let start = c .before .before .before .before in
     let lent = start .args in
-    λ a b d s closed k. rw
-    (c .before .at .ensures, sets-four (lent .contents .now) (4 * lent .self .rules) (lent .self .left) (lent .self .kind) (lent .self .side) (lent .self .mark))
-    (keeps-rule k closed (start .pre))
+    let four = sets-four (lent .contents .now) (4 * lent .self .rules) (lent .self .left) (lent .self .kind) (lent .self .side) (lent .self .mark) in
+    λ a b d s closed k. rw (c .before .at .ensures) (rw (← four) at (keeps-rule k closed (start .pre)))
 
 pub close-rule-spec : {M : Type 1} → statement M
 close-rule-spec =
