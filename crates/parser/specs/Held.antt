@@ -1,5 +1,5 @@
 -- How the code keeps a reading: a struct of numbers, two areas of name slots, the contents and the bodies of the rules.
-use Prim.Native.Nat.{ℕ, _+_, _≤_}
+use Prim.Native.Nat.{ℕ, _+_, _*_, _≤_}
 use mathlib.Core.Path.{_≡_}
 use mathlib.Core.Bool.{true}
 use mathlib.Core.List.{List, [], _∷_, _++_, flatMap}
@@ -96,8 +96,7 @@ readerOf s =
       bodies = length (bodiesOf s);
       left = leftOf (s .place);
       side = sideOf (s .place);
-      kind = kind (ruleAt (s .place) .right);
-      mark = markByte (ruleAt (s .place) .marked);
+      kind = kind (ruleAt (s .place) .right) + 2 * markByte (ruleAt (s .place) .marked);
     }
 
 -- The code keeps the reading s: its numbers, the slots of symbols and of words, contents and bodies.

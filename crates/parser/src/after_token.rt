@@ -34,7 +34,6 @@ impl Reader {
               left = self .left;
               side = self .side;
               kind = self .kind;
-              mark = self .mark;
             } ⌝ }
     {
         Reader {
@@ -47,7 +46,6 @@ impl Reader {
             left: self.left,
             side: self.side,
             kind: self.kind,
-            mark: self.mark,
         }
     }
 
@@ -161,7 +159,7 @@ impl Reader {
         }
         next.words = n.count;
         next.side = n.number as u8;
-        next.kind = 1;
+        next.kind = self.kind + 1;
         Taken::Goes(next)
     }
 
@@ -204,7 +202,7 @@ impl Reader {
         match place {
             Place::Between => {
                 let mut next = self.at(Place::Marked);
-                next.mark = 1;
+                next.kind = 2;
                 Taken::Goes(next)
             }
             _ => Taken::Breaks(4),
@@ -231,15 +229,14 @@ impl Reader {
     {
         let at = 4 * self.rules;
         contents[at] = self.left;
-        contents[at + 1] = self.kind;
+        contents[at + 1] = self.kind % 2;
         contents[at + 2] = self.side;
-        contents[at + 3] = self.mark;
+        contents[at + 3] = self.kind / 2;
         let mut next = self.at(Place::Between);
         next.rules = self.rules + 1;
         next.left = 0;
         next.side = 0;
         next.kind = 0;
-        next.mark = 0;
         Taken::Goes(next)
     }
 

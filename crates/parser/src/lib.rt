@@ -32,7 +32,8 @@ pub enum Place {
 }
 
 // What has been read: the place, how many symbols, words, events and rules there are, how many bytes their bodies have, and
-// of the rule begun the length of its left side, that of the side that is open or the verdict, the kind, and the mark.
+// of the rule begun the length of its left side, that of the side that is open or the verdict, and the kind, with 2 more where
+// it has the mark: a field of its own costs a fifth.
 pub struct Reader {
     pub place: Place,
     pub symbols: usize,
@@ -43,7 +44,6 @@ pub struct Reader {
     pub left: u8,
     pub side: u8,
     pub kind: u8,
-    pub mark: u8,
 }
 
 // What a token makes of what has been read: it goes on, or the text breaks here, by this refusal.
@@ -80,7 +80,6 @@ fn begin(words: &mut [u8]) -> Reader
         left: 0,
         side: 0,
         kind: 0,
-        mark: 0,
     }
 }
 
