@@ -94,8 +94,9 @@ computes : Unit {0}
 unfolding
     orElse flatMap rule rightInRange ruleInRange inRange lowest spanning tie ending sample kind lengthOrVerdict markByte symbolsOf contents
     body imageOf readRight readRule readRules read valid refusal pattern isPrefix state next starts symbolsIn matching prefixes known numbered
-    hasMark firstStates states number matchWord row tableOf empty active replace settle step noCounts plus countsOf ended counted fits proceed tests run headOf areaOf bytesOf statesAfter wordsOf
-    monitorOf stateOf noMatch unmatched closesWith standsBy holds described sized freshened freshOf fuelOf lentChecks isNone fuelCheck
+    hasMark firstStates states number matchWord row tableOf empty active replace settle step noCounts plus countsOf ended counted fits
+    proceed tests run headOf areaOf bytesOf statesAfter wordsOf monitorOf stateOf noMatch unmatched closesWith standsBy holds described sized
+    freshened freshOf fuelOf lentChecks isNone fuelCheck
     verdictCheck callChecks offered outcome decided callOf refusedBy stringOf noCalls eventsOf logged play fresh foundIn find worked abcd
 computes = tt
 

@@ -137,7 +137,9 @@ words-snoc rules s a = ap (map (number (states rules))) (states-after-snoc rules
 -- cut
 pub words-cut : (rules : List Rule) (s : List ℕ) (k : ℕ) → take k (wordsAfter rules s) ≡ wordsAfter rules (take k s)
 unfolding wordsAfter
-words-cut rules s k = map-take (number (states rules)) (statesAfter rules (after rules []) s) k ∙ ap (map (number (states rules))) (states-cut rules (after rules []) s k)
+words-cut rules s k =
+    map-take (number (states rules)) (statesAfter rules (after rules []) s) k
+    ∙ ap (map (number (states rules))) (states-cut rules (after rules []) s k)
 
 -- the monitor that holds a state, part by part
 pub holds-state : (rules : List Rule) (capacity : ℕ) (s q : List ℕ) (v : Standing) (i settled waiting : ℕ) (bytes words : List ℕ)

@@ -41,8 +41,8 @@ reads : Unit {0}
 unfolding
     bytes separator letter digit nameByte isName tokenOf unbroken runsFrom runs numberOf orNew numbered slot slots slotAt symbolNamed
     Grammar.begun Grammar.placed Grammar.withSymbol Grammar.symbol Grammar.event Grammar.sideSymbol Grammar.firstSymbol Grammar.name
-    Grammar.withVerdict Grammar.rightWord Grammar.word Grammar.arrow Grammar.mark Grammar.closeEvents Grammar.closeRule Grammar.stop Grammar.afterToken Grammar.afterRun
-    Grammar.complete Grammar.ruleSetOf Read.ended Read.orBroken Read.readRuns Read.readText Read.namesOf Read.unless
+    Grammar.withVerdict Grammar.rightWord Grammar.word Grammar.arrow Grammar.mark Grammar.closeEvents Grammar.closeRule Grammar.stop
+    Grammar.afterToken Grammar.afterRun Grammar.complete Grammar.ruleSetOf Read.ended Read.orBroken Read.readRuns Read.readText Read.namesOf Read.unless
 reads = tt
 
 -- image, table and monitor
@@ -50,7 +50,8 @@ runs-on : Unit {0}
 unfolding
     orElse flatMap rule rightInRange ruleInRange inRange lowest spanning tie ending kind lengthOrVerdict markByte symbolsOf contents body imageOf
     readRight readRule readRules read valid refusal States.pattern States.isPrefix States.state States.next States.starts States.symbolsIn
-    States.matching States.prefixes States.known States.numbered States.hasMark States.firstStates States.states States.number matchWord row tableOf empty active replace settle step Run.noCounts Run.plus Run.countsOf Run.ended Run.counted Run.fits
+    States.matching States.prefixes States.known States.numbered States.hasMark States.firstStates States.states States.number
+    matchWord row tableOf empty active replace settle step Run.noCounts Run.plus Run.countsOf Run.ended Run.counted Run.fits
     Run.proceed Run.tests Run.run headOf areaOf bytesOf statesAfter wordsOf monitorOf stateOf noMatch unmatched closesWith standsBy
     holds described Calls.sized Calls.fuelOf Calls.lentChecks Calls.isNone Calls.fuelCheck Calls.verdictCheck Calls.callChecks Calls.offered
     Calls.outcome Calls.decided Calls.callOf Calls.offerOf stringOf
@@ -123,7 +124,8 @@ verdict-printed = refl
 
 -- document 02, No. 1: `^ take` fails where nothing stands before it
 pub mark-printed :
-    Prints "events lock take . ^ take -> #fail . lock take -> held . % lock take take" "lock quiet 1 0 lock\ntake quiet 2 1 held\ntake quiet 1 0 held,take\n"
+    Prints "events lock take . ^ take -> #fail . lock take -> held . % lock take take"
+    "lock quiet 1 0 lock\ntake quiet 2 1 held\ntake quiet 1 0 held,take\n"
     × Prints "events lock take . ^ take -> #fail . % take" "take #fail 1 1 -\n"
 unfolding reads runs-on prints
 mark-printed = (refl, refl)
