@@ -16,7 +16,7 @@ use Rattle.rewriting.specs.Lists.{prefix, below}
 use Rattle.rewriting.specs.Rules.{RuleSet}
 use Rattle.rewriting.proofs.Lists.{and-both, all-append, all-at, getD-map}
 use Rattle.rewriting.proofs.Ranges.{Ranges}
-use Rattle.layout.specs.States.{states, number, known, mark, state, after, next, matching}
+use Rattle.layout.specs.States.{states, number, known, mark, after, next, matching}
 use Rattle.layout.specs.Table.{matchWord, tableOf}
 use Rattle.layout.proofs.Matching.{state-snoc}
 use Rattle.layout.proofs.States.{number-start, state-known, next-known}
