@@ -5,11 +5,26 @@ use mathlib.Core.List.{[], _∷_, map, flatMap}
 use mathlib.Core.Option.{none, some, orElse}
 use Rattle.rewriting.specs.Lists.{over}
 use Rattle.rewriting.specs.Rules.{symbolsOf, rule, rightInRange, ruleInRange, inRange}
-use Rattle.rewriting.specs.Occurrences.{lowest, tie, ending}
+use Rattle.rewriting.specs.Occurrences.{lowest, spanning, tie, ending}
 use Rattle.rewriting.specs.Sample.{sample}
-use Rattle.layout.specs.Image.{kind, lengthOrVerdict, contents, body, imageOf, readRight, readRule, readRules, read, valid}
+use Rattle.layout.specs.Image.{kind, lengthOrVerdict, markByte, contents, body, imageOf, readRight, readRule, readRules, read, valid}
 use Rattle.layout.specs.Refusals.{refusal}
-use Rattle.layout.specs.States.{isPrefix, state, next, matching, prefixes, known, numbered, states, number}
+use Rattle.layout.specs.States.{
+  pattern,
+  isPrefix,
+  state,
+  next,
+  starts,
+  symbolsIn,
+  matching,
+  prefixes,
+  known,
+  numbered,
+  hasMark,
+  firstStates,
+  states,
+  number,
+}
 use Rattle.layout.specs.Table.{matchWord, row, tableOf}
 use Rattle.machine.specs.State.{empty, active, replace, settle, step}
 use Rattle.machine.specs.Run.{noCounts, plus, countsOf, ended, counted, fits, proceed, tests, run}
@@ -55,6 +70,9 @@ use Rattle.cases.specs.Edges.{
   growing,
   tripling,
   edges,
+  locked,
+  startBan,
+  marks,
   holding,
   closedAndFull,
   Answering,
@@ -74,10 +92,11 @@ use Rattle.cases.specs.Edges.{
 -- every definition that a computed case goes through
 computes : Unit {0}
 unfolding
-    orElse flatMap rule rightInRange ruleInRange inRange lowest tie ending sample kind lengthOrVerdict symbolsOf contents body imageOf
-    readRight readRule readRules read valid refusal isPrefix state next matching prefixes known numbered states number matchWord row tableOf
-    empty active replace settle step noCounts plus countsOf ended counted fits proceed tests run headOf areaOf bytesOf statesAfter wordsOf
-    monitorOf stateOf noMatch unmatched closesWith standsBy holds described sized freshened freshOf fuelOf lentChecks isNone fuelCheck
+    orElse flatMap rule rightInRange ruleInRange inRange lowest spanning tie ending sample kind lengthOrVerdict markByte symbolsOf contents
+    body imageOf readRight readRule readRules read valid refusal pattern isPrefix state next starts symbolsIn matching prefixes known numbered
+    hasMark firstStates states number matchWord row tableOf empty active replace settle step noCounts plus countsOf ended counted fits
+    proceed tests run headOf areaOf bytesOf statesAfter wordsOf monitorOf stateOf noMatch unmatched closesWith standsBy holds described sized
+    freshened freshOf fuelOf lentChecks isNone fuelCheck
     verdictCheck callChecks offered outcome decided callOf refusedBy stringOf noCalls eventsOf logged play fresh foundIn find worked abcd
 computes = tt
 
@@ -96,10 +115,15 @@ pub edges-found : map (λ (c : Case). find (c .set) (c .calls)) edges ≡ map (�
 unfolding computes growing edges
 edges-found = refl
 
+-- and of the table of marked rules
+pub marks-found : map (λ (c : Case). find (c .set) (c .calls)) marks ≡ map (λ (c : Case). c .found) marks
+unfolding computes locked startBan marks
+marks-found = refl
+
 -- calls on monitors that no list of calls left, and refusals in their order
 pub monitors-answered : map (λ (x : Answering). callOf documentCapacity (x .image) (x .table) (x .monitor) (x .call) .answer) monitors
     ≡ map (λ (x : Answering). x .answer) monitors
-unfolding computes holding closedAndFull answering onSample undescribed monitors
+unfolding computes startBan holding closedAndFull answering onSample undescribed monitors
 monitors-answered = refl
 
 pub refusals-in-order : map (λ (x : Answering). callOf documentCapacity (x .image) (x .table) (x .monitor) (x .call) .answer) inOrder

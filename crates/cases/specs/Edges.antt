@@ -1,10 +1,10 @@
--- The edges that document 01 lists, batches, and what is lent otherwise than by fresh. proofs/Cases.antt computes every
--- value from the definitions.
+-- The edges that document 01 lists, marked rules, batches, and what is lent otherwise than by fresh. proofs/Cases.antt computes
+-- every value from the definitions.
 use Prim.Native.Nat.{ℕ}
 use mathlib.Core.Option.{Option, none, some}
 use mathlib.Core.List.{List, [], _∷_, _++_}
 use lib.ListN.{take, drop, replicate}
-use Rattle.rewriting.specs.Rules.{Put, _⇒_, RuleSet}
+use Rattle.rewriting.specs.Rules.{Put, Close, _⇒_, atStart, RuleSet}
 use Rattle.rewriting.specs.Sample.{sample}
 use Rattle.layout.specs.Image.{imageOf}
 use Rattle.layout.specs.Refusals.{refusal}
@@ -62,6 +62,36 @@ edges =
     ∷ worked sample (Offer 1 1 ∷ Offer 3 65536 ∷ Offer 0 65536 ∷ Offer 0 1 ∷ GoOn 65536 ∷ GoOn 1 ∷ [])
     (Answer.Verdict 0 ∷ Answer.Refused 12 ∷ Answer.Refused 13 ∷ Answer.Refused 14 ∷ Answer.Refused 13 ∷ Answer.Refused 14 ∷ [])
     1 1 0 [] 0 (Standing.Verdict 0) 2
+    ∷ []
+
+-- `^ take -> #fail . lock take -> held .`: lock 0, take 1, held 2
+unfoldable pub locked : RuleSet
+locked =
+    record {
+      symbols = 3;
+      events = 2;
+      verdicts = 2;
+      rules = atStart (1 ∷ [] ⇒ Close 0) ∷ (0 ∷ 1 ∷ [] ⇒ Put (2 ∷ [])) ∷ [];
+    }
+
+-- ^ b → fail; a a → empty
+unfoldable pub startBan : RuleSet
+startBan = abcd (atStart (1 ∷ [] ⇒ Close 0) ∷ (0 ∷ 0 ∷ [] ⇒ Put []) ∷ [])
+
+-- Document 02, No. 1: a marked left side "occurs only at the string's first symbol"
+unfoldable pub marks : List Case
+marks =
+    -- lock, take: held; take: Verdict 0 of rule 0
+    worked locked (Offer 0 1000 ∷ Offer 1 1000 ∷ [])
+    (Answer.Quiet ∷ Answer.Quiet ∷ []) 3 1 1 (2 ∷ []) 0 Standing.None 0
+    ∷ worked locked (Offer 1 1000 ∷ [])
+    (Answer.Verdict 0 ∷ []) 1 1 0 [] 0 (Standing.Verdict 0) 0
+    -- a, b: Quiet, with the marked left side behind the start
+    ∷ worked startBan (Offer 0 1000 ∷ Offer 1 1000 ∷ [])
+    (Answer.Quiet ∷ Answer.Quiet ∷ []) 2 0 0 (0 ∷ 1 ∷ []) 0 Standing.None 0
+    -- a, a, b: a a is taken off, so that b stands at the start: Verdict 0
+    ∷ worked startBan (Offer 0 1000 ∷ Offer 0 1000 ∷ Offer 1 1000 ∷ [])
+    (Answer.Quiet ∷ Answer.Quiet ∷ Answer.Verdict 0 ∷ []) 3 2 0 [] 0 (Standing.Verdict 0) 0
     ∷ []
 
 -- The sample's monitor with these head numbers, these bytes first and last, these words first, and 0 elsewhere.
@@ -129,6 +159,9 @@ monitors =
     ∷ undescribed (holding 0 0 (Standing.Verdict 1) 2 [] [] [])
     ∷ undescribed (holding 0 0 (Standing.Verdict 0) 0 [] [] [])
     ∷ undescribed (holding 0 0 (Standing.Verdict 0) 3 [] [] [])
+    -- with a marked rule, what begins nothing has word 1, not 0: c settled
+    ∷ answering (imageOf startBan) (tableOf startBan) (holding 1 0 Standing.None 0 (2 ∷ []) [] (1 ∷ [])) (GoOn 1) Answer.Quiet
+    ∷ answering (imageOf startBan) (tableOf startBan) (holding 1 0 Standing.None 0 (2 ∷ []) [] []) (GoOn 1) (Answer.Refused 11)
     ∷ []
 
 -- a monitor whose areas have one byte and one word

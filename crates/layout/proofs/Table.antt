@@ -46,7 +46,7 @@ unfolding tableOf
 length-table set =
     rw (length-append, length-map, length-flatMap (row set) (set .symbols) (length-row set)) (omega arith)
 
--- "at most 16,931"
+-- "the words 16,964": at most so many
 pub table-length : (set : RuleSet) → inRange set ≡ true → length (tableOf set) ≤ tableMost
 table-length set e =
     let few = few-states set e in

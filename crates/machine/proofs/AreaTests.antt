@@ -14,7 +14,7 @@ use Rattle.rewriting.specs.Rules.{RuleSet}
 use Rattle.rewriting.proofs.Lists.{and-both, and-left, and-right, all-append, all-left, all-right, same-eq, eq-same}
 use Rattle.layout.specs.ImageCheck.{Decides}
 use Rattle.layout.proofs.ImageCheck.{all-behind}
-use Rattle.layout.specs.States.{states, number}
+use Rattle.layout.specs.States.{states, number, after}
 use Rattle.machine.specs.Areas.{Head, areaOf, bytesOf, statesAfter, wordsOf, stateOf, unmatched, standsBy, holds, described}
 use Rattle.machine.specs.Lent.{monitorIn, Settled}
 use Rattle.machine.proofs.Areas.{length-states-after}
@@ -92,7 +92,7 @@ module _ (set : RuleSet) (head : Head) (bytes words : List ℕ) (size : length w
         ∙ three-parts (head .settled) (length bytes - head .waiting) bytes (omega (arith, t .room))
 
     words-area : areaOf (length bytes)
-        (map (number (states (set .rules))) (statesAfter (set .rules) [] (take (head .settled) bytes))) []
+        (map (number (states (set .rules))) (statesAfter (set .rules) (after (set .rules) []) (take (head .settled) bytes))) []
         ≡ words
     words-area =
         let own : length (take (head .settled) words) ≡ head .settled = length-take-le (head .settled) words (omega (arith, size, t .room)) in
@@ -127,7 +127,7 @@ module _ (set : RuleSet) (head : Head) (bytes words : List ℕ) (size : length w
     last = drop (length bytes - head .waiting) bytes
 
     abbrev numbers : List ℕ
-    numbers = map (number (states (set .rules))) (statesAfter (set .rules) [] first)
+    numbers = map (number (states (set .rules))) (statesAfter (set .rules) (after (set .rules) []) first)
 
     abbrev p₁ : Bool
     p₁ = leb (head .settled + head .waiting) (length bytes)
@@ -177,8 +177,8 @@ module _ (set : RuleSet) (head : Head) (bytes words : List ℕ) (size : length w
 
     numbers-long : length numbers ≡ head .settled
     numbers-long =
-        length-map (statesAfter (set .rules) [] first) (number (states (set .rules)))
-        ∙ length-states-after (set .rules) [] first
+        length-map (statesAfter (set .rules) (after (set .rules) []) first) (number (states (set .rules)))
+        ∙ length-states-after (set .rules) (after (set .rules) []) first
         ∙ first-long
 
     in-bytes : areaOf (length bytes) first last ≡ bytes

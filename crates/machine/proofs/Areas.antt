@@ -14,7 +14,7 @@ use borrow.Author.Tests.{eq-eqb, leb-true}
 use Rattle.rewriting.specs.Rules.{Rule}
 use Rattle.rewriting.proofs.Lists.{and-both, getD-map}
 use Rattle.layout.specs.Refusals.{refusal}
-use Rattle.layout.specs.States.{states, number, state, next}
+use Rattle.layout.specs.States.{states, number, mark, state, after, next}
 use Rattle.layout.proofs.Matching.{state-snoc}
 use Rattle.machine.specs.State.{State, active, empty}
 use Rattle.machine.specs.Run.{fits}
@@ -74,14 +74,14 @@ states-after-snoc rules p (x ∷ s) a =
 
 -- "word i below a is the table's state after i + 1 settled symbols"
 pub word-at : (rules : List Rule) (capacity : ℕ) (s : State) (i : ℕ) → i < length (s .settled)
-    → getD (wordsOf rules capacity s) i 0 ≡ number (states rules) (state rules (take (suc i) (s .settled)))
-unfolding wordsOf areaOf state
+    → getD (wordsOf rules capacity s) i 0 ≡ number (states rules) (after rules (take (suc i) (s .settled)))
+unfolding wordsOf areaOf
 word-at rules capacity s i h =
-    let after : List (List ℕ) = statesAfter rules [] (s .settled) in
-    let n : length after ≡ length (s .settled) = length-states-after rules [] (s .settled) in
-    List·getD-append (map (number (states rules)) after) _ 0 i (simp length-map (omega arith))
-    ∙ getD-map (number (states rules)) after i [] 0 (omega arith)
-    ∙ ap (number (states rules)) (states-after rules [] (s .settled) i h)
+    let passed : List (List ℕ) = statesAfter rules (after rules []) (s .settled) in
+    let n : length passed ≡ length (s .settled) = length-states-after rules (after rules []) (s .settled) in
+    List·getD-append (map (number (states rules)) passed) _ 0 i (simp length-map (omega arith))
+    ∙ getD-map (number (states rules)) passed i [] 0 (omega arith)
+    ∙ ap (number (states rules)) (states-after rules (mark ∷ []) (s .settled) i h)
 
 -- the check behind refusal 10
 pub sized-written : (rules : List Rule) (capacity : ℕ) (s : State) → fits capacity s ≡ true
@@ -89,10 +89,10 @@ pub sized-written : (rules : List Rule) (capacity : ℕ) (s : State) → fits ca
 unfolding sized monitorOf bytesOf wordsOf fits
 sized-written rules capacity s h =
     let room : length (s .settled) + length (s .waiting) ≤ capacity = leb-true _ _ h in
-    let after : List (List ℕ) = statesAfter rules [] (s .settled) in
+    let passed : List (List ℕ) = statesAfter rules (after rules []) (s .settled) in
     and-both (eq-eqb _ _ (length-area capacity (s .settled) (s .waiting) room))
     (eq-eqb _ _
-    (length-area capacity (map (number (states rules)) after) []
+    (length-area capacity (map (number (states rules)) passed) []
     (simp (length-map, length-states-after) (omega arith))))
 
 area-empty : (capacity : ℕ) → areaOf capacity [] [] ≡ replicate capacity 0

@@ -135,8 +135,9 @@ pub passed-holding : (capacity : ℕ) (image table : List ℕ) (m : Monitor) →
 unfolding lentChecks
 passed-holding capacity image table m e =
     let e₁₀ : _ = refusal-rest _ _ _ (refusal-rest _ _ _ e) in
+    let valid-ranges : Ranges (read image) = ranges (read image) (valid-in-range image (refusal-passed _ _ _ e)) in
     let d : Described (read image) capacity m =
-    is-described (read image) capacity m (refusal-passed _ _ _ e₁₀) (refusal-passed _ _ _ (refusal-rest _ _ _ e₁₀))
+    is-described (read image) valid-ranges capacity m (refusal-passed _ _ _ e₁₀) (refusal-passed _ _ _ (refusal-rest _ _ _ e₁₀))
     in
     record { state = stateOf m; written = sym (d .written); legal = d .legal; room = d .room }
 
@@ -153,7 +154,7 @@ module _ (capacity : ℕ) (image table : List ℕ) (good : valid image ≡ true)
         good,
         right,
         sized-written (read image .rules) capacity (h .state) (h .room),
-        described-written (read image) capacity (h .state) (h .room) (h .legal),
+        described-written (read image) in-range capacity (h .state) (h .room) (h .legal),
       ))
 
   -- So a call is decided by the checks of its own alone.

@@ -13,10 +13,11 @@ use borrow.Author.Tests.{eq-eqb, lt-ltb}
 use Rattle.rewriting.specs.Lists.{below}
 use Rattle.rewriting.specs.Rules.{Right, Put, Close, symbolsOf, Rule, RuleSet, rule, rightInRange}
 use Rattle.rewriting.specs.Occurrences.{scan, redex, ending}
-use Rattle.rewriting.proofs.Lists.{and-both, and-right, all-append, all-left, all-right}
+use Rattle.rewriting.proofs.Lists.{and-both, and-right, all-append, all-left, all-right, below-weaken}
 use Rattle.rewriting.proofs.Ranges.{right-below, Ranges, rule-at}
 use Rattle.rewriting.proofs.Scan.{scan-snoc, redex-take, EndsWith, ending-left}
-use Rattle.layout.proofs.Matching.{matching-next}
+use Rattle.layout.specs.States.{mark}
+use Rattle.layout.proofs.Matching.{Plain, matching-next}
 use Rattle.machine.specs.declared.Counts.{Counts}
 use Rattle.machine.specs.State.{State, active, replace, settle, step}
 use Rattle.machine.specs.Areas.{closesWith, standsBy}
@@ -50,6 +51,17 @@ pub legal-active : (set : RuleSet) (t : State) (w : List ℕ) → t .waiting ≡
 unfolding active standsBy
 legal-active set t w e f = record { clean = f .clean; symbols = rw e at (f .symbols); stands = refl }
 
+-- the mark is no symbol: it stands nowhere in a string of symbols, ..
+pub plain-below : (set : RuleSet) → Ranges set → (p : List ℕ) → below (set .symbols) p ≡ true → Plain p
+plain-below set ranges p h = below-weaken (set .symbols) mark p (ranges .few-symbols) h
+
+-- .. so not in the settled string with the first waiting symbol
+pub legal-plain : (set : RuleSet) → Ranges set → (t : State) (a : ℕ) (q : List ℕ) → t .waiting ≡ a ∷ q → Legal set t
+    → Plain (t .settled ++ a ∷ [])
+legal-plain set ranges t a q w f =
+    plain-below set ranges (t .settled ++ a ∷ [])
+    (all-left (λ x. ltb x (set .symbols)) (t .settled ++ a ∷ []) q (rw (append-snoc, ← w) (f .symbols)))
+
 -- a string below S, cut, with others below S behind it
 cut-below : (S n : ℕ) (s v q : List ℕ) → below S s ≡ true → below S v ≡ true → below S q ≡ true
     → below S (take n s ++ (v ++ q)) ≡ true
@@ -60,21 +72,21 @@ cut-below S n s v q hs hv hq =
 
 module _ (set : RuleSet) (ranges : Ranges set) (s : List ℕ) (a : ℕ) (q : List ℕ) (f : Legal set (active s (a ∷ q))) where
   -- no left side ends with a
-  legal-none : ending (set .rules) (s ++ a ∷ []) ≡ none → Legal set (settle (set .rules) (s ++ a ∷ []) q none .to)
+  legal-none : ending (set .rules) true (s ++ a ∷ []) ≡ none → Legal set (settle (set .rules) (s ++ a ∷ []) q none .to)
   unfolding settle active standsBy
   legal-none e =
       record { clean = scan-snoc (set .rules) s a (f .clean) e; symbols = rw append-snoc (f .symbols); stands = refl }
 
   -- rule i's left side ends with a
-  legal-some : (i : ℕ) → ending (set .rules) (s ++ a ∷ []) ≡ some i → Legal set (settle (set .rules) (s ++ a ∷ []) q (some i) .to)
+  legal-some : (i : ℕ) → ending (set .rules) true (s ++ a ∷ []) ≡ some i → Legal set (settle (set .rules) (s ++ a ∷ []) q (some i) .to)
   unfolding settle active replace symbolsOf standsBy closesWith
   legal-some i e = go (rule rules i .right) refl
     where
       rules : List Rule
       rules = set .rules
 
-      found : EndsWith rules (s ++ a ∷ []) i
-      found = ending-left rules (s ++ a ∷ []) i e
+      found : EndsWith rules true (s ++ a ∷ []) i
+      found = ending-left rules true (s ++ a ∷ []) i e
 
       n : ℕ
       n = length (s ++ a ∷ []) - length (rule rules i .left)
@@ -116,10 +128,12 @@ module _ (set : RuleSet) (ranges : Ranges set) (s : List ℕ) (a : ℕ) (q : Lis
 -- a step
 pub legal-step : (set : RuleSet) → Ranges set → (s : List ℕ) (a : ℕ) (q : List ℕ) → Legal set (active s (a ∷ q))
     → Legal set (step (set .rules) s a q .to)
-unfolding step
-legal-step set ranges s a q f = rw matching-next (go (ending (set .rules) (s ++ a ∷ [])) refl)
+unfolding step active
+legal-step set ranges s a q f =
+    rw (matching-next (set .rules) s a (legal-plain set ranges (active s (a ∷ q)) a q refl f))
+    (go (ending (set .rules) true (s ++ a ∷ [])) refl)
   where
-    go : (m : Option ℕ) → ending (set .rules) (s ++ a ∷ []) ≡ m → Legal set (settle (set .rules) (s ++ a ∷ []) q m .to)
+    go : (m : Option ℕ) → ending (set .rules) true (s ++ a ∷ []) ≡ m → Legal set (settle (set .rules) (s ++ a ∷ []) q m .to)
     go none e = legal-none set ranges s a q f e
     go (some i) e = legal-some set ranges s a q f i e
 

@@ -13,7 +13,7 @@ use Rattle.rewriting.proofs.Lists.{and-left, all-right}
 use Rattle.rewriting.proofs.Ranges.{ranges}
 use Rattle.layout.specs.Image.{read}
 use Rattle.layout.proofs.Image.{valid-in-range}
-use Rattle.layout.specs.States.{states, number, state, next, matching}
+use Rattle.layout.specs.States.{states, number, mark, after, next, matching}
 use Rattle.layout.specs.Table.{matchWord}
 use Rattle.layout.proofs.States.{state-known, next-known, next-below, few-states}
 use Rattle.machine.specs.Areas.{Monitor, stateOf}
@@ -52,7 +52,7 @@ module _ (capacity : ℕ) (image table : List ℕ) (m : Monitor) (ok : Passed ca
 
   -- the state before it, in the table
   state-is : (p : ℕ) → p ≡ wordBefore (m .words) (m .head .settled)
-      → p ≡ number (states (read image .rules)) (state (read image .rules) (stateOf m .settled))
+      → p ≡ number (states (read image .rules)) (after (read image .rules) (stateOf m .settled))
   state-is p e = e ∙ word-before (read image) capacity m h
 
   pub next-asks : (p x : ℕ) → p ≡ wordBefore (m .words) (m .head .settled) → x ≡ a
@@ -60,26 +60,26 @@ module _ (capacity : ℕ) (image table : List ℕ) (m : Monitor) (ok : Passed ca
   next-asks p x e f = (
     table-header (read image) table (passed-table capacity image table m ok),
     rw (state-is p e, f)
-        (next-inside (read image) table (passed-table capacity image table m ok) (state (read image .rules) (stateOf m .settled))
-        (state-known (read image .rules) (stateOf m .settled)) a symbol-low),
+        (next-inside (read image) table (passed-table capacity image table m ok) (after (read image .rules) (stateOf m .settled))
+        (state-known (read image .rules) (mark ∷ stateOf m .settled)) a symbol-low),
   )
 
   -- the state after it
   pub next-is : (p x n : ℕ) → p ≡ wordBefore (m .words) (m .head .settled) → x ≡ a → n ≡ nextIn table p x
-      → n ≡ number (states (read image .rules)) (next (read image .rules) (state (read image .rules) (stateOf m .settled)) a)
+      → n ≡ number (states (read image .rules)) (next (read image .rules) (after (read image .rules) (stateOf m .settled)) a)
   next-is p x n e f g =
       g
       ∙ rw (state-is p e, f)
-      (table-next-in (read image) table (passed-table capacity image table m ok) (state (read image .rules) (stateOf m .settled))
-      (state-known (read image .rules) (stateOf m .settled)) a symbol-low)
+      (table-next-in (read image) table (passed-table capacity image table m ok) (after (read image .rules) (stateOf m .settled))
+      (state-known (read image .rules) (mark ∷ stateOf m .settled)) a symbol-low)
 
-  module _ (n : ℕ) (is-next : n ≡ number (states (read image .rules)) (next (read image .rules) (state (read image .rules) (stateOf m .settled)) a)) where
+  module _ (n : ℕ) (is-next : n ≡ number (states (read image .rules)) (next (read image .rules) (after (read image .rules) (stateOf m .settled)) a)) where
     pub next-small : n < 65536
     next-small =
         omega (
           arith,
           is-next,
-          next-below (read image .rules) (state (read image .rules) (stateOf m .settled)) a,
+          next-below (read image .rules) (after (read image .rules) (stateOf m .settled)) a,
           few-states (read image) (valid-in-range image (passed-valid capacity image table m ok)),
         )
 
@@ -87,15 +87,15 @@ module _ (capacity : ℕ) (image table : List ℕ) (m : Monitor) (ok : Passed ca
     match-asks =
         rw is-next
         (match-inside (read image) table (passed-table capacity image table m ok)
-        (next (read image .rules) (state (read image .rules) (stateOf m .settled)) a)
-        (next-known (read image .rules) (state (read image .rules) (stateOf m .settled)) a))
+        (next (read image .rules) (after (read image .rules) (stateOf m .settled)) a)
+        (next-known (read image .rules) (after (read image .rules) (stateOf m .settled)) a))
 
     -- its match word
     pub match-is : (k : ℕ) → k ≡ matchIn table n
-        → k ≡ matchWord (matching (read image .rules) (next (read image .rules) (state (read image .rules) (stateOf m .settled)) a))
+        → k ≡ matchWord (matching (read image .rules) (next (read image .rules) (after (read image .rules) (stateOf m .settled)) a))
     match-is k e =
         e
         ∙ rw is-next
         (table-match-in (read image) table (passed-table capacity image table m ok)
-        (next (read image .rules) (state (read image .rules) (stateOf m .settled)) a)
-        (next-known (read image .rules) (state (read image .rules) (stateOf m .settled)) a))
+        (next (read image .rules) (after (read image .rules) (stateOf m .settled)) a)
+        (next-known (read image .rules) (after (read image .rules) (stateOf m .settled)) a))

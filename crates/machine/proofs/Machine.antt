@@ -1,18 +1,19 @@
 -- The monitor as one machine: which states its steps reach, with which counts, whatever the fuel and the capacity.
 -- Symbols that wait behind change no earlier step, so the events of later offers may as well wait from the start.
 -- Assumes nothing.
-use Prim.Native.Nat.{ℕ, _*_, _≤_}
+use Prim.Native.Nat.{ℕ, _*_, _≤_, _<_}
 use mathlib.Core.Path.{_≡_, refl, ap}
 use mathlib.Core.Bool.{true}
 use mathlib.Core.Option.{Option, none, some}
 use mathlib.Core.List.{List, [], _∷_, _++_, append-assoc}
 use native.Mathlib.Omega.{arith}
+use lib.ListN.{length}
 use Rattle.rewriting.specs.Rules.{Right, Put, Close, symbolsOf, Rule, RuleSet, rule, rightInRange}
-use Rattle.rewriting.specs.Occurrences.{ending, cut}
+use Rattle.rewriting.specs.Occurrences.{cut}
 use Rattle.rewriting.proofs.Ranges.{length-right, Ranges, rule-at}
-use Rattle.rewriting.proofs.Scan.{ending-left}
-use Rattle.layout.specs.States.{state, next, matching}
-use Rattle.layout.proofs.Matching.{matching-next}
+use Rattle.layout.specs.States.{after, next, matching}
+use Rattle.layout.specs.Table.{matchWord}
+use Rattle.layout.proofs.Table.{few-matching}
 use Rattle.machine.specs.declared.Standing.{Standing}
 use Rattle.machine.specs.declared.Counts.{Counts}
 use Rattle.machine.specs.State.{State, Step, active, replace, settle, step}
@@ -54,7 +55,7 @@ settle-more rules p q e (some i) =
 
 step-more : (rules : List Rule) (s : List ℕ) (a : ℕ) (q e : List ℕ) → step rules s a (q ++ e) ≡ stepMore (step rules s a q) e
 unfolding step
-step-more rules s a q e = settle-more rules (s ++ a ∷ []) q e (matching rules (next rules (state rules s) a))
+step-more rules s a q e = settle-more rules (s ++ a ∷ []) q e (matching rules (next rules (after rules s) a))
 
 pub reaches-more : {rules : List Rule} {s : State} {c : Counts} {t : State} (e : List ℕ) → Reaches rules s c t
     → Reaches rules (more s e) c (more t e)
@@ -80,19 +81,23 @@ replace-counts set s q i (Close v) h = (refl, omega arith)
 
 pub step-counts : (set : RuleSet) → Ranges set → (s : List ℕ) (a : ℕ) (q : List ℕ)
     → (step (set .rules) s a q .rewrites ≤ 1) × (step (set .rules) s a q .put ≤ 8 * step (set .rules) s a q .rewrites)
-unfolding step settle
-step-counts set ranges s a q = rw matching-next (go (ending (set .rules) (s ++ a ∷ [])) refl)
+unfolding step settle matchWord
+step-counts set ranges s a q = go (matching (set .rules) there) refl
   where
     p : List ℕ
     p = s ++ a ∷ []
 
-    go : (m : Option ℕ) → ending (set .rules) p ≡ m
+    there : List ℕ
+    there = next (set .rules) (after (set .rules) s) a
+
+    go : (m : Option ℕ) → matching (set .rules) there ≡ m
         → (settle (set .rules) p q m .rewrites ≤ 1) × (settle (set .rules) p q m .put ≤ 8 * settle (set .rules) p q m .rewrites)
     go none e = (omega arith, omega arith)
     go (some i) e =
+        let is-rule : i < length (set .rules) = rw e at (few-matching (set .rules) there) in
         let c : _ =
         replace-counts set (cut (set .rules) p i) q i (rule (set .rules) i .right)
-        (rule-at set ranges i (ending-left (set .rules) p i e .is-rule) .right-in-range)
+        (rule-at set ranges i is-rule .right-in-range)
         in
         (omega (arith, c .0), rw (c .0) (c .1))
 

@@ -15,10 +15,11 @@ use borrow.Author.Tests.{ltb-true, lt-ltb}
 use Rattle.rewriting.specs.Lists.{prefix, below}
 use Rattle.rewriting.specs.Rules.{RuleSet}
 use Rattle.rewriting.proofs.Lists.{and-both, all-append, all-at, getD-map}
-use Rattle.layout.specs.States.{states, number, known, state, next, matching}
+use Rattle.rewriting.proofs.Ranges.{Ranges}
+use Rattle.layout.specs.States.{states, number, known, mark, after, next, matching}
 use Rattle.layout.specs.Table.{matchWord, tableOf}
 use Rattle.layout.proofs.Matching.{state-snoc}
-use Rattle.layout.proofs.States.{number-zero, state-known, next-known}
+use Rattle.layout.proofs.States.{number-start, state-known, next-known}
 use Rattle.machine.specs.Areas.{statesAfter, noMatch, unmatched}
 use Rattle.machine.specs.Lent.{rowsIn, widthIn, matchIn, wordBefore, Settled}
 use Rattle.machine.proofs.Areas.{length-states-after, states-after, states-after-snoc}
@@ -40,14 +41,14 @@ none-match none e = refl
 none-match (some i) e = let z : _≡_ {A = ℕ} 0 1 = cc in absurd (omega arith)
 
 settled-snoc : (set : RuleSet) (s w : List ℕ) (a x : ℕ) → Settled set s w → a < set .symbols
-    → x ≡ number (states (set .rules)) (next (set .rules) (state (set .rules) s) a)
-    → matchWord (matching (set .rules) (next (set .rules) (state (set .rules) s) a)) ≡ 0
+    → x ≡ number (states (set .rules)) (next (set .rules) (after (set .rules) s) a)
+    → matchWord (matching (set .rules) (next (set .rules) (after (set .rules) s) a)) ≡ 0
     → Settled set (s ++ a ∷ []) (w ++ x ∷ [])
-unfolding unmatched state
+unfolding unmatched
 settled-snoc set s w a x h low e m =
-    let q : List ℕ = next (set .rules) (state (set .rules) s) a in
-    let more : statesAfter (set .rules) [] (s ++ a ∷ []) ≡ statesAfter (set .rules) [] s ++ q ∷ [] =
-    states-after-snoc (set .rules) [] s a
+    let q : List ℕ = next (set .rules) (after (set .rules) s) a in
+    let more : statesAfter (set .rules) (after (set .rules) []) (s ++ a ∷ []) ≡ statesAfter (set .rules) (after (set .rules) []) s ++ q ∷ [] =
+    states-after-snoc (set .rules) (mark ∷ []) s a
     in
     record {
       symbols-below =
@@ -55,7 +56,7 @@ settled-snoc set s w a x h low e m =
       words-right = rw (more, map-append, e, h .words-right);
       no-match =
           rw more
-          (all-append (λ y. noMatch (matching (set .rules) y)) (statesAfter (set .rules) [] s) (q ∷ []) (h .no-match)
+          (all-append (λ y. noMatch (matching (set .rules) y)) (statesAfter (set .rules) (after (set .rules) []) s) (q ∷ []) (h .no-match)
           (and-both (match-none (matching (set .rules) q) m) refl));
     }
 
@@ -65,46 +66,45 @@ settled-none set = record { symbols-below = refl; words-right = refl; no-match =
 
 module _ (set : RuleSet) (symbols words : List ℕ) (h : Settled set symbols words) (i : ℕ) (lt : i < length symbols) where
   -- the state after the symbol at i
-  after : getD (statesAfter (set .rules) [] symbols) i []
-      ≡ next (set .rules) (state (set .rules) (take i symbols)) (getD symbols i 0)
-  unfolding state
-  after =
-      states-after (set .rules) [] symbols i lt
-      ∙ ap (state (set .rules)) (take-suc symbols i 0 lt)
-      ∙ sym (state-snoc (set .rules) (take i symbols) (getD symbols i 0))
+  state-there : getD (statesAfter (set .rules) (after (set .rules) []) symbols) i []
+      ≡ next (set .rules) (after (set .rules) (take i symbols)) (getD symbols i 0)
+  state-there =
+      states-after (set .rules) (mark ∷ []) symbols i lt
+      ∙ ap (after (set .rules)) (take-suc symbols i 0 lt)
+      ∙ sym (state-snoc (set .rules) (mark ∷ take i symbols) (getD symbols i 0))
 
-  long : i < length (statesAfter (set .rules) [] symbols)
-  long = omega (arith, length-states-after (set .rules) [] symbols)
+  long : i < length (statesAfter (set .rules) (after (set .rules) []) symbols)
+  long = omega (arith, length-states-after (set .rules) (after (set .rules) []) symbols)
 
   settled-word : getD words i 0
-      ≡ number (states (set .rules)) (next (set .rules) (state (set .rules) (take i symbols)) (getD symbols i 0))
+      ≡ number (states (set .rules)) (next (set .rules) (after (set .rules) (take i symbols)) (getD symbols i 0))
   settled-word =
       ap (λ (l : List ℕ). getD l i 0) (h .words-right)
-      ∙ getD-map (number (states (set .rules))) (statesAfter (set .rules) [] symbols) i [] 0 long
-      ∙ ap (number (states (set .rules))) after
+      ∙ getD-map (number (states (set .rules))) (statesAfter (set .rules) (after (set .rules) []) symbols) i [] 0 long
+      ∙ ap (number (states (set .rules))) state-there
 
-  settled-unmatched : matchWord (matching (set .rules) (next (set .rules) (state (set .rules) (take i symbols)) (getD symbols i 0))) ≡ 0
+  settled-unmatched : matchWord (matching (set .rules) (next (set .rules) (after (set .rules) (take i symbols)) (getD symbols i 0))) ≡ 0
   unfolding unmatched
   settled-unmatched =
       none-match _
-      (rw after at (all-at (λ y. noMatch (matching (set .rules) y)) (statesAfter (set .rules) [] symbols) [] (h .no-match) i long))
+      (rw state-there at (all-at (λ y. noMatch (matching (set .rules) y)) (statesAfter (set .rules) (after (set .rules) []) symbols) [] (h .no-match) i long))
 
 -- the word before word i is the number of the state
-word-number : (set : RuleSet) (symbols words : List ℕ) (i : ℕ) → i ≤ length symbols → Settled set (take i symbols) (take i words)
-    → wordBefore words i ≡ number (states (set .rules)) (state (set .rules) (take i symbols))
-unfolding state
-word-number set symbols words zero le h = sym (number-zero (set .rules))
-word-number set symbols words (suc j) le h =
+word-number : (set : RuleSet) → Ranges set → (symbols words : List ℕ) (i : ℕ) → i ≤ length symbols → Settled set (take i symbols) (take i words)
+    → wordBefore words i ≡ number (states (set .rules)) (after (set .rules) (take i symbols))
+word-number set ranges symbols words zero le h = sym (number-start set ranges)
+word-number set ranges symbols words (suc j) le h =
     let size : length (take (suc j) symbols) ≡ suc j = length-take-le (suc j) symbols le in
     let last = settled-word set (take (suc j) symbols) (take (suc j) words) h j (omega arith) in
     sym (getD-take (suc j) words j 0 (omega arith))
     ∙ last
-    ∙ ap (number (states (set .rules))) (state-snoc (set .rules) (take j (take (suc j) symbols)) (getD (take (suc j) symbols) j 0))
-    ∙ ap (λ (p : List ℕ). number (states (set .rules)) (state (set .rules) p))
+    ∙ ap (number (states (set .rules))) (state-snoc (set .rules) (mark ∷ take j (take (suc j) symbols)) (getD (take (suc j) symbols) j 0))
+    ∙ ap (λ (p : List ℕ). number (states (set .rules)) (after (set .rules) p))
     (sym (take-suc (take (suc j) symbols) j 0 (omega arith)) ∙ take-all (suc j) (take (suc j) symbols) (omega arith))
 
 -- A turn: w is the word before word i, a the symbol.
 pub record Turn (set : RuleSet) (t : List ℕ) (rows width : ℕ) (symbols words : List ℕ) (i w a : ℕ) : Type 0 where
+  pub in-range : Ranges set
   pub table : prefix (tableOf set) t ≡ true
   pub row-first : rows ≡ rowsIn t
   pub row-width : width ≡ widthIn t
@@ -119,13 +119,13 @@ pub record Turn (set : RuleSet) (t : List ℕ) (rows width : ℕ) (symbols words
 module _ {set : RuleSet} {t : List ℕ} {rows width : ℕ} {symbols words : List ℕ} {i w a : ℕ}
     (turn : Turn set t rows width symbols words i w a) where
   abbrev here : List ℕ
-  here = state (set .rules) (take i symbols)
+  here = after (set .rules) (take i symbols)
 
   here-known : known (states (set .rules)) here ≡ true
-  here-known = state-known (set .rules) (take i symbols)
+  here-known = state-known (set .rules) (mark ∷ take i symbols)
 
   w-number : w ≡ number (states (set .rules)) here
-  w-number = turn .word ∙ word-number set symbols words i (omega (arith, turn .more)) (turn .so-far)
+  w-number = turn .word ∙ word-number set (turn .in-range) symbols words i (omega (arith, turn .more)) (turn .so-far)
 
   low : a < set .symbols
   low = rw (turn .symbol) (ltb-true _ _ (all-at (λ y. ltb y (set .symbols)) symbols 0 (turn .symbols-below) i (turn .more)))

@@ -18,14 +18,14 @@ use Rattle.rewriting.specs.Rewriter.{fed, replaced, unlessVerdict, rewrite, rew
 use Rattle.rewriting.proofs.Ranges.{Ranges}
 use Rattle.rewriting.proofs.Scan.{redex-found}
 use Rattle.rewriting.proofs.Rewrites.{rewrites-one-more}
-use Rattle.layout.proofs.Matching.{matching-next}
+use Rattle.layout.proofs.Matching.{Plain, matching-next}
 use Rattle.machine.specs.declared.Standing.{Standing}
 use Rattle.machine.specs.declared.Counts.{Counts}
 use Rattle.machine.specs.State.{State, active, replace, settle, step}
 use Rattle.machine.specs.Run.{noCounts, plus, countsOf}
 use Rattle.machine.specs.Play.{verdictOf}
 use Rattle.machine.proofs.Machine.{Reaches, Stay, On}
-use Rattle.machine.proofs.Legal.{legal-waiting, legal-reaches}
+use Rattle.machine.proofs.Legal.{Legal, legal-waiting, legal-plain, legal-reaches}
 
 -- what is so of a state t that is reached from w with the counts c
 pub record Faithful (rules : List Rule) (w : List ℕ) (c : Counts) (t : State) : Type 0 where
@@ -46,7 +46,7 @@ module _ (rules : List Rule) (w : List ℕ) (c : Counts) (s : List ℕ) (a : ℕ
       }
 
   -- rule i's left side ends with a: it is the rewriter's redex
-  faithful-some : (i : ℕ) → redex rules s ≡ none → ending rules (s ++ a ∷ []) ≡ some i
+  faithful-some : (i : ℕ) → redex rules s ≡ none → ending rules true (s ++ a ∷ []) ≡ some i
       → Faithful rules w (plus c (countsOf (settle rules (s ++ a ∷ []) q (some i)))) (settle rules (s ++ a ∷ []) q (some i) .to)
   unfolding settle active plus countsOf replace rewrite unlessVerdict replaced endingAt verdictOf
   faithful-some i clean e = go (rule rules i .right) refl
@@ -77,10 +77,10 @@ module _ (rules : List Rule) (w : List ℕ) (c : Counts) (s : List ℕ) (a : ℕ
 
 -- a step
 faithful-step : (rules : List Rule) (w : List ℕ) (c : Counts) (t : State) (a : ℕ) (q : List ℕ) → t .verdict ≡ Standing.None
-    → t .waiting ≡ a ∷ q → redex rules (t .settled) ≡ none → Faithful rules w c t
+    → t .waiting ≡ a ∷ q → redex rules (t .settled) ≡ none → Plain (t .settled ++ a ∷ []) → Faithful rules w c t
     → Faithful rules w (plus c (countsOf (step rules (t .settled) a q))) (step rules (t .settled) a q .to)
 unfolding step active
-faithful-step rules w c t a q v h clean f = rw matching-next (go (ending rules p) refl)
+faithful-step rules w c t a q v h clean plain f = rw (matching-next rules (t .settled) a plain) (go (ending rules true p) refl)
   where
     p : List ℕ
     p = t .settled ++ a ∷ []
@@ -88,7 +88,7 @@ faithful-step rules w c t a q v h clean f = rw matching-next (go (ending rules p
     here : Faithful rules w c (active (t .settled) (a ∷ q))
     here = record { rewriter = rw (h, v) at (f .rewriter); balance = rw h at (f .balance) }
 
-    go : (m : Option ℕ) → ending rules p ≡ m
+    go : (m : Option ℕ) → ending rules true p ≡ m
         → Faithful rules w (plus c (countsOf (settle rules p q m))) (settle rules p q m .to)
     go none e = faithful-none rules w c (t .settled) a q here
     go (some i) e = faithful-some rules w c (t .settled) a q here i clean e
@@ -99,5 +99,5 @@ pub faithful : (set : RuleSet) → Ranges set → (w : List ℕ) → below (set 
 unfolding active noCounts rewrites fed verdictOf
 faithful set ranges w h Stay = record { rewriter = refl; balance = omega arith }
 faithful set ranges w h (On {c = c} {t = t} a q r v e) =
-    faithful-step (set .rules) w c t a q v e (legal-reaches set ranges r (legal-waiting set w h) .clean)
-    (faithful set ranges w h r)
+    let f : Legal set t = legal-reaches set ranges r (legal-waiting set w h) in
+    faithful-step (set .rules) w c t a q v e (f .clean) (legal-plain set ranges t a q e f) (faithful set ranges w h r)

@@ -13,13 +13,15 @@ use lib.Seq.{paste, take-append-le, take-all, length-take-le}
 use borrow.Author.Tests.{leb-true, le-leb, lt-leb, eqb-true}
 use Rattle.rewriting.specs.Lists.{prefix}
 use Rattle.rewriting.specs.Rules.{Put, Close, Rule, RuleSet, rule}
+use Rattle.rewriting.proofs.Ranges.{Ranges, ranges}
 use Rattle.rewriting.proofs.Scan.{EndsWith, ending-left}
 use Rattle.layout.specs.Image.{read, valid}
+use Rattle.layout.proofs.Image.{valid-in-range}
 use Rattle.layout.proofs.Refusals.{refusal-passed, refusal-rest}
-use Rattle.layout.specs.States.{states, number, state, next, matching}
+use Rattle.layout.specs.States.{states, number, mark, after, next, matching}
 use Rattle.layout.specs.Table.{tableOf}
 use Rattle.layout.proofs.Matching.{matching-next}
-use Rattle.layout.proofs.States.{number-zero}
+use Rattle.layout.proofs.States.{number-start}
 use Rattle.machine.specs.declared.Standing.{Standing}
 use Rattle.machine.specs.State.{State, Step, active, replace, settle, step}
 use Rattle.machine.specs.Run.{fits}
@@ -27,17 +29,18 @@ use Rattle.machine.specs.Areas.{Monitor, headOf, areaOf, bytesOf, states
 use Rattle.machine.specs.Calls.{sized, lentChecks}
 use Rattle.machine.specs.Lent.{monitorIn, Passed, wordBefore, Matches, stepWaiting, stepOf, Tried, tried, standingAfter}
 use Rattle.machine.proofs.ByNumber.{stands-after, verdict-taken}
-use Rattle.machine.proofs.Legal.{Legal}
+use Rattle.machine.proofs.Legal.{Legal, legal-plain}
 use Rattle.machine.proofs.Areas.{length-area, length-states-after, states-after-snoc, word-at}
 use Rattle.machine.proofs.Described.{Described, is-described}
 use Rattle.machine.proofs.AreaWrites.{area-first, area-taken, area-settled, area-cut, area-put, states-cut, map-take}
 
 -- the words of a settled string
 pub wordsAfter : List Rule → List ℕ → List ℕ
-wordsAfter rules s = map (number (states rules)) (statesAfter rules [] s)
+wordsAfter rules s = map (number (states rules)) (statesAfter rules (after rules []) s)
 
 -- what the checks of what is lent say of the state that is held
 pub record Held (set : RuleSet) (capacity : ℕ) (m : Monitor) : Type 0 where
+  pub in-range : Ranges set
   pub legal : Legal set (stateOf m)
   pub room : length (stateOf m .settled) + length (stateOf m .waiting) ≤ capacity
   pub settled-count : m .head .settled ≡ length (stateOf m .settled)
@@ -49,12 +52,15 @@ pub record Held (set : RuleSet) (capacity : ℕ) (m : Monitor) : Type 0 where
 
 pub length-words : (rules : List Rule) (s : List ℕ) → length (wordsAfter rules s) ≡ length s
 unfolding wordsAfter
-length-words rules s = length-map (statesAfter rules [] s) (number (states rules)) ∙ length-states-after rules [] s
+length-words rules s = length-map (statesAfter rules (after rules []) s) (number (states rules)) ∙ length-states-after rules (after rules []) s
 
 module _ (capacity : ℕ) (image table : List ℕ) (m : Monitor) (ok : Passed capacity image table m) where
   pub passed-valid : valid image ≡ true
   unfolding lentChecks
   passed-valid = refusal-passed _ _ _ ok
+
+  passed-ranges : Ranges (read image)
+  passed-ranges = ranges (read image) (valid-in-range image passed-valid)
 
   pub passed-table : prefix (tableOf (read image)) table ≡ true
   unfolding lentChecks
@@ -71,7 +77,7 @@ module _ (capacity : ℕ) (image table : List ℕ) (m : Monitor) (ok : Passed ca
   pub held : Held (read image) capacity m
   unfolding monitorOf headOf bytesOf wordsOf wordsAfter fits
   held =
-      let d : Described (read image) capacity m = is-described (read image) capacity m passed-sized passed-described in
+      let d : Described (read image) capacity m = is-described (read image) passed-ranges capacity m passed-sized passed-described in
       let s : State = stateOf m in
       let room : length (s .settled) + length (s .waiting) ≤ capacity = leb-true _ _ (d .room) in
       let bytes-are : m .bytes ≡ areaOf capacity (s .settled) (s .waiting) = sym (ap (λ (x : Monitor). x .bytes) (d .written)) in
@@ -80,6 +86,7 @@ module _ (capacity : ℕ) (image table : List ℕ) (m : Monitor) (ok : Passed ca
       omega (arith, room, length-words (read image .rules) (s .settled))
       in
       record {
+        in-range = passed-ranges;
         legal = d .legal;
         room = room;
         settled-count = sym (ap (λ (x : Monitor). x .head .settled) (d .written));
@@ -92,7 +99,7 @@ module _ (capacity : ℕ) (image table : List ℕ) (m : Monitor) (ok : Passed ca
 
   -- the areas are those of the state that they are read as
   pub passed-written : monitorOf (read image .rules) capacity (stateOf m) ≡ m
-  passed-written = is-described (read image) capacity m passed-sized passed-described .written
+  passed-written = is-described (read image) passed-ranges capacity m passed-sized passed-described .written
 
   -- "that verdict's rule (0 with none)"
   pub zero-rule : m .head .verdict ≡ Standing.None → m .head .rule ≡ 0
@@ -101,36 +108,38 @@ module _ (capacity : ℕ) (image table : List ℕ) (m : Monitor) (ok : Passed ca
 
 -- "finds its state from the word before it (state 0 at the start)"
 pub word-before : (set : RuleSet) (capacity : ℕ) (m : Monitor) → Held set capacity m
-    → wordBefore (m .words) (m .head .settled) ≡ number (states (set .rules)) (state (set .rules) (stateOf m .settled))
-unfolding state wordsOf wordsAfter
+    → wordBefore (m .words) (m .head .settled) ≡ number (states (set .rules)) (after (set .rules) (stateOf m .settled))
+unfolding wordsOf wordsAfter
 word-before set capacity m h = go (m .head .settled) refl
   where
     s : List ℕ
     s = stateOf m .settled
 
-    empty : (l : List ℕ) → length l ≡ 0 → state (set .rules) l ≡ []
+    empty : (l : List ℕ) → length l ≡ 0 → after (set .rules) l ≡ after (set .rules) []
     empty [] e = refl
     empty (x ∷ l) e = absurd (omega arith)
 
-    go : (n : ℕ) → m .head .settled ≡ n → wordBefore (m .words) n ≡ number (states (set .rules)) (state (set .rules) s)
+    go : (n : ℕ) → m .head .settled ≡ n → wordBefore (m .words) n ≡ number (states (set .rules)) (after (set .rules) s)
     go zero e =
-        sym (ap (number (states (set .rules))) (empty s (omega (arith, h .settled-count))) ∙ number-zero (set .rules))
+        sym (ap (number (states (set .rules))) (empty s (omega (arith, h .settled-count))) ∙ number-start set (h .in-range))
     go (suc i) e =
         ap (λ (l : List ℕ). getD l i 0) (h .words-are)
         ∙ word-at (set .rules) capacity (stateOf m) i (omega (arith, h .settled-count))
-        ∙ ap (λ (l : List ℕ). number (states (set .rules)) (state (set .rules) l)) (take-all (suc i) s (omega (arith, h .settled-count)))
+        ∙ ap (λ (l : List ℕ). number (states (set .rules)) (after (set .rules) l)) (take-all (suc i) s (omega (arith, h .settled-count)))
 
 -- one more settled symbol has one more word
 pub words-snoc : (rules : List Rule) (s : List ℕ) (a : ℕ)
-    → wordsAfter rules (s ++ a ∷ []) ≡ wordsAfter rules s ++ number (states rules) (next rules (state rules s) a) ∷ []
-unfolding wordsAfter state
-words-snoc rules s a = ap (map (number (states rules))) (states-after-snoc rules [] s a) ∙ map-append (number (states rules))
-    (statesAfter rules [] s) (next rules (state rules s) a ∷ [])
+    → wordsAfter rules (s ++ a ∷ []) ≡ wordsAfter rules s ++ number (states rules) (next rules (after rules s) a) ∷ []
+unfolding wordsAfter
+words-snoc rules s a = ap (map (number (states rules))) (states-after-snoc rules (mark ∷ []) s a) ∙ map-append (number (states rules))
+    (statesAfter rules (after rules []) s) (next rules (after rules s) a ∷ [])
 
 -- cut
 pub words-cut : (rules : List Rule) (s : List ℕ) (k : ℕ) → take k (wordsAfter rules s) ≡ wordsAfter rules (take k s)
 unfolding wordsAfter
-words-cut rules s k = map-take (number (states rules)) (statesAfter rules [] s) k ∙ ap (map (number (states rules))) (states-cut rules [] s k)
+words-cut rules s k =
+    map-take (number (states rules)) (statesAfter rules (after rules []) s) k
+    ∙ ap (map (number (states rules))) (states-cut rules (after rules []) s k)
 
 -- the monitor that holds a state, part by part
 pub holds-state : (rules : List Rule) (capacity : ℕ) (s q : List ℕ) (v : Standing) (i settled waiting : ℕ) (bytes words : List ℕ)
@@ -199,9 +208,9 @@ length-next s a e = rw length-append (omega arith)
 
 -- it does not complete a left side: it is settled
 pub settled-step : (set : RuleSet) (capacity : ℕ) (m : Monitor) → Held set capacity m → (a : ℕ) (q : List ℕ)
-    → stateOf m .waiting ≡ a ∷ q → matching (set .rules) (next (set .rules) (state (set .rules) (stateOf m .settled)) a) ≡ none
+    → stateOf m .waiting ≡ a ∷ q → matching (set .rules) (next (set .rules) (after (set .rules) (stateOf m .settled)) a) ≡ none
     → (first word : ℕ) → first ≡ capacity - m .head .waiting
-    → word ≡ number (states (set .rules)) (next (set .rules) (state (set .rules) (stateOf m .settled)) a)
+    → word ≡ number (states (set .rules)) (next (set .rules) (after (set .rules) (stateOf m .settled)) a)
     → _≡_ {A = Tried}
     (record {
       taken = true;
@@ -244,10 +253,11 @@ settled-step set capacity m h a q w e first word place is-word =
 
 -- It completes the left side of rule i.
 module _ (set : RuleSet) (capacity : ℕ) (m : Monitor) (h : Held set capacity m) (i : ℕ) (e : Matches (set .rules) (stateOf m) (some i)) where
-  completed : EndsWith (set .rules) (stateOf m .settled ++ (e .0) ∷ []) i
+  completed : EndsWith (set .rules) true (stateOf m .settled ++ (e .0) ∷ []) i
   completed =
-      ending-left (set .rules) (stateOf m .settled ++ (e .0) ∷ []) i
-      (sym (matching-next (set .rules) (stateOf m .settled) (e .0)) ∙ e .3)
+      let plain = legal-plain set (h .in-range) (stateOf m) (e .0) (e .1) (e .2) (h .legal) in
+      ending-left (set .rules) true (stateOf m .settled ++ (e .0) ∷ []) i
+      (sym (matching-next (set .rules) (stateOf m .settled) (e .0) plain) ∙ e .3)
 
   pub matched-rule : i < length (set .rules)
   matched-rule = completed .is-rule

@@ -10,11 +10,11 @@ use lib.Dec.{ltb}
 use lib.ListN.{length, replicate, length-replicate}
 use borrow.Author.Tests.{ltb-true}
 use Rattle.rewriting.specs.Rules.{symbolsOf, rule, rightInRange, ruleInRange, inRange}
-use Rattle.rewriting.specs.Occurrences.{lowest, tie, ending}
-use Rattle.layout.specs.Image.{kind, lengthOrVerdict, contents, body, imageOf, readRight, readRule, readRules, read, valid}
+use Rattle.rewriting.specs.Occurrences.{lowest, spanning, tie, ending}
+use Rattle.layout.specs.Image.{kind, lengthOrVerdict, markByte, contents, body, imageOf, readRight, readRule, readRules, read, valid}
 use Rattle.layout.specs.Refusals.{refusal}
 use Rattle.layout.specs.States as States
-use Rattle.layout.specs.Table.{matchWord, row, tableOf}
+use Rattle.layout.specs.Table.{tableMost, matchWord, row, tableOf}
 use Rattle.machine.specs.State.{empty, active, replace, settle, step}
 use Rattle.machine.specs.Run as Run
 use Rattle.machine.specs.Areas.{headOf, areaOf, bytesOf, statesAfter, wordsOf, monitorOf, stateOf, noMatch, unmatched, closesWith, standsBy, holds, described}
@@ -40,17 +40,18 @@ use Rattle.printing.proofs.WatchTheorem.{watch-theorem}
 reads : Unit {0}
 unfolding
     bytes separator letter digit nameByte isName tokenOf unbroken runsFrom runs numberOf orNew numbered slot slots slotAt symbolNamed
-    Grammar.begun Grammar.placed Grammar.withSymbol Grammar.symbol Grammar.event Grammar.sideSymbol Grammar.name Grammar.withVerdict
-    Grammar.rightWord Grammar.word Grammar.arrow Grammar.closeEvents Grammar.closeRule Grammar.stop Grammar.afterToken Grammar.afterRun
-    Grammar.complete Grammar.ruleSetOf Read.ended Read.orBroken Read.readRuns Read.readText Read.namesOf Read.unless
+    Grammar.begun Grammar.placed Grammar.withSymbol Grammar.symbol Grammar.event Grammar.sideSymbol Grammar.firstSymbol Grammar.name
+    Grammar.withVerdict Grammar.rightWord Grammar.word Grammar.arrow Grammar.mark Grammar.closeEvents Grammar.closeRule Grammar.stop
+    Grammar.afterToken Grammar.afterRun Grammar.complete Grammar.ruleSetOf Read.ended Read.orBroken Read.readRuns Read.readText Read.namesOf Read.unless
 reads = tt
 
 -- image, table and monitor
 runs-on : Unit {0}
 unfolding
-    orElse flatMap rule rightInRange ruleInRange inRange lowest tie ending kind lengthOrVerdict symbolsOf contents body imageOf
-    readRight readRule readRules read valid refusal States.isPrefix States.state States.next States.matching States.prefixes States.known States.numbered
-    States.states States.number matchWord row tableOf empty active replace settle step Run.noCounts Run.plus Run.countsOf Run.ended Run.counted Run.fits
+    orElse flatMap rule rightInRange ruleInRange inRange lowest spanning tie ending kind lengthOrVerdict markByte symbolsOf contents body imageOf
+    readRight readRule readRules read valid refusal States.pattern States.isPrefix States.state States.next States.starts States.symbolsIn
+    States.matching States.prefixes States.known States.numbered States.hasMark States.firstStates States.states States.number
+    matchWord row tableOf empty active replace settle step Run.noCounts Run.plus Run.countsOf Run.ended Run.counted Run.fits
     Run.proceed Run.tests Run.run headOf areaOf bytesOf statesAfter wordsOf monitorOf stateOf noMatch unmatched closesWith standsBy
     holds described Calls.sized Calls.fuelOf Calls.lentChecks Calls.isNone Calls.fuelCheck Calls.verdictCheck Calls.callChecks Calls.offered
     Calls.outcome Calls.decided Calls.callOf Calls.offerOf stringOf
@@ -121,6 +122,14 @@ pub verdict-printed :
 unfolding reads runs-on prints
 verdict-printed = refl
 
+-- document 02, No. 1: `^ take` fails where nothing stands before it
+pub mark-printed :
+    Prints "events lock take . ^ take -> #fail . lock take -> held . % lock take take"
+    "lock quiet 1 0 lock\ntake quiet 2 1 held\ntake quiet 1 0 held,take\n"
+    × Prints "events lock take . ^ take -> #fail . % take" "take #fail 1 1 -\n"
+unfolding reads runs-on prints
+mark-printed = (refl, refl)
+
 -- "offered with fuel 1,000"; the waiting symbols stand behind the settled ones
 pub spent-printed :
     Prints "events a b . a -> a . % b a b" "b quiet 1 0 b\na spent 1000 1000 b,a\nb spent 1000 1000 b,a,b\n"
@@ -150,7 +159,7 @@ input-long = (refl, refl, refl, refl, refl)
 
 -- Areas as the program has them, and what `begin` and `next` write for the sample with them: a case of `watch-theorem`.
 abbrev zeros : Areas
-zeros = areas (replicate 1284 0) (replicate 1200 0) (replicate 16931 0) (replicate 2048 0) (replicate 2048 0) (replicate lineMost 0)
+zeros = areas (replicate 1284 0) (replicate 1200 0) (replicate tableMost 0) (replicate 2048 0) (replicate 2048 0) (replicate lineMost 0)
 
 sample-short : ltb (length sampleInput) 200 ≡ true
 unfolding bytes

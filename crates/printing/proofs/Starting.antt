@@ -15,7 +15,7 @@ use Rattle.layout.specs.Refusals.{refusal}
 use Rattle.layout.proofs.Image.{valid-in-range, read-image}
 use Rattle.layout.specs.declared.Compiled.{Compiled}
 use Rattle.layout.specs.declared.Compiled.the-variants.{Words, Refused}
-use Rattle.layout.specs.Table.{tableOf}
+use Rattle.layout.specs.Table.{tableMost, tableOf}
 use Rattle.layout.specs.Compile.{compileOf}
 use Rattle.layout.proofs.Table.{table-length}
 use Rattle.layout.proofs.Compilation.{compile-words}
@@ -30,7 +30,7 @@ use Rattle.printing.specs.Lines.{refusedLine, tooLongLine}
 use Rattle.printing.specs.Watch.{rulePart, freshMonitor, ruleTextRead}
 use Rattle.printing.specs.Turns.{lineMost, Begun, Message, Events, Areas, areas, beginsFrom, Inside, message, eventsAt, started, beginRead, beginOf}
 
-module _ (image table : List ℕ) (good : valid image ≡ true) (size : length table ≡ 16931) where
+module _ (image table : List ℕ) (good : valid image ≡ true) (size : length table ≡ tableMost) where
   fits : length (tableOf (read image)) ≤ length table
   fits = omega (arith, table-length (read image) (valid-in-range image good))
 

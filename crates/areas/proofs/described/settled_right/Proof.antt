@@ -5,7 +5,9 @@ use mathlib.Core.Path.{sym, _∙_}
 use native.Mathlib.Omega.{arith}
 use lib.ListN.{length, getD, take}
 use borrow.Author.Needs.{needs}
+use Rattle.rewriting.proofs.Ranges.{ranges}
 use Rattle.layout.specs.Image.{read}
+use Rattle.layout.proofs.Image.{valid-in-range}
 use Rattle.layout.proofs.ImageCheck.{valid-header, valid-room}
 use Rattle.machine.specs.Lent.{Settled}
 use Rattle.machine.proofs.AreaTests.{is-not, is-so}
@@ -103,6 +105,7 @@ turn-at c =
     let all-below = else .before in
     let start = all-below .before .before .before .before .before .before in
     record {
+      in-range = ranges (read (start .args .image .now)) (valid-in-range (start .args .image .now) (start .pre .0));
       table = start .pre .1 .0;
       row-first = rw (word .word .ensures);
       row-width = word2 .word2 .ensures;

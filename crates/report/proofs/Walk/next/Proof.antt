@@ -35,7 +35,7 @@ returns c =
     let within = within2 .before in
     let start = within .before .before in
     let image = first-part (start .args .self .image) 1284 (start .args .image .now) (images .images .given .0) in
-    let table = first-part (start .args .self .table) 16931 (start .args .table .now) (tables .tables .given .0) in
+    let table = first-part (start .args .self .table) 16964 (start .args .table .now) (tables .tables .given .0) in
     (rw (← image, ← table, ← within .within .ensures, ← within2 .within2 .ensures) (c .turn .ensures .0), c .turn .ensures .1)
 
 pub next-spec : {M : Type 1} → statement M
