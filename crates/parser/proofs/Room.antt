@@ -41,7 +41,7 @@ module _ {r : Reader} (h : Held r) where
   pub word-room : 25 * r .words ≤ 400
   word-room = omega (arith, words-number (h .reading) (h .numbers), h .sound .few-words)
 
-  -- the kind of a verdict is one more
+  -- one more, for a verdict, is a byte
   pub kind-room : r .kind ≤ 3
   kind-room =
       let rule = ruleAt (h .reading .place) in

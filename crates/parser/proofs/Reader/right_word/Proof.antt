@@ -52,7 +52,8 @@ returns-3 c =
     λ a z d told s sound k.
     let w = place-at _ (s .place) (sym (place-number s (k .numbers)) ∙ told) in word-17 k (w .0) (w .1) (w .2) (w .3) (start .args .x .now) sound (q .1 .0)
     (if1 .if1 .left) (sym (is-same .is-same .ensures) ∙ if2 .if2 .left) _ _
-    (number-of .number-of .ensures 16 (s .words) (k .word-slots) (words-number s (k .numbers)) (sound .few-words) (sound .words-named) (q .1 .0)) (c .if3 .taken)
+    (number-of .number-of .ensures 16 (s .words) (k .word-slots) (words-number s (k .numbers)) (sound .few-words) (sound .words-named) (q .1 .0))
+    (c .if3 .taken)
 
 cast-next : tie.Need-cast-next
 cast-next c = search needs

@@ -4,7 +4,7 @@ use mathlib.Core.Path.{refl}
 use native.Mathlib.Omega.{arith}
 use borrow.Author.Needs.{needs}
 use Rattle.parser.proofs.Places.{word-elsewhere}
-use Rattle.parser.proofs.Room.{kind-room, word-room}
+use Rattle.parser.proofs.Room.{word-room, kind-room}
 use Rattle.parser.proofs.Keeping.{place-number}
 use Rattle.parser.proofs.Reader.word.Statement.{statement}
 use Rattle.parser.proofs.Reader.word.Tie as tie
