@@ -1,6 +1,6 @@
 -- What the code keeps of a reading (`Keeps`), token by token.
 -- Assumes nothing.
-use Prim.Native.Nat.{ℕ, suc, _+_, _*_, _≤_, _<_}
+use Prim.Native.Nat.{ℕ, suc, _+_, _*_, _/_, _%_, _≤_, _<_}
 use mathlib.Core.Path.{_≡_, refl, sym, ap, _∙_}
 use mathlib.Core.Bool.{Bool, true}
 use mathlib.Core.List.{List, [], _∷_, _++_, append-assoc, append-nil, flatMap}
@@ -11,7 +11,7 @@ use Rattle.rewriting.specs.Lists.{prefix}
 use Rattle.rewriting.specs.Rules.{Close, symbolsOf, Rule}
 use Rattle.rewriting.proofs.Lists.{prefix-rest, prefix-append, flatMap-snoc}
 use Rattle.layout.specs.Image.{kind, lengthOrVerdict, markByte, contents, body}
-use Rattle.layout.proofs.Image.{length-contents}
+use Rattle.layout.proofs.Image.{mark-small, kind-right, length-contents}
 use Rattle.parser.specs.declared.Place.the-variants as places
 use Rattle.parser.specs.declared.Reader.{Reader}
 use Rattle.grammar.specs.Names.{Numbered, slots}
@@ -25,8 +25,9 @@ use Rattle.grammar.specs.Grammar.{
   Ending,
   Reading,
   placed,
+  ruleWith,
 }
-use Rattle.parser.specs.Held.{ruleAt, placeOf, leftOf, sideOf, bodiesOf, readerOf, Keeps, Lengthens, Closed}
+use Rattle.parser.specs.Held.{ruleAt, placeOf, leftOf, sideOf, kindWithMark, bodiesOf, readerOf, Keeps, Lengthens, Closed}
 
 -- what an area begins with
 pub prefix-take : (p b : List ℕ) (n : ℕ) → n ≡ length p → prefix p b ≡ true → take n b ≡ p
@@ -45,6 +46,13 @@ sets-four b n w x y z =
     let two : n + 2 ≡ suc (suc n) = omega arith in
     let three : n + 3 ≡ suc (suc (suc n)) = omega arith in
     rw (one, two, three) refl
+
+-- the kind and the mark of a rule, of the number that has both
+kind-of-both : (x : Rule) → kindWithMark x % 2 ≡ kind (x .right)
+kind-of-both x = omega (arith, kind-right (x .right), mark-small (x .marked))
+
+mark-of-both : (x : Rule) → kindWithMark x / 2 ≡ markByte (x .marked)
+mark-of-both x = omega (arith, kind-right (x .right), mark-small (x .marked))
 
 -- The numbers, one by one.
 module _ (s : Reading) {r : Reader} (e : r ≡ readerOf s) where
@@ -80,13 +88,9 @@ module _ (s : Reading) {r : Reader} (e : r ≡ readerOf s) where
   unfolding readerOf
   side-number = ap (λ (x : Reader). x .side) e
 
-  pub kind-number : r .kind ≡ kind (ruleAt (s .place) .right)
+  pub kind-number : r .kind ≡ kindWithMark (ruleAt (s .place))
   unfolding readerOf
   kind-number = ap (λ (x : Reader). x .kind) e
-
-  pub mark-number : r .mark ≡ markByte (ruleAt (s .place) .marked)
-  unfolding readerOf
-  mark-number = ap (λ (x : Reader). x .mark) e
 
 -- Those of the rule begun, where the place is p.
 module _ (s : Reading) {r : Reader} (e : r ≡ readerOf s) {p : Place} (here : s .place ≡ p) where
@@ -99,18 +103,14 @@ module _ (s : Reading) {r : Reader} (e : r ≡ readerOf s) {p : Place} (here : s
   pub side-at : r .side ≡ sideOf p
   side-at = side-number s e ∙ ap sideOf here
 
-  pub kind-at : r .kind ≡ kind (ruleAt p .right)
-  kind-at = kind-number s e ∙ ap (λ (q : Place). kind (ruleAt q .right)) here
-
-  pub mark-at : r .mark ≡ markByte (ruleAt p .marked)
-  mark-at = mark-number s e ∙ ap (λ (q : Place). markByte (ruleAt q .marked)) here
+  pub kind-at : r .kind ≡ kindWithMark (ruleAt p)
+  kind-at = kind-number s e ∙ ap (λ (q : Place). kindWithMark (ruleAt q)) here
 
 -- the rule begun is the same at both places
 pub record Alike (p q : Place) : Type 0 where
   pub left : leftOf p ≡ leftOf q
   pub side : sideOf p ≡ sideOf q
-  pub kinds : kind (ruleAt p .right) ≡ kind (ruleAt q .right)
-  pub marks : ruleAt p .marked ≡ ruleAt q .marked
+  pub kinds : kindWithMark (ruleAt p) ≡ kindWithMark (ruleAt q)
   pub bodies : body (ruleAt p) ≡ body (ruleAt q)
 
 module _ {s : Reading} {r : Reader} {a b c d : List ℕ} (k : Keeps s r a b c d) where
@@ -128,7 +128,6 @@ module _ {s : Reading} {r : Reader} {a b c d : List ℕ} (k : Keeps s r a b c d)
         left = r .left;
         side = r .side;
         kind = r .kind;
-        mark = r .mark;
       }) a b c d
   unfolding placed readerOf
   keeps-placed q h =
@@ -146,7 +145,6 @@ module _ {s : Reading} {r : Reader} {a b c d : List ℕ} (k : Keeps s r a b c d)
               left = (left-number s (k .numbers) ∙ h .left) i;
               side = (side-number s (k .numbers) ∙ h .side) i;
               kind = (kind-number s (k .numbers) ∙ h .kinds) i;
-              mark = (mark-number s (k .numbers) ∙ ap markByte (h .marks)) i;
             };
         symbol-slots = k .symbol-slots;
         word-slots = k .word-slots;
@@ -179,7 +177,6 @@ module _ {s : Reading} {r : Reader} {a b c d : List ℕ} (k : Keeps s r a b c d)
         left = r .left;
         side = r .side + 1;
         kind = r .kind;
-        mark = r .mark;
       }) area b c (set d (r .bodies) number)
   unfolding readerOf
   keeps-longer {side} {to} {q} n number count area h at-number at-count at-area room =
@@ -205,7 +202,6 @@ module _ {s : Reading} {r : Reader} {a b c d : List ℕ} (k : Keeps s r a b c d)
               left = (left-number s (k .numbers) ∙ sym (h .left x)) i;
               side = side-size i;
               kind = (kind-number s (k .numbers) ∙ sym (h .kept x)) i;
-              mark = (mark-number s (k .numbers) ∙ ap markByte (sym (h .same-mark x))) i;
             };
         symbol-slots = at-area;
         word-slots = k .word-slots;
@@ -232,7 +228,6 @@ module _ {s : Reading} {r : Reader} {a b c d : List ℕ} (k : Keeps s r a b c d)
         left = r .left;
         side = r .side;
         kind = r .kind;
-        mark = r .mark;
       }) area b c d
   unfolding readerOf
   keeps-event n count area here at-count at-area =
@@ -249,7 +244,6 @@ module _ {s : Reading} {r : Reader} {a b c d : List ℕ} (k : Keeps s r a b c d)
               left = left-at s (k .numbers) here i;
               side = side-at s (k .numbers) here i;
               kind = kind-at s (k .numbers) here i;
-              mark = mark-at s (k .numbers) here i;
             };
         symbol-slots = at-area;
         word-slots = k .word-slots;
@@ -273,7 +267,6 @@ module _ {s : Reading} {r : Reader} {a b c d : List ℕ} (k : Keeps s r a b c d)
         left = r .side;
         side = 0;
         kind = r .kind;
-        mark = r .mark;
       }) a b c d
   unfolding placed readerOf placeOf leftOf sideOf ruleAt
   keeps-arrow m l here =
@@ -290,7 +283,6 @@ module _ {s : Reading} {r : Reader} {a b c d : List ℕ} (k : Keeps s r a b c d)
               left = side-at s (k .numbers) here i;
               side = 0;
               kind = kind-at s (k .numbers) here i;
-              mark = mark-at s (k .numbers) here i;
             };
         symbol-slots = k .symbol-slots;
         word-slots = k .word-slots;
@@ -313,10 +305,9 @@ module _ {s : Reading} {r : Reader} {a b c d : List ℕ} (k : Keeps s r a b c d)
         bodies = r .bodies;
         left = r .left;
         side = r .side;
-        kind = r .kind;
-        mark = 1;
+        kind = 2;
       }) a b c d
-  unfolding placed readerOf placeOf leftOf sideOf ruleAt markByte body
+  unfolding placed readerOf placeOf leftOf sideOf ruleAt kind markByte body
   keeps-mark here =
       record {
         numbers =
@@ -330,8 +321,7 @@ module _ {s : Reading} {r : Reader} {a b c d : List ℕ} (k : Keeps s r a b c d)
               bodies = bodies-at s (k .numbers) here i;
               left = left-at s (k .numbers) here i;
               side = side-at s (k .numbers) here i;
-              kind = kind-at s (k .numbers) here i;
-              mark = 1;
+              kind = 2;
             };
         symbol-slots = k .symbol-slots;
         word-slots = k .word-slots;
@@ -362,11 +352,11 @@ module _ {s : Reading} {r : Reader} {a b c d : List ℕ} (k : Keeps s r a b c d)
         bodies = r .bodies;
         left = r .left;
         side = number;
-        kind = 1;
-        mark = r .mark;
+        kind = r .kind + 1;
       }) a area c d
   unfolding readerOf placeOf leftOf sideOf ruleAt kind lengthOrVerdict body symbolsOf
   keeps-verdict m l n number count area here at-number at-count at-area =
+      let kinds : r .kind + 1 ≡ kindWithMark (ruleWith m l (Close (n .number))) = omega (arith, kind-at s (k .numbers) here) in
       record {
         numbers =
             λ i.
@@ -379,8 +369,7 @@ module _ {s : Reading} {r : Reader} {a b c d : List ℕ} (k : Keeps s r a b c d)
               bodies = bodies-at s (k .numbers) here i;
               left = left-at s (k .numbers) here i;
               side = at-number i;
-              kind = 1;
-              mark = mark-at s (k .numbers) here i;
+              kind = kinds i;
             };
         symbol-slots = k .symbol-slots;
         word-slots = at-area;
@@ -411,7 +400,6 @@ module _ {s : Reading} {r : Reader} {a b c d : List ℕ} (k : Keeps s r a b c d)
         left = r .left;
         side = r .side;
         kind = r .kind;
-        mark = r .mark;
       }) a b c d
   unfolding readerOf placeOf leftOf sideOf ruleAt
   keeps-events here =
@@ -428,7 +416,6 @@ module _ {s : Reading} {r : Reader} {a b c d : List ℕ} (k : Keeps s r a b c d)
               left = left-at s (k .numbers) here i;
               side = side-at s (k .numbers) here i;
               kind = kind-at s (k .numbers) here i;
-              mark = mark-at s (k .numbers) here i;
             };
         symbol-slots = k .symbol-slots;
         word-slots = k .word-slots;
@@ -459,9 +446,8 @@ module _ {s : Reading} {r : Reader} {a b c d : List ℕ} (k : Keeps s r a b c d)
         left = 0;
         side = 0;
         kind = 0;
-        mark = 0;
       }) a b
-      (sets c (4 * r .rules) (r .left ∷ r .kind ∷ r .side ∷ r .mark ∷ [])) d
+      (sets c (4 * r .rules) (r .left ∷ r .kind % 2 ∷ r .side ∷ r .kind / 2 ∷ [])) d
   unfolding readerOf placeOf leftOf sideOf kind markByte ruleAt contents body symbolsOf
   keeps-rule h room =
       let old : List Rule = s .rules in
@@ -470,11 +456,11 @@ module _ {s : Reading} {r : Reader} {a b c d : List ℕ} (k : Keeps s r a b c d)
       sym (append-nil (flatMap body (old ++ new ∷ [])) ∙ flatMap-snoc body old new)
       in
       let size : r .rules + 1 ≡ length (old ++ new ∷ []) = rw length-append (omega (arith, rules-number s (k .numbers))) in
-      let written : r .left ∷ r .kind ∷ r .side ∷ r .mark ∷ [] ≡ contents new =
+      let written : r .left ∷ r .kind % 2 ∷ r .side ∷ r .kind / 2 ∷ [] ≡ contents new =
       let left : r .left ≡ length (new .left) = left-number s (k .numbers) ∙ h .left in
-      let kinds : r .kind ≡ kind (new .right) = kind-number s (k .numbers) in
+      let kinds : r .kind % 2 ≡ kind (new .right) = ap (λ (n : ℕ). n % 2) (kind-number s (k .numbers)) ∙ kind-of-both new in
       let right : r .side ≡ lengthOrVerdict (new .right) = side-number s (k .numbers) ∙ h .right in
-      let mark : r .mark ≡ markByte (new .marked) = mark-number s (k .numbers) in
+      let mark : r .kind / 2 ≡ markByte (new .marked) = ap (λ (n : ℕ). n / 2) (kind-number s (k .numbers)) ∙ mark-of-both new in
       cc
       in
       let at : 4 * r .rules ≡ length (flatMap contents old) = omega (arith, rules-number s (k .numbers), length-contents old) in
@@ -491,7 +477,6 @@ module _ {s : Reading} {r : Reader} {a b c d : List ℕ} (k : Keeps s r a b c d)
               left = 0;
               side = 0;
               kind = 0;
-              mark = 0;
             };
         symbol-slots = k .symbol-slots;
         word-slots = k .word-slots;
@@ -500,7 +485,7 @@ module _ {s : Reading} {r : Reader} {a b c d : List ℕ} (k : Keeps s r a b c d)
             ∙ ap (λ (n : ℕ). prefix (flatMap contents (old ++ new ∷ [])) (sets c n (contents new))) at
             ∙ ap (λ (l : List ℕ). prefix l (sets c (length (flatMap contents old)) (contents new))) (flatMap-snoc contents old new)
             ∙ prefix-sets (flatMap contents old) (contents new) c (k .contents-begin) (omega arith);
-        contents-size = length-sets c (4 * r .rules) (r .left ∷ r .kind ∷ r .side ∷ r .mark ∷ []) ∙ k .contents-size;
+        contents-size = length-sets c (4 * r .rules) (r .left ∷ r .kind % 2 ∷ r .side ∷ r .kind / 2 ∷ []) ∙ k .contents-size;
         bodies-begin = rw (← all-bodies) (k .bodies-begin);
         bodies-size = k .bodies-size;
       }

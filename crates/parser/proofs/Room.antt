@@ -9,7 +9,7 @@ use lib.ListN.{length, length-append}
 use Rattle.rewriting.specs.Rules.{Put, symbolsOf}
 use Rattle.rewriting.proofs.Ranges.{RuleRanges, rule-ranges}
 use Rattle.layout.specs.Image.{body}
-use Rattle.layout.proofs.Image.{length-bodies}
+use Rattle.layout.proofs.Image.{mark-small, kind-right, length-bodies}
 use Rattle.parser.specs.declared.Place.the-variants as places
 use Rattle.parser.specs.declared.Reader.{Reader}
 use Rattle.grammar.specs.Grammar.{Place, Between, Marked, Reading, ruleWith, ruleSetOf}
@@ -22,6 +22,7 @@ use Rattle.parser.proofs.Keeping.{
   symbols-number,
   words-number,
   rules-number,
+  kind-number,
   bodies-at,
   side-at,
 }
@@ -39,6 +40,12 @@ module _ {r : Reader} (h : Held r) where
 
   pub word-room : 25 * r .words ≤ 400
   word-room = omega (arith, words-number (h .reading) (h .numbers), h .sound .few-words)
+
+  -- one more, for a verdict, is a byte
+  pub kind-room : r .kind ≤ 3
+  kind-room =
+      let rule = ruleAt (h .reading .place) in
+      omega (arith, kind-number (h .reading) (h .numbers), kind-right (rule .right), mark-small (rule .marked))
 
   -- a symbol more, of whichever side
   begun-room : (p : Place) → h .reading .place ≡ p → body (ruleAt p) ≡ [] → r .rules < 64 → r .bodies < 1024

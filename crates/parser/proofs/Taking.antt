@@ -137,13 +137,12 @@ module _ {s : Reading} {r : Reader} {a b c d : List ℕ} (k : Keeps s r a b c d)
         left = r .left;
         side = r .side;
         kind = r .kind;
-        mark = r .mark;
       })) a b c d
   unfolding name placed placeOf leftOf sideOf ruleAt
   first-events x here e =
       rw (here, e)
       (keeps-placed k Events
-      (rw here (record { left = refl; side = refl; kinds = refl; marks = refl; bodies = refl })))
+      (rw here (record { left = refl; side = refl; kinds = refl; bodies = refl })))
 
   pub first-other : (x : List ℕ) → s .place ≡ First → same x eventsWord ≡ false
       → TakenIs (name s x (s .place)) (taken.Breaks 4) a b c d
@@ -180,7 +179,6 @@ module _ {s : Reading} {r : Reader} {a b c d : List ℕ} (k : Keeps s r a b c d)
           left = r .left;
           side = r .side;
           kind = r .kind;
-          mark = r .mark;
         })) area b c d
     unfolding name event symbol withSymbol
     event-new high low =
@@ -216,7 +214,6 @@ module _ {s : Reading} {r : Reader} {a b c d : List ℕ} (k : Keeps s r a b c d)
             left = r .left;
             side = r .side + 1;
             kind = r .kind;
-            mark = r .mark;
           })) area b c (set d (r .bodies) (n .number))
       unfolding sideSymbol symbol withSymbol
       side-longer low inside =
@@ -290,13 +287,12 @@ module _ {s : Reading} {r : Reader} {a b c d : List ℕ} (k : Keeps s r a b c d)
             left = r .left;
             side = r .side;
             kind = r .kind;
-            mark = r .mark;
           })) a b c d
       unfolding word rightWord placed placeOf leftOf sideOf ruleAt lengthOrVerdict
       word-epsilon none-yet e =
           rw (empty-side none-yet, e)
           (keeps-placed k (Ending m l (Put []))
-          (rw (empty-side none-yet) (record { left = refl; side = refl; kinds = refl; marks = refl; bodies = refl })))
+          (rw (empty-side none-yet) (record { left = refl; side = refl; kinds = refl; bodies = refl })))
 
       module _ (sound : Sound s) (named : isName x ≡ true) (none-yet : r .side ≡ 0) (other : same x epsilonWord ≡ false)
           (n : numbered-as.Numbered) (area : List ℕ) (is : NumberedIs 16 (s .words) (numbered 16 (s .words) x) n area) where
@@ -317,8 +313,7 @@ module _ {s : Reading} {r : Reader} {a b c d : List ℕ} (k : Keeps s r a b c d)
               bodies = r .bodies;
               left = r .left;
               side = n .number;
-              kind = 1;
-              mark = r .mark;
+              kind = r .kind + 1;
             })) a area c d
         unfolding word rightWord withVerdict
         word-verdict low =
@@ -340,7 +335,6 @@ module _ {s : Reading} {r : Reader} {a b c d : List ℕ} (k : Keeps s r a b c d)
         left = r .side;
         side = 0;
         kind = r .kind;
-        mark = r .mark;
       })) a b c d
   unfolding arrow placed
   arrow-left m l here = rw here (keeps-arrow k m l here)
@@ -358,8 +352,7 @@ module _ {s : Reading} {r : Reader} {a b c d : List ℕ} (k : Keeps s r a b c d)
         bodies = r .bodies;
         left = r .left;
         side = r .side;
-        kind = r .kind;
-        mark = 1;
+        kind = 2;
       })) a b c d
   unfolding mark placed
   mark-between here = rw here (keeps-mark k here)
@@ -386,7 +379,6 @@ module _ {s : Reading} {r : Reader} {a b c d : List ℕ} (k : Keeps s r a b c d)
         left = r .left;
         side = r .side;
         kind = r .kind;
-        mark = r .mark;
       })) a b c d
   unfolding stop closeEvents
   some-events here some-yet = rw (ap (stop s) here) (go (s .symbols) (λ e. some-yet (symbols-number s (k .numbers) ∙ e)))
@@ -404,7 +396,6 @@ module _ {s : Reading} {r : Reader} {a b c d : List ℕ} (k : Keeps s r a b c d)
             left = r .left;
             side = r .side;
             kind = r .kind;
-            mark = r .mark;
           })) a b c d
       go [] e = absurd (e refl)
       go (y ∷ names) e = keeps-events k here
@@ -420,7 +411,6 @@ first-left p e =
       left = λ x. refl;
       longer = λ x. refl;
       kept = λ x. refl;
-      same-mark = λ x. refl;
       more = λ x. refl;
       called = λ x. refl;
     })
@@ -434,7 +424,6 @@ marked-left p e =
       left = λ x. refl;
       longer = λ x. refl;
       kept = λ x. refl;
-      same-mark = λ x. refl;
       more = λ x. refl;
       called = λ x. refl;
     })
@@ -448,7 +437,6 @@ next-left p m l e =
       left = λ x. refl;
       longer = λ x. length-append l (x ∷ []);
       kept = λ x. refl;
-      same-mark = λ x. refl;
       more = λ x. append-nil (l ++ x ∷ []) ∙ ap (λ (v : List ℕ). v ++ x ∷ []) (sym (append-nil l));
       called = λ x. refl;
     })
@@ -462,7 +450,6 @@ next-right p m l v e =
       left = λ x. refl;
       longer = λ x. length-append v (x ∷ []);
       kept = λ x. refl;
-      same-mark = λ x. refl;
       more = λ x. sym (append-assoc l v (x ∷ []));
       called = λ x. refl;
     })

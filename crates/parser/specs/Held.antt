@@ -80,6 +80,10 @@ sideOf (InLeft m l) = length l
 sideOf (InRight m l v) = length v
 sideOf (Ending m l r) = lengthOrVerdict r
 
+-- the kind of a rule, and 2 more where it has the mark
+abbrev pub kindWithMark : Rule → ℕ
+kindWithMark r = kind (r .right) + 2 * markByte (r .marked)
+
 -- the bodies of the rules, and of the one begun
 abbrev pub bodiesOf : Reading → List ℕ
 bodiesOf s = flatMap body (s .rules) ++ body (ruleAt (s .place))
@@ -96,7 +100,7 @@ readerOf s =
       bodies = length (bodiesOf s);
       left = leftOf (s .place);
       side = sideOf (s .place);
-      kind = kind (ruleAt (s .place) .right) + 2 * markByte (ruleAt (s .place) .marked);
+      kind = kindWithMark (ruleAt (s .place));
     }
 
 -- The code keeps the reading s: its numbers, the slots of symbols and of words, contents and bodies.
@@ -133,8 +137,7 @@ pub record Lengthens (p : Place) (side : List ℕ) (to : List ℕ → Place) (q 
   pub size : sideOf p ≡ length side
   pub left : (a : ℕ) → leftOf (to (side ++ a ∷ [])) ≡ leftOf p
   pub longer : (a : ℕ) → sideOf (to (side ++ a ∷ [])) ≡ length side + 1
-  pub kept : (a : ℕ) → kind (ruleAt (to (side ++ a ∷ [])) .right) ≡ kind (ruleAt p .right)
-  pub same-mark : (a : ℕ) → ruleAt (to (side ++ a ∷ [])) .marked ≡ ruleAt p .marked
+  pub kept : (a : ℕ) → kindWithMark (ruleAt (to (side ++ a ∷ []))) ≡ kindWithMark (ruleAt p)
   pub more : (a : ℕ) → body (ruleAt (to (side ++ a ∷ []))) ≡ body (ruleAt p) ++ a ∷ []
   pub called : (a : ℕ) → placeOf (to (side ++ a ∷ [])) ≡ q
 

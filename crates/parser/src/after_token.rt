@@ -143,6 +143,7 @@ impl Reader {
     fn right_word(self, x: &[u8], words: &mut [u8]) -> Taken
         requires slots { ⌜ slotSize * self .words ≤ length (now words) ⌝ }
         requires named { ⌜ isName (now x) ≡ true ⌝ }
+        requires kinds { ⌜ self .kind ≤ 3 ⌝ }
         ensures { λ r. ⌜ ((a c d : List ℕ) → self .place ≡ Place.Right
             → Takes (λ s. word s (now (x .entry)) (s .place)) self a (now (words .entry)) c d r a (now (words .exit)) c d) ⌝ }
     {

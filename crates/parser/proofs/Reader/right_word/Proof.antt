@@ -36,7 +36,7 @@ number-of-requires : tie.Need-number-of-requires
 number-of-requires c κs =
     let start = c .before .before .before .before .before .before .before .before .before in
     let q = start .pre in
-    (q .0, name-short _ (q .1))
+    (q .0, name-short _ (q .1 .0))
 
 same-length : tie.Need-same-length
 same-length c = search needs
@@ -50,19 +50,23 @@ returns-3 c =
     let start = if1 .before .before .before .before in
     let q = start .pre in
     λ a z d told s sound k.
-    let w = place-at _ (s .place) (sym (place-number s (k .numbers)) ∙ told) in word-17 k (w .0) (w .1) (w .2) (w .3) (start .args .x .now) sound (q .1)
+    let w = place-at _ (s .place) (sym (place-number s (k .numbers)) ∙ told) in word-17 k (w .0) (w .1) (w .2) (w .3) (start .args .x .now) sound (q .1 .0)
     (if1 .if1 .left) (sym (is-same .is-same .ensures) ∙ if2 .if2 .left) _ _
-    (number-of .number-of .ensures 16 (s .words) (k .word-slots) (words-number s (k .numbers)) (sound .few-words) (sound .words-named) (q .1)) (c .if3 .taken)
+    (number-of .number-of .ensures 16 (s .words) (k .word-slots) (words-number s (k .numbers)) (sound .few-words) (sound .words-named) (q .1 .0))
+    (c .if3 .taken)
 
 cast-next : tie.Need-cast-next
 cast-next c = search needs
+
+add-next : tie.Need-add-next
+add-next c = search needs
 
 same-length-2 : tie.Need-same-length-2
 same-length-2 c = search needs
 
 returns-4 : tie.Need-returns-4
 returns-4 c =
-    let number-of = c .before .before .before .before .before in
+    let number-of = c .before .before .before .before .before .before in
     let if2 = number-of .before .before in
     let is-same = if2 .before in
     let at = is-same .before .before in
@@ -71,9 +75,9 @@ returns-4 c =
     let q = start .pre in
     λ a z d told s sound k.
     let w = place-at _ (s .place) (sym (place-number s (k .numbers)) ∙ told) in rw (at .at .ensures)
-    (word-verdict k (w .0) (w .1) (w .2) (w .3) (start .args .x .now) sound (q .1) (if1 .if1 .left) (sym (is-same .is-same .ensures) ∙ if2 .if2 .left) _ _
-    (number-of .number-of .ensures 16 (s .words) (k .word-slots) (words-number s (k .numbers)) (sound .few-words) (sound .words-named) (q .1))
-    (c .before .if3 .left))
+    (word-verdict k (w .0) (w .1) (w .2) (w .3) (start .args .x .now) sound (q .1 .0) (if1 .if1 .left) (sym (is-same .is-same .ensures) ∙ if2 .if2 .left) _ _
+    (number-of .number-of .ensures 16 (s .words) (k .word-slots) (words-number s (k .numbers)) (sound .few-words) (sound .words-named) (q .1 .0))
+    (c .before .before .if3 .left))
 
 pub right-word-spec : {M : Type 1} → statement M
 right-word-spec =
@@ -88,5 +92,6 @@ right-word-spec =
     same-length
     returns-3
     cast-next
+    add-next
     same-length-2
     returns-4)

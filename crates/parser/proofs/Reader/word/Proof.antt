@@ -4,7 +4,7 @@ use mathlib.Core.Path.{refl}
 use native.Mathlib.Omega.{arith}
 use borrow.Author.Needs.{needs}
 use Rattle.parser.proofs.Places.{word-elsewhere}
-use Rattle.parser.proofs.Room.{word-room}
+use Rattle.parser.proofs.Room.{word-room, kind-room}
 use Rattle.parser.proofs.Keeping.{place-number}
 use Rattle.parser.proofs.Reader.word.Statement.{statement}
 use Rattle.parser.proofs.Reader.word.Tie as tie
@@ -15,7 +15,7 @@ enum-told c = search needs
 right-word-requires : tie.Need-right-word-requires
 right-word-requires c κs =
     let q = c .before .before .before .before .before .pre in
-    (omega (arith, word-room (q .0), q .1 .0), q .1 .1)
+    (omega (arith, word-room (q .0), q .1 .0), (q .1 .1, kind-room (q .0)))
 
 same-length : tie.Need-same-length
 same-length c = search needs
