@@ -1,6 +1,6 @@
 -- Whether a rule is marked, looked for rule by rule, and the number of the root that follows.
 -- Assumes nothing.
-use Prim.Native.Nat.{ℕ, zero, suc, _+_}
+use Prim.Native.Nat.{ℕ, zero, suc, _+_, _≤_, _<_}
 use mathlib.Core.Path.{_≡_, refl}
 use mathlib.Core.Bool.{Bool, true, false, _||_}
 use mathlib.Core.List.{List, [], _∷_}
@@ -8,8 +8,20 @@ use native.Mathlib.Numerals.{add-one}
 use native.Mathlib.Omega.{arith}
 use lib.ListN.{take}
 use Rattle.rewriting.specs.Rules.{Rule, rule}
+use Rattle.layout.specs.Image.{markByte}
 use Rattle.layout.specs.States.{hasMark}
 use Rattle.layout.specs.Words.{root}
+
+-- a mark by its byte
+pub mark-some : (m : Bool) → 0 < markByte m → m ≡ true
+unfolding markByte
+mark-some true h = refl
+mark-some false h = absurd (omega arith)
+
+pub mark-none : (m : Bool) → markByte m ≤ 0 → m ≡ false
+unfolding markByte
+mark-none true h = absurd (omega arith)
+mark-none false h = refl
 
 -- no rule
 pub no-mark : hasMark [] ≡ false
@@ -35,7 +47,7 @@ pub no-mark-yet :
 no-mark-yet rs i e u = rw add-one (no-mark-next rs i e u)
 
 -- rule i is marked
-mark-here : (rs : List Rule) (i : ℕ) → rule rs i .marked ≡ true → hasMark rs ≡ true
+pub mark-here : (rs : List Rule) (i : ℕ) → rule rs i .marked ≡ true → hasMark rs ≡ true
 unfolding hasMark rule
 mark-here [] i e = let z : _≡_ {A = ℕ} 0 1 = cc in absurd (omega arith)
 mark-here (r ∷ rs) zero e = rw e

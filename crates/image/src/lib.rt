@@ -7,7 +7,7 @@ ghost use lib.ListN.{length, drop};
 ghost use Rattle.rewriting.specs.Lists.{below};
 ghost use Rattle.rewriting.specs.Rules.{rule};
 ghost use Rattle.layout.specs.ImageCheck.{Decides, Header, bodySize, firstSize, announced};
-ghost use Rattle.layout.specs.Image.{body, read, valid};
+ghost use Rattle.layout.specs.Image.{markByte, body, read, valid};
 ghost use Rattle.layout.specs.Places.{rightSideOf};
 ghost use Rattle.layout.specs.Words.{root};
 use layout::RightSide;
@@ -176,13 +176,13 @@ pub fn left_length(image: &[u8], i: usize) -> usize
     wide::byte(image[4 + 4 * i])
 }
 
-// Whether rule i has the mark.
-pub fn is_marked(image: &[u8], i: usize) -> bool
+// The mark of rule i: 1, or 0 where it has none.
+pub fn mark(image: &[u8], i: usize) -> usize
     requires { ⌜ valid (now image) ≡ true ⌝ }
     requires { ⌜ i < length (read (now image) .rules) ⌝ }
-    ensures { λ r. ⌜ r ≡ rule (read (now (image .entry)) .rules) i .marked ⌝ }
+    ensures { λ r. ⌜ r ≡ markByte (rule (read (now (image .entry)) .rules) i .marked) ⌝ }
 {
-    image[7 + 4 * i] == 1
+    wide::byte(image[7 + 4 * i])
 }
 
 // The number of the empty string's state: 1 where a rule has the mark, else 0.
@@ -191,7 +191,7 @@ pub fn root(image: &[u8]) -> usize
     ensures { λ r. ⌜ r ≡ root (read (now (image .entry)) .rules) ⌝ }
 {
     for i in 0..rules(image) {
-        if is_marked(image, i) {
+        if 0 < mark(image, i) {
             return 1;
         }
     }

@@ -14,7 +14,7 @@ use Rattle.rewriting.proofs.Lists.{getD-flatMap}
 use Rattle.layout.specs.Image.{kind, lengthOrVerdict, markByte, contents, body, imageOf, read, valid}
 use Rattle.layout.specs.Places.{leftAt, rightAt, rightSideOf}
 use Rattle.layout.specs.declared.RightSide.{RightSide}
-use Rattle.layout.proofs.Image.{read-mark, valid-encoding, length-contents, length-image, drop-image}
+use Rattle.layout.proofs.Image.{valid-encoding, length-contents, length-image, drop-image}
 
 -- the bodies before rule i, one more, and those behind
 bodies-next :
@@ -171,10 +171,6 @@ module _ (b : List ℕ) (e : valid b ≡ true) (i : ℕ) (h : i < length (read b
   contents-mark =
       let n : 7 + 4 * i ≡ 4 + (i * 4 + 3) = omega arith in
       ap (λ (m : ℕ). getD b m 0) n ∙ contents-byte b e i 3 h (omega arith)
-
-  -- so that it is 1 exactly where the rule is marked
-  pub marked-byte : eqb (getD b (7 + 4 * i) 0) 1 ≡ rule (read b .rules) i .marked
-  marked-byte = ap (λ (m : ℕ). eqb m 1) contents-mark ∙ read-mark (rule (read b .rules) i .marked)
 
 -- Byte 1 is the number of rules; the other three are read as they stand.
 pub header-rules : (b : List ℕ) → valid b ≡ true → getD b 1 0 ≡ length (read b .rules)

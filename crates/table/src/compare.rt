@@ -10,8 +10,9 @@ ghost use Rattle.layout.specs.ImageCheck.{Decides};
 ghost use Rattle.rewriting.specs.Lists.{prefix};
 ghost use Rattle.layout.specs.Table.{tableOf};
 ghost use Rattle.trie.specs.Nodes.{childrenAt, failureAt, symbolAt, parent, symbol, matched, failure, Built};
+ghost use Rattle.layout.specs.Words as Words;
 ghost use Rattle.layout.specs.Words.{transition, ownOr};
-ghost use Rattle.table.specs.Consistent.{differing, leaving, Passes, RootPassed, RightTable};
+ghost use Rattle.table.specs.Consistent.{differing, leaving, Passes, RootPassed, MarkPassed, RightTable};
 use image::wide;
 use trie::CHILDREN;
 use trie::FAILURE;
@@ -39,12 +40,15 @@ fn differences(rows: &[u16], s: usize, q: usize, f: usize) -> u16
 // How many words of the root's row lead away from it.
 fn transitions(rows: &[u16], s: usize, root: usize) -> u16
     requires few { ⌜ s ≤ 32 ⌝ }
-    requires row { ⌜ s ≤ length (now rows) ⌝ }
-    ensures { λ r. ⌜ r ≡ leaving (now (rows .entry)) s ⌝ }
+    requires low { ⌜ root ≤ 1 ⌝ }
+    requires row { ⌜ root * s + s ≤ length (now rows) ⌝ }
+    ensures { λ r. ⌜ r ≡ leaving (now (rows .entry)) s root ⌝ }
 {
+    let first = root * s;
+    let own = root as u16;
     let mut n: u16 = 0;
     for a in 0..s {
-        if wide::word(rows[root * s + a]) != root {
+        if rows[first + a] != own {
             n += 1;
         }
     }
@@ -79,10 +83,11 @@ fn inherited(trie: &[u16], matches: &[u16], q: usize) -> u16
 // The tests of the root.
 fn root_holds(trie: &[u16], matches: &[u16], rows: &[u16], s: usize, root: usize) -> bool
     requires few { ⌜ s ≤ 32 ⌝ }
-    requires node { ⌜ childrenAt 0 < length (now trie) ⌝ }
-    requires word { ⌜ 0 < length (now matches) ⌝ }
-    requires row { ⌜ s ≤ length (now rows) ⌝ }
-    ensures { λ r. ⌜ Decides r (RootPassed (now (trie .entry)) (now (matches .entry)) (now (rows .entry)) s) ⌝ }
+    requires low { ⌜ root ≤ 1 ⌝ }
+    requires node { ⌜ childrenAt root < length (now trie) ⌝ }
+    requires word { ⌜ root < length (now matches) ⌝ }
+    requires row { ⌜ root * s + s ≤ length (now rows) ⌝ }
+    ensures { λ r. ⌜ Decides r (RootPassed (now (trie .entry)) (now (matches .entry)) (now (rows .entry)) s root) ⌝ }
 {
     if matches[root] != 0 {
         return false;
@@ -96,7 +101,14 @@ fn root_holds(trie: &[u16], matches: &[u16], rows: &[u16], s: usize, root: usize
 
 // The tests of the mark alone, which no state leads to: it has no match, and its row differs from the root's in as many words as it
 // has children.
-fn mark_holds(trie: &[u16], matches: &[u16], rows: &[u16], s: usize, root: usize) -> bool {
+fn mark_holds(trie: &[u16], matches: &[u16], rows: &[u16], s: usize, root: usize) -> bool
+    requires few { ⌜ s ≤ 32 ⌝ }
+    requires node { ⌜ childrenAt 0 < length (now trie) ⌝ }
+    requires word { ⌜ 0 < length (now matches) ⌝ }
+    requires own { ⌜ 0 * s + s ≤ length (now rows) ⌝ }
+    requires other { ⌜ root * s + s ≤ length (now rows) ⌝ }
+    ensures { λ r. ⌜ Decides r (MarkPassed (now (trie .entry)) (now (matches .entry)) (now (rows .entry)) s root) ⌝ }
+{
     if matches[0] != 0 {
         return false;
     }
@@ -144,6 +156,7 @@ fn states_hold(
     rows: &[u16],
 ) -> bool
     requires { ⌜ valid (now image) ≡ true ⌝ }
+    requires { ⌜ root ≡ Words.root (read (now image) .rules) ⌝ }
     requires { ⌜ Built (read (now image)) n (now trie) ⌝ }
     requires { ⌜ (n ≡ length (now matches)) × (n * read (now image) .symbols ≡ length (now rows)) ⌝ }
     ensures { λ r. ⌜ Decides r
@@ -175,6 +188,7 @@ fn states_hold(
 // state's tests. Keeps each state's failure state in its node of the trie.
 pub(crate) fn holds(image: &[u8], root: usize, trie: &mut [u16], n: usize, table: &[u16]) -> bool
     requires { ⌜ valid (now image) ≡ true ⌝ }
+    requires { ⌜ root ≡ Words.root (read (now image) .rules) ⌝ }
     requires { ⌜ Built (read (now image)) n (now trie) ⌝ }
     ensures { λ r. ⌜ r ≡ prefix (tableOf (read (now (image .entry)))) (now (table .entry)) ⌝ }
 {

@@ -7,6 +7,7 @@ ghost use Rattle.layout.specs.Image.{read, valid};
 ghost use Rattle.layout.specs.Table.{tableOf};
 ghost use Rattle.layout.specs.Compile.{compileOf};
 ghost use Rattle.layout.specs.TableCheck.{checkOf};
+ghost use Rattle.layout.specs.Words as Words;
 ghost use Rattle.trie.specs.Nodes.{Roomy, Built};
 use layout::Checked;
 use layout::Compiled;
@@ -19,6 +20,7 @@ mod compare;
 // The table of the image, into an area of its length, from the trie of its n states.
 fn write(image: &[u8], root: usize, nodes: &mut [u16], n: usize, table: &mut [u16])
     requires image { ⌜ valid (now image) ≡ true ⌝ }
+    requires root { ⌜ root ≡ Words.root (read (now image) .rules) ⌝ }
     requires trie { ⌜ Built (read (now image)) n (now nodes) ⌝ }
     requires size { ⌜ length (now table) ≡ length (tableOf (read (now image))) ⌝ }
     ensures { λ _. ⌜ now (table .exit) ≡ tableOf (read (now (image .entry))) ⌝ }
@@ -33,12 +35,13 @@ fn write(image: &[u8], root: usize, nodes: &mut [u16], n: usize, table: &mut [u1
 
 // Compile for a valid image, with words for the trie. It is built first, since the number of states decides whether the
 // table fits.
-fn compile_with(image: &[u8], root: usize, nodes: &mut [u16], table: &mut [u16]) -> Compiled
+fn compile_with(image: &[u8], nodes: &mut [u16], table: &mut [u16]) -> Compiled
     requires image { ⌜ valid (now image) ≡ true ⌝ }
     requires words { ⌜ (now nodes ≡ replicate (length (now nodes)) 0) × (Roomy (read (now image)) (length (now nodes))) ⌝ }
     ensures answer { λ r. ⌜ r ≡ compileOf (now (image .entry)) (now (table .entry)) .answer ⌝ }
     ensures area { λ r. ⌜ now (table .exit) ≡ compileOf (now (image .entry)) (now (table .entry)) .area ⌝ }
 {
+    let root = trie::begin(image, nodes);
     let n = trie::build(image, root, nodes);
     let words = 2 + n + n * image::symbols(image);
     if table.len() < words {
@@ -55,23 +58,23 @@ pub fn compile(image: &[u8], table: &mut [u16]) -> Compiled
     ensures area { λ r. ⌜ now (table .exit) ≡ compileOf (now (image .entry)) (now (table .entry)) .area ⌝ }
 {
     if image::is_valid(image) {
-        let root = image::root(image);
-        if image::bodies_length(image) + root < 64 {
+        if image::bodies_length(image) < 63 {
             let mut few = [0u16; FEW_WORDS];
-            return compile_with(image, root, &mut few, table);
+            return compile_with(image, &mut few, table);
         }
         let mut nodes = [0u16; WORDS];
-        return compile_with(image, root, &mut nodes, table);
+        return compile_with(image, &mut nodes, table);
     }
     Compiled::Refused(7)
 }
 
 // Whether the table begins with that of a valid image, with words for the trie.
-fn begins_by(image: &[u8], root: usize, nodes: &mut [u16], table: &[u16]) -> bool
+fn begins_by(image: &[u8], nodes: &mut [u16], table: &[u16]) -> bool
     requires image { ⌜ valid (now image) ≡ true ⌝ }
     requires words { ⌜ (now nodes ≡ replicate (length (now nodes)) 0) × (Roomy (read (now image)) (length (now nodes))) ⌝ }
     ensures { λ r. ⌜ r ≡ prefix (tableOf (read (now (image .entry)))) (now (table .entry)) ⌝ }
 {
+    let root = trie::begin(image, nodes);
     let n = trie::build(image, root, nodes);
     compare::holds(image, root, nodes, n, table)
 }
@@ -81,13 +84,12 @@ fn begins_with_table(image: &[u8], table: &[u16]) -> bool
     requires { ⌜ valid (now image) ≡ true ⌝ }
     ensures { λ r. ⌜ r ≡ prefix (tableOf (read (now (image .entry)))) (now (table .entry)) ⌝ }
 {
-    let root = image::root(image);
-    if image::bodies_length(image) + root < 64 {
+    if image::bodies_length(image) < 63 {
         let mut few = [0u16; FEW_WORDS];
-        return begins_by(image, root, &mut few, table);
+        return begins_by(image, &mut few, table);
     }
     let mut nodes = [0u16; WORDS];
-    begins_by(image, root, &mut nodes, table)
+    begins_by(image, &mut nodes, table)
 }
 
 // The check of a lent image and table: refusals 7 and 9.

@@ -10,7 +10,7 @@ use native.Mathlib.Omega.{arith}
 use native.Mathlib.Numerals.{add-one}
 use lib.Dec.{eqb, ltb}
 use lib.ListN.{length, getD, take, replicate, length-set, set as store}
-use lib.Seq.{take-all, length-take-le, getD-set-same, getD-set-other}
+use lib.Seq.{take-all, length-take-le, set-getD, getD-set-same, getD-set-other}
 use borrow.Author.Tests.{eqb-true, eqb-false, ne-eqb, ltb-true, ltb-false}
 use Rattle.rewriting.specs.Lists.{alike, same}
 use Rattle.rewriting.specs.Rules.{Rule, RuleSet, rule, inRange}
@@ -151,6 +151,15 @@ pub record Building (set : RuleSet) (words i n at : ℕ) (t : List ℕ) : Type 0
   pub place : at ≡ leftAt set i
   pub size : length t ≡ words
 
+-- how many states there are before any rule
+first-count : (set : RuleSet) → length (statesOf set 0) ≡ root (set .rules) + 1
+unfolding statesOf flatMap numbered firstStates root
+first-count set = go (hasMark (set .rules))
+  where
+    go : (b : Bool) → length (cond b ((mark ∷ []) ∷ [] ∷ []) ([] ∷ [])) ≡ cond b 1 0 + 1
+    go true = refl
+    go false = refl
+
 -- words that are all 0, with the first nodes planted, hold the trie of no rules
 module _ (set : RuleSet) (in-range : inRange set ≡ true) (t : List ℕ) (zeros : t ≡ replicate (length t) 0) (roomy : Roomy set (length t)) where
   zero-at : (k : ℕ) → getD t k 0 ≡ 0
@@ -193,12 +202,7 @@ module _ (set : RuleSet) (in-range : inRange set ≡ true) (t : List ℕ) (zeros
 
   -- no node is behind the root yet
   count : length (statesOf set 0) ≡ root (set .rules) + 1
-  unfolding statesOf flatMap numbered firstStates root
-  count = go (hasMark (set .rules))
-    where
-      go : (b : Bool) → length (cond b ((mark ∷ []) ∷ [] ∷ []) ([] ∷ [])) ≡ cond b 1 0 + 1
-      go true = refl
-      go false = refl
+  count = first-count set
 
   behind : (c : ℕ) → root (set .rules) < c → c < length (statesOf set 0) → ⊥
   behind c pos h = omega (arith, count)
@@ -280,22 +284,37 @@ module _ (set : RuleSet) (in-range : inRange set ≡ true) (t : List ℕ) (zeros
       young : (q : ℕ) → youngest (planted (root (set .rules)) t) q ≡ 0
       young q = planted-zero (8 * q + 3) (λ e. omega arith) (λ e. omega arith) (λ e. omega arith)
 
-  pub build-first : (at : ℕ) → at ≡ 4 + 4 * length (set .rules) → (n : ℕ) → n ≡ root (set .rules) + 1
-      → (t′ : List ℕ) → t′ ≡ planted (root (set .rules)) t → Building set (length t′) 0 n at t′
+  pub grown-first : Grown set 0 (planted (root (set .rules)) t)
   unfolding matchWord own lowest
-  build-first at here n many t′ e =
+  grown-first =
+      record {
+        trie = trie-first;
+        owned = λ c h. planted-zero (8 * c + 6) (λ e. omega arith) (λ e. omega arith) (λ e. omega arith);
+      }
+
+  -- Without a mark nothing needs to be planted: the words are 0 already.
+  pub planted-none : root (set .rules) ≡ 0 → planted (root (set .rules)) t ≡ t
+  unfolding planted
+  planted-none e =
       rw e
-      (record {
-        within = omega arith;
-        grown =
-            record {
-              trie = trie-first;
-              owned = λ c h. planted-zero (8 * c + 6) (λ e. omega arith) (λ e. omega arith) (λ e. omega arith);
-            };
-        nodes = many ∙ sym count;
-        place = here ∙ sym (left-first set);
-        size = refl;
-      })
+      (ap (λ (l : List ℕ). store (store l 2 0) 7 0) (unchanged 0 (omega (arith, roomy)))
+      ∙ ap (λ (l : List ℕ). store l 7 0) (unchanged 2 (omega (arith, roomy)))
+      ∙ unchanged 7 (omega (arith, roomy)))
+    where
+      unchanged : (k : ℕ) → k < length t → store t k 0 ≡ t
+      unchanged k inside = ap (store t k) (sym (zero-at k)) ∙ set-getD t k 0
+
+-- how many nodes there are before any rule, and where the first rule's left side begins
+pub build-first : (set : RuleSet) (t : List ℕ) → Grown set 0 t → (at : ℕ) → at ≡ 4 + 4 * length (set .rules) → (n : ℕ) → n ≡ root (set .rules) + 1
+    → Building set (length t) 0 n at t
+build-first set t grown at here n many =
+    record {
+      within = omega arith;
+      grown = grown;
+      nodes = many ∙ sym (first-count set);
+      place = here ∙ sym (left-first set);
+      size = refl;
+    }
 
 -- a rule more
 pub build-next : (set : RuleSet) → inRange set ≡ true → (words i n at : ℕ) (t : List ℕ) → Building set words i n at t → i < length (set .rules)

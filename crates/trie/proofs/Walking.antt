@@ -1,6 +1,6 @@
 -- The walk along one left side, from the root or the mark, in the trie of the rules before it.
 -- Assumes nothing.
-use Prim.Native.Nat.{ℕ, zero, suc, _+_, _*_, _≤_, _<_}
+use Prim.Native.Nat.{ℕ, zero, suc, _+_, _*_, _-_, _≤_, _<_}
 use mathlib.Core.Path.{_≡_, refl, sym, ap, _∙_}
 use mathlib.Core.Bool.{Bool, true, false, cond, _||_}
 use mathlib.Core.Option.{none}
@@ -14,10 +14,11 @@ use borrow.Author.Tests.{ltb-true}
 use Rattle.rewriting.specs.Rules.{Rule, RuleSet, rule, inRange}
 use Rattle.rewriting.proofs.Lists.{all-at, or-left, or-right, flatMap-snoc}
 use Rattle.rewriting.proofs.Ranges.{ranges, rule-at}
-use Rattle.layout.specs.Image.{body, read, valid}
+use Rattle.layout.specs.Image.{markByte, body, read, valid}
 use Rattle.layout.specs.Places.{leftAt}
 use Rattle.layout.proofs.Image.{valid-in-range}
 use Rattle.layout.proofs.Places.{left-within, left-symbol, body-left}
+use Rattle.image.proofs.Marks.{mark-here, root-found}
 use Rattle.trie.specs.declared.Walked.{Walked}
 use Rattle.layout.specs.States.{mark, pattern, isPrefix, prefixes, known, numbered, hasMark, firstStates}
 use Rattle.layout.specs.Words.{root, own}
@@ -97,11 +98,11 @@ left-bodies (r ∷ rs) =
     let own = body-left r in
     simp length-append (omega arith)
 
--- so 4,112 words are enough for every rule set, and 520 for bodies of less than 64 symbols
+-- so 4,112 words are enough for every rule set, and 512 for bodies of less than 63 symbols
 pub roomy-large : (b : List ℕ) → valid b ≡ true → Roomy (read b) 4112
 roomy-large b e = omega (arith, few-symbols (read b) (valid-in-range b e))
 
-pub roomy-small : (b : List ℕ) → length (flatMap body (read b .rules)) < 64 → Roomy (read b) 520
+pub roomy-small : (b : List ℕ) → length (flatMap body (read b .rules)) < 63 → Roomy (read b) 512
 roomy-small b few = omega (arith, left-bodies (read b .rules))
 
 -- the symbols of the first i left sides and of left side i are among all
@@ -144,13 +145,7 @@ lead-small r = go (r .marked)
     go true = omega arith
     go false = omega arith
 
--- a marked rule among others makes a marked rule set
-mark-at : (rules : List Rule) (i : ℕ) → i < length rules → rule rules i .marked ≡ true → hasMark rules ≡ true
-unfolding hasMark rule
-mark-at [] i h m = absurd (not-suc-le-zero h)
-mark-at (r ∷ rules) zero h m = or-left (r .marked) (hasMark rules) m
-mark-at (r ∷ rules) (suc i) h m = or-right (r .marked) (hasMark rules) (mark-at rules i (le-of-suc-le-suc h) m)
-
+-- marked rules among the first are marked rules
 mark-taken : (rules : List Rule) (i : ℕ) → hasMark (take i rules) ≡ true → hasMark rules ≡ true
 unfolding hasMark
 mark-taken [] zero m = m
@@ -166,6 +161,16 @@ mark-taken (r ∷ rules) (suc i) m = go (r .marked) refl m (mark-taken rules i)
 root-marked : (rules : List Rule) → hasMark rules ≡ true → 0 < root rules
 unfolding root
 root-marked rules e = rw e (omega arith)
+
+-- the first node, as the code works it out: the root without the mark
+pub first-node-is : (set : RuleSet) (i top m : ℕ) → top ≡ root (set .rules) → m ≡ markByte (rule (set .rules) i .marked)
+    → (m ≤ top) × (top - m ≡ firstNode set i)
+unfolding firstNode markByte
+first-node-is set i top m is byte = go (rule (set .rules) i .marked) refl byte
+  where
+    go : (b : Bool) → rule (set .rules) i .marked ≡ b → m ≡ markByte b → (m ≤ top) × (top - m ≡ cond b 0 (root (set .rules)))
+    go true e d = (omega (arith, is, d, root-found (set .rules) i e), omega (arith, is, d, root-found (set .rules) i e))
+    go false e d = (omega (arith, d), omega (arith, is, d))
 
 -- The walk along rule i's left side: after j symbols it stands at the node of the mark, if there is one, and the first j, and
 -- these prefixes have nodes.
@@ -189,7 +194,7 @@ module _ (set : RuleSet) (i words : ℕ) where
   mark-known m lt =
       known-numbered (firstStates (set .rules)) (allPrefixes (take i (set .rules))) (mark ∷ [])
       ∙ or-left (known (firstStates (set .rules)) (mark ∷ [])) (known (allPrefixes (take i (set .rules))) (mark ∷ []))
-      (first-known (set .rules) (mark-at (set .rules) i lt m))
+      (first-known (set .rules) (mark-here (set .rules) i m))
 
   -- so at the first symbol nothing is new
   sofar-first : i < length (set .rules) → sofar 0 ≡ statesOf set i
@@ -215,7 +220,7 @@ module _ (set : RuleSet) (i words : ℕ) where
           ≡ take (cond b 1 0 + 0) (cond b (mark ∷ rule (set .rules) i .left) (rule (set .rules) i .left)))
       go true m = (
         omega (arith, trie .some-node),
-        trie .mark-alone (root-marked (set .rules) (mark-at (set .rules) i lt m)),
+        trie .mark-alone (root-marked (set .rules) (mark-here (set .rules) i m)),
       )
       go false m = (trie .some-node, trie .root-empty)
 

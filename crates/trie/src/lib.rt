@@ -150,17 +150,14 @@ fn claim(trie: &mut [u16], q: usize, i: usize)
     }
 }
 
-// The node that the left side of rule i is followed from.
+// The node that the left side of rule i is followed from: 0, the mark's, where it has the mark, which makes the root 1.
 fn first_node(image: &[u8], root: usize, i: usize) -> usize
     requires image { ⌜ valid (now image) ≡ true ⌝ }
     requires rule { ⌜ i < length (read (now image) .rules) ⌝ }
     requires root { ⌜ root ≡ Words.root (read (now image) .rules) ⌝ }
     ensures { λ r. ⌜ r ≡ firstNode (read (now (image .entry))) i ⌝ }
 {
-    if image::is_marked(image, i) {
-        return 0;
-    }
-    root
+    root - image::mark(image, i)
 }
 
 // Follows the left side of rule i, which begins at byte `at`, in the trie of the n states of the rules before it: from the mark's
@@ -196,18 +193,28 @@ fn plant(trie: &mut [u16])
     trie[FAILURE] = 1;
 }
 
-// The trie of all left sides, in words that were 0, and the number of its nodes. Without a mark nothing is written before the first
-// rule, so that clearing the words stays one run.
-pub fn build(image: &[u8], root: usize, trie: &mut [u16]) -> usize
+// The nodes before any rule, in words that were 0. Returns the root. Without a mark nothing is written.
+pub fn begin(image: &[u8], trie: &mut [u16]) -> usize
     requires image { ⌜ valid (now image) ≡ true ⌝ }
-    requires root { ⌜ root ≡ Words.root (read (now image) .rules) ⌝ }
     requires trie { ⌜ (now trie ≡ replicate (length (now trie)) 0) × (Roomy (read (now image)) (length (now trie))) ⌝ }
-    ensures { λ r. ⌜ Built (read (now (image .entry))) r (now (trie .exit)) ⌝ }
+    ensures root { λ r. ⌜ r ≡ Words.root (read (now (image .entry)) .rules) ⌝ }
+    ensures trie { λ r. ⌜ (Grown (read (now (image .entry))) 0 (now (trie .exit))) × (length (now (trie .exit)) ≡ length (now (trie .entry))) ⌝ }
 {
-    let rules = image::rules(image);
+    let root = image::root(image);
     if 0 < root {
         plant(trie);
     }
+    root
+}
+
+// The trie of all left sides, from the first nodes on, and the number of its nodes.
+pub fn build(image: &[u8], root: usize, trie: &mut [u16]) -> usize
+    requires image { ⌜ valid (now image) ≡ true ⌝ }
+    requires root { ⌜ root ≡ Words.root (read (now image) .rules) ⌝ }
+    requires trie { ⌜ (Grown (read (now image)) 0 (now trie)) × (Roomy (read (now image)) (length (now trie))) ⌝ }
+    ensures { λ r. ⌜ Built (read (now (image .entry))) r (now (trie .exit)) ⌝ }
+{
+    let rules = image::rules(image);
     let mut n = root + 1;
     let mut at = 4 + 4 * rules;
     let mut i = 0;

@@ -1,14 +1,15 @@
 -- `image::root` meets its contract. The loop's invariant: no rule before `i` is marked. The measure is the rules left.
 -- Assumes nothing.
 use Prim.Native.Nat.{_-_, _≤_}
-use mathlib.Core.Path.{_≡_, sym, _∙_}
+use mathlib.Core.Path.{_≡_, sym}
 use mathlib.Core.Bool.{false}
 use native.Mathlib.Omega.{arith}
 use lib.ListN.{length, take}
 use lib.Seq.{take-all}
+use Rattle.rewriting.specs.Rules.{rule}
 use Rattle.layout.specs.Image.{read}
 use Rattle.layout.specs.States.{hasMark}
-use Rattle.image.proofs.Marks.{no-mark, no-mark-yet, root-found, root-none}
+use Rattle.image.proofs.Marks.{mark-some, mark-none, no-mark, no-mark-yet, root-found, root-none}
 use Rattle.image.proofs.root.Statement.{statement}
 use Rattle.image.proofs.root.Tie as tie
 
@@ -24,8 +25,8 @@ rules-requires c κs = c .before .pre
 loop-holds : tie.Need-loop-holds Inv-loop μ-loop
 loop-holds c = (omega arith, no-mark)
 
-is-marked-requires : tie.Need-is-marked-requires Inv-loop μ-loop
-is-marked-requires c κs =
+mark-requires : tie.Need-mark-requires Inv-loop μ-loop
+mark-requires c κs =
     let call = c .before .before in
     (call .before .before .pre, omega (arith, call .rules .ensures))
 
@@ -34,7 +35,7 @@ returns c =
     let loop = c .before .before .before in
     let start = loop .before .before .before in
     sym
-    (root-found (read (start .args .image .now) .rules) (loop .loop .i) (sym (c .before .is-marked .ensures) ∙ c .if1 .taken))
+    (root-found (read (start .args .image .now) .rules) (loop .loop .i) (mark-some (rule (read (start .args .image .now) .rules) (loop .loop .i) .marked) (rw (c .before .mark .ensures) at (c .if1 .taken))))
 
 add-i : tie.Need-add-i Inv-loop μ-loop
 add-i c = omega arith
@@ -47,7 +48,7 @@ loop-again c =
     let loop = c .before .before .before in
     let start = loop .before .before .before in
     let rules = read (start .args .image .now) .rules in
-    (omega arith, no-mark-yet rules (loop .loop .i) (loop .loop .inv .1) (sym (c .before .is-marked .ensures) ∙ c .if1 .left))
+    (omega arith, no-mark-yet rules (loop .loop .i) (loop .loop .inv .1) (mark-none (rule rules (loop .loop .i) .marked) (rw (c .before .mark .ensures) at (c .if1 .left))))
 
 returns-2 : tie.Need-returns-2 Inv-loop μ-loop
 returns-2 c =
@@ -61,4 +62,4 @@ returns-2 c =
 pub root-spec : {M : Type 1} → statement M
 root-spec =
     tie.close
-    (tie.spec Inv-loop μ-loop rules-requires loop-holds is-marked-requires returns add-i loop-less loop-again returns-2)
+    (tie.spec Inv-loop μ-loop rules-requires loop-holds mark-requires returns add-i loop-less loop-again returns-2)

@@ -8,11 +8,9 @@ use lib.ListN.{length}
 use borrow.Author.Needs.{needs}
 use Rattle.rewriting.proofs.Ranges.{ranges}
 use Rattle.layout.specs.Image.{read}
-use Rattle.layout.specs.Words as Words
 use Rattle.layout.proofs.Image.{valid-in-range}
 use Rattle.layout.proofs.Places.{left-within}
 use Rattle.layout.proofs.States.{root-small}
-use Rattle.trie.specs.Nodes.{planted}
 use Rattle.trie.proofs.Building.{Building, build-first, build-next, build-last, followed-room}
 use Rattle.trie.proofs.build.Statement.{statement}
 use Rattle.trie.proofs.build.Tie as tie
@@ -28,65 +26,53 @@ rules-requires c κs =
     let start = c .before .before in
     start .pre .0
 
-plant-requires : tie.Need-plant-requires Inv-loop μ-loop
-plant-requires c κs =
-    let start = c .before .before .before .before in
-    (omega (arith, start .pre .1 .1 .1), omega (arith, start .pre .1 .0, root-small (read (start .args .image .now) .rules)))
-
 add-n : tie.Need-add-n Inv-loop μ-loop
 add-n c =
-    let start = c .before .before .before .before .before .before .before in
+    let start = c .before .before .before in
     omega (arith, start .pre .1 .0, root-small (read (start .args .image .now) .rules))
 
 mul-at : tie.Need-mul-at Inv-loop μ-loop
 mul-at c =
-    let rules = c .before .before .before .before in
-    let start = rules .before .before .before in
-    omega (arith, rules .rules .ensures, ranges _ (valid-in-range _ (start .pre .0)))
+    let start = c .before .before .before in
+    omega (arith, c .rules .ensures, ranges _ (valid-in-range _ (start .pre .0)))
 
 add-at : tie.Need-add-at Inv-loop μ-loop
 add-at c =
-    let rules = c .before .before .before .before in
-    let start = rules .before .before .before in
-    omega (arith, rules .rules .ensures, ranges _ (valid-in-range _ (start .pre .0)))
+    let start = c .before .before .before in
+    omega (arith, c .rules .ensures, ranges _ (valid-in-range _ (start .pre .0)))
 
 loop-holds : tie.Need-loop-holds Inv-loop μ-loop
 loop-holds c =
-    let plant = c .before .before in
-    let rules = plant .before .before in
-    let start = rules .before .before .before in
-    build-first _ (valid-in-range _ (start .pre .0)) _ (start .pre .1 .1 .0) (start .pre .1 .1 .1) _ (rw (rules .rules .ensures) refl) _
-    (rw (start .pre .1 .0) refl) _ (plant .plant .ensures ∙ rw (start .pre .1 .0) refl)
+    let start = c .before .before .before in
+    build-first _ _ (start .pre .1 .1 .0) _ (rw (c .rules .ensures) refl) _ (rw (start .pre .1 .0) refl)
 
 walk-requires : tie.Need-walk-requires Inv-loop μ-loop
 walk-requires c κs =
     let loop-test = c .before in
     let loop = loop-test .before in
-    let plant = loop .before .before .before in
-    let rules = plant .before .before in
+    let rules = loop .before in
     let start = rules .before .before .before in
     let turn = loop .loop .inv in
     let more = rw (rules .rules .ensures) at (loop-test .loop-test .taken) in
-    (start .pre .0, (start .pre .1 .0, ((more, turn .place), ((turn .grown, rw (turn .size ∙ plant .plant .kept .0) (start .pre .1 .1 .1)), turn .nodes))))
+    (start .pre .0, (start .pre .1 .0, ((more, turn .place), ((turn .grown, rw (turn .size) (start .pre .1 .1 .1)), turn .nodes))))
 
 claim-requires : tie.Need-claim-requires Inv-loop μ-loop
 claim-requires c κs =
     let walk = c .before .before .before in
     let loop-test = walk .before .before in
     let loop = loop-test .before in
-    let plant = loop .before .before .before in
-    let rules = plant .before .before in
+    let rules = loop .before in
     let start = rules .before .before .before in
     let turn = loop .loop .inv in
     let more = rw (rules .rules .ensures) at (loop-test .loop-test .taken) in
     let walked = walk .walk .ensures in
     let room = followed-room _ (valid-in-range _ (start .pre .0)) _ (start .pre .1 .1 .1) _ more _ _ (walked .0) in
-    (rw (walked .1 ∙ turn .size ∙ plant .plant .kept .0) (room .2), room .1)
+    (rw (walked .1 ∙ turn .size) (room .2), room .1)
 
 body-length-requires : tie.Need-body-length-requires Inv-loop μ-loop
 body-length-requires c κs =
     let loop-test = c .before .before .before .before .before .before .before .before in
-    let rules = loop-test .before .before .before .before .before .before in
+    let rules = loop-test .before .before in
     let start = rules .before .before .before in
     let more = rw (rules .rules .ensures) at (loop-test .loop-test .taken) in
     (start .pre .0, more)
@@ -95,7 +81,7 @@ add-at-2 : tie.Need-add-at-2 Inv-loop μ-loop
 add-at-2 c =
     let loop-test = c .before .before .before .before .before .before .before .before .before in
     let loop = loop-test .before in
-    let rules = loop .before .before .before .before .before in
+    let rules = loop .before in
     let start = rules .before .before .before in
     let more = rw (rules .rules .ensures) at (loop-test .loop-test .taken) in
     omega (arith, c .body-length .ensures, loop .loop .inv .place, left-within _ (start .pre .0) _ more)
@@ -114,27 +100,25 @@ loop-again c =
     let walk = claim .before .before .before .before in
     let loop-test = walk .before .before in
     let loop = loop-test .before in
-    let plant = loop .before .before .before in
-    let rules = plant .before .before in
+    let rules = loop .before in
     let start = rules .before .before .before in
     let turn = loop .loop .inv in
     let more = rw (rules .rules .ensures) at (loop-test .loop-test .taken) in
     let walked = walk .walk .ensures in
     let room = followed-room _ (valid-in-range _ (start .pre .0)) _ (start .pre .1 .1 .1) _ more _ _ (walked .0) in
     rw add-one
-    (build-next _ (valid-in-range _ (start .pre .0)) _ _ _ _ _ turn more _ _ (walked .0) (rw (walked .1 ∙ turn .size ∙ plant .plant .kept .0) (room .0)) _
+    (build-next _ (valid-in-range _ (start .pre .0)) _ _ _ _ _ turn more _ _ (walked .0) (rw (walked .1 ∙ turn .size) (room .0)) _
     (claim .claim .ensures) (claim .claim .kept .0 ∙ walked .1 ∙ turn .size) _ (c .body-length .ensures))
 
 same-length : tie.Need-same-length Inv-loop μ-loop
 same-length c =
     let loop = c .before in
-    let plant = loop .before .before .before in
-    loop .loop .inv .size ∙ plant .plant .kept .0
+    loop .loop .inv .size
 
 returns : tie.Need-returns Inv-loop μ-loop
 returns c =
     let loop = c .before in
-    let rules = loop .before .before .before .before .before in
+    let rules = loop .before in
     build-last _ _ _ _ _ _ (loop .loop .inv) (rw (rules .rules .ensures) at (c .loop-test .left))
 
 pub build-spec : {M : Type 1} → statement M
@@ -144,7 +128,6 @@ build-spec =
     Inv-loop
     μ-loop
     rules-requires
-    plant-requires
     add-n
     mul-at
     add-at

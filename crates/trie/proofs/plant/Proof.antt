@@ -8,40 +8,32 @@ use Rattle.trie.specs.Nodes.{planted}
 use Rattle.trie.proofs.plant.Statement.{statement}
 use Rattle.trie.proofs.plant.Tie as tie
 
-cast-trie : tie.Need-cast-trie
-cast-trie c = search needs
-
 slice-write-trie : tie.Need-slice-write-trie
 slice-write-trie c = search needs
 
-cast-trie-2 : tie.Need-cast-trie-2
-cast-trie-2 c = search needs
-
 slice-write-trie-2 : tie.Need-slice-write-trie-2
-slice-write-trie-2 c = simp length-set (omega arith)
-
-cast-trie-3 : tie.Need-cast-trie-3
-cast-trie-3 c = search needs
+slice-write-trie-2 c =
+    simp length-set (omega arith)
 
 slice-write-trie-3 : tie.Need-slice-write-trie-3
-slice-write-trie-3 c = simp length-set (omega arith)
+slice-write-trie-3 c =
+    simp length-set (omega arith)
 
 same-length : tie.Need-same-length
-same-length c = simp length-set
+same-length c =
+    simp length-set
 
 returns : tie.Need-returns
 unfolding planted
-returns c = refl
+returns c =
+    refl
 
 pub plant-spec : {M : Type 1} → statement M
 plant-spec =
     tie.close
     (tie.spec
-    cast-trie
     slice-write-trie
-    cast-trie-2
     slice-write-trie-2
-    cast-trie-3
     slice-write-trie-3
     same-length
     returns)
