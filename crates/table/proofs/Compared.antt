@@ -67,7 +67,7 @@ module _ (rules : RuleSet) (table : List ℕ) {n s : ℕ} (all : n ≡ length (s
   size : length (tableOf rules) ≡ 2 + n + n * s
   size = rw (all, width) (length-table rules)
 
-  pub table-small : inRange rules ≡ true → 2 + n + n * s ≤ 16931
+  pub table-small : inRange rules ≡ true → 2 + n + n * s ≤ 16964
   table-small range = omega (arith, size, table-length rules range)
 
   pub part-lengths : 2 + n + n * s ≤ length table → (n ≡ length (matchPart table n)) × (n * rules .symbols ≡ length (rowPart table n s))

@@ -4,7 +4,7 @@
 pub mod Written
 -- The check of a lent table: it passes every state's tests exactly where it is the rules' table.
 pub mod RowBeside
-pub mod RightPasses
 pub mod PassesRight
+pub mod RightPasses
 pub mod CheckLoop
 pub mod Compared

@@ -4,114 +4,165 @@
 -- Assumes nothing.
 use Prim.Native.Nat.{ℕ, zero, suc, _+_, _<_}
 use mathlib.Core.Path.{_≡_, refl, sym, ap, _∙_}
-use mathlib.Core.Bool.{Bool, true, false}
+use mathlib.Core.Bool.{true}
+use mathlib.Core.Logic.{_≢_, _⊎_, inl, inr, ⊎-elim}
 use mathlib.Core.List.{List, [], _∷_, _++_}
 use native.Mathlib.Omega.{arith}
 use native.Mathlib.Nat.{not-suc-le-zero}
-use lib.Dec.{ltb}
-use lib.ListN.{length, getD}
-use borrow.Author.Tests.{ltb-true, ltb-false}
-use Rattle.rewriting.specs.Rules.{Rule}
+use lib.ListN.{length, getD, drop}
+use Rattle.rewriting.specs.Rules.{RuleSet, inRange}
 use Rattle.rewriting.specs.Occurrences.{ending}
-use Rattle.layout.specs.States.{next, matching, known, states, number}
+use Rattle.rewriting.proofs.Lists.{same-or}
+use Rattle.rewriting.proofs.Redex.{non-empty}
+use Rattle.layout.specs.States.{starts, symbolsIn, state, next, matching, known, states, number}
 use Rattle.layout.specs.Table.{matchWord}
-use Rattle.layout.specs.Words.{text, transition}
-use Rattle.trie.specs.Nodes.{parent, symbol, failure, Trie, Owned, RightFailure}
-use Rattle.table.specs.Consistent.{differing, leaving, Passed, RootPassed, RightTable}
-use Rattle.layout.proofs.States.{number-at, number-zero, state-long}
-use Rattle.trie.proofs.Growth.{state-child, parent-shorter}
+use Rattle.layout.specs.Words.{root, text, transition}
+use Rattle.trie.specs.Nodes.{parent, symbol, failure, TrieOf, Owned, RightFailure}
+use Rattle.table.specs.Consistent.{differing, leaving, Passed, RootPassed, MarkPassed, RightTable}
+use Rattle.layout.proofs.Matching.{Plain}
+use Rattle.layout.proofs.States.{number-at, number-root, state-long, state-plain}
+use Rattle.trie.proofs.Growth.{node-cases, state-child, parent-shorter}
 use Rattle.trie.proofs.Failure.{FailsTo, fails-to, match-failure, failure-found}
-use Rattle.table.proofs.RowBeside.{inherits-failure, inherits-root, row-right, root-row}
+use Rattle.table.proofs.RowBeside.{inherits-failure, inherits-root, row-right}
 
-module _ (rules : List Rule) (symbols : ℕ) (t matches rows : List ℕ) (trie : Trie (states rules) symbols t)
-    (owned : Owned rules (states rules) t) (root : RootPassed t matches rows symbols)
-    (each : (c : ℕ) → 0 < c → c < length (states rules) → Passed t matches rows symbols (length (states rules)) c) where
+-- behind its first place a state is plain
+pub plain-behind : (set : RuleSet) → inRange set ≡ true → (c : ℕ) → c < length (states (set .rules)) → Plain (drop 1 (text (set .rules) c))
+plain-behind set in-range c lt = go (text (set .rules) c) refl
+  where
+    go : (v : List ℕ) → text (set .rules) c ≡ v → Plain (drop 1 v)
+    go [] e = refl
+    go (y ∷ p) e = state-plain set in-range c y p lt e
+
+-- the failure state of the mark alone is the root
+pub mark-fails : (set : RuleSet) (t : List ℕ) → TrieOf set t → 0 < root (set .rules) → RightFailure (set .rules) t 0
+unfolding state
+mark-fails set t trie pos = trie .mark-failure ∙ rw (trie .mark-alone pos) (sym (number-root (set .rules)))
+
+module _ (set : RuleSet) (in-range : inRange set ≡ true) (t matches rows : List ℕ) (trie : TrieOf set t)
+    (owned : Owned (set .rules) (states (set .rules)) t) (top : RootPassed t matches rows (set .symbols) (root (set .rules)))
+    (first : 0 < root (set .rules) → MarkPassed t matches rows (set .symbols) (root (set .rules)))
+    (each : (c : ℕ) → root (set .rules) < c → c < length (states (set .rules))
+    → Passed t matches rows (set .symbols) (root (set .rules)) (length (states (set .rules))) c) where
   -- a child stands in its state's row, since its parent leads to it
-  placed : (c a : ℕ) → c < length (states rules) → known (states rules) (text rules c ++ a ∷ []) ≡ true
-      → transition rows symbols c a ≡ number (states rules) (text rules c ++ a ∷ [])
-  placed c a lt k =
-      let at = number-at (states rules) (text rules c ++ a ∷ []) k in
-      let child = state-child (states rules) symbols t trie c a (number (states rules) (text rules c ++ a ∷ [])) lt (at .0) (at .1) in
-      rw (child .of, child .by) at (each (number (states rules) (text rules c ++ a ∷ [])) (child .some) (child .node) .passing .led)
+  placed : (c a : ℕ) → c < length (states (set .rules)) → a < set .symbols → known (states (set .rules)) (text (set .rules) c ++ a ∷ []) ≡ true
+      → transition rows (set .symbols) c a ≡ number (states (set .rules)) (text (set .rules) c ++ a ∷ [])
+  placed c a lt small k =
+      let s = states (set .rules) in
+      let at = number-at s (text (set .rules) c ++ a ∷ []) k in
+      let child =
+      state-child (root (set .rules)) s (set .symbols) t trie c a (number s (text (set .rules) c ++ a ∷ [])) small lt (at .0) (at .1)
+      in
+      rw (child .of, child .by) at (each (number s (text (set .rules) c ++ a ∷ [])) (child .behind) (child .node) .passing .led)
 
   -- state c stands in the table as it should
   record RightState (c : ℕ) : Type 0 where
-    row : (a : ℕ) → a < symbols → transition rows symbols c a ≡ number (states rules) (next rules (text rules c) a)
-    word : getD matches c 0 ≡ matchWord (matching rules (text rules c))
-    fails : 0 < c → RightFailure rules t c
+    row : (a : ℕ) → a < set .symbols → transition rows (set .symbols) c a ≡ number (states (set .rules)) (next (set .rules) (text (set .rules) c) a)
+    word : getD matches c 0 ≡ matchWord (matching (set .rules) (text (set .rules) c))
+    fails : c ≢ root (set .rules) → RightFailure (set .rules) t c
 
-  root-right : RightState 0
-  unfolding leaving matching ending matchWord
+  root-right : RightState (root (set .rules))
+  unfolding leaving matching ending matchWord starts symbolsIn
   root-right =
       record {
         row = λ a small.
-            root-row rows symbols a
-            ∙ row-right (inherits-root rules) symbols (λ a. getD rows a 0) (λ a. 0) (λ a small. sym (number-zero rules))
-            (root .leads ∙ trie .counted 0 (trie .some-node) ∙ rw (trie .root))
-            (λ a small k. sym (root-row rows symbols a) ∙ placed 0 a (trie .some-node) (rw (trie .root) k) ∙ rw (trie .root))
+            row-right (inherits-root (set .rules)) (set .symbols) (λ a. transition rows (set .symbols) (root (set .rules)) a)
+            (λ a. root (set .rules)) (λ a small. sym (number-root (set .rules)))
+            (top .leads ∙ trie .counted (root (set .rules)) (trie .some-node) ∙ rw (trie .root-empty))
+            (λ a small k. placed (root (set .rules)) a (trie .some-node) small (rw (trie .root-empty) k) ∙ rw (trie .root-empty))
             a small
-            ∙ rw (trie .root);
-        word = root .no-match ∙ rw (trie .root);
-        fails = λ pos. absurd (omega arith);
+            ∙ rw (trie .root-empty);
+        word = top .no-match ∙ rw (trie .root-empty);
+        fails = λ other. absurd (other refl);
       }
 
-  -- a state is right where every shorter one is
-  state-right : (c : ℕ) → 0 < c → c < length (states rules)
-      → ((b : ℕ) → b < length (states rules) → length (text rules b) < length (text rules c) → RightState b) → RightState c
-  unfolding differing
-  state-right c pos lt shorter =
+  -- the mark alone, by the root
+  mark-right : 0 < root (set .rules) → RightState 0
+  unfolding differing matching ending matchWord starts symbolsIn state
+  mark-right pos =
       record {
         row =
-            row-right (inherits-failure rules (text rules c) long) symbols (λ a. transition rows symbols c a) (λ a. transition rows symbols (failure t c) a)
-            (λ a small. base .row a small ∙ ap (λ (u : List ℕ). number (states rules) (next rules u a)) (f .string))
-            (each c pos lt .passing .differs ∙ trie .counted c lt)
-            (λ a small k. placed c a lt k);
-        word = each c pos lt .passing .inherits ∙ rw (owned c lt, base .word, f .string) (sym (match-failure rules (text rules c) long));
+            row-right (inherits-failure (set .rules) (text (set .rules) 0) (rw (trie .mark-alone pos) (omega arith))) (set .symbols)
+            (λ a. transition rows (set .symbols) 0 a) (λ a. transition rows (set .symbols) (root (set .rules)) a)
+            (λ a small. root-right .row a small ∙ rw (trie .mark-alone pos, trie .root-empty))
+            (first pos .differs ∙ trie .counted 0 some)
+            (λ a small k. placed 0 a some small k);
+        word = first pos .no-match ∙ rw (trie .mark-alone pos);
+        fails = λ other. mark-fails set t trie pos;
+      }
+    where
+      some : 0 < length (states (set .rules))
+      some = omega (arith, trie .some-node)
+
+  -- a state is right where every shorter one is
+  state-right : (c : ℕ) → root (set .rules) < c → c < length (states (set .rules))
+      → ((b : ℕ) → b < length (states (set .rules)) → length (text (set .rules) b) < length (text (set .rules) c) → RightState b) → RightState c
+  unfolding differing
+  state-right c behind lt shorter =
+      record {
+        row =
+            row-right (inherits-failure (set .rules) (text (set .rules) c) long) (set .symbols) (λ a. transition rows (set .symbols) c a)
+            (λ a. transition rows (set .symbols) (failure t c) a)
+            (λ a small. base .row a small ∙ ap (λ (u : List ℕ). number (states (set .rules)) (next (set .rules) u a)) (f .string))
+            (each c behind lt .passing .differs ∙ trie .counted c lt)
+            (λ a small k. placed c a lt small k);
+        word =
+            each c behind lt .passing .inherits
+            ∙ rw (owned c lt, base .word, f .string)
+            (sym (match-failure (set .rules) (non-empty set in-range) (text (set .rules) c) long (plain-behind set in-range c lt)));
         fails = λ _. own;
       }
     where
-      long : 0 < length (text rules c)
-      long = state-long rules c pos lt
+      other : c ≢ root (set .rules)
+      other e = omega arith
 
-      below : parent t c < length (states rules)
-      below = omega (arith, trie .linked .up c pos lt)
+      long : 0 < length (text (set .rules) c)
+      long = state-long (set .rules) c other lt
 
-      more : length (text rules c) ≡ length (text rules (parent t c)) + 1
-      more = parent-shorter (states rules) symbols t trie c pos lt
+      below : parent t c < length (states (set .rules))
+      below = omega (arith, trie .linked .up c behind lt)
+
+      more : length (text (set .rules) c) ≡ length (text (set .rules) (parent t c)) + 1
+      more = parent-shorter (root (set .rules)) (states (set .rules)) (set .symbols) t trie c other lt
 
       above : RightState (parent t c)
       above = shorter (parent t c) below (omega (arith, more))
 
-      over : 0 < parent t c → RightState (failure t (parent t c))
+      over : parent t c ≢ root (set .rules) → RightState (failure t (parent t c))
       over high =
-          let g = fails-to rules (text rules (parent t c)) (state-long rules (parent t c) high below) (failure t (parent t c)) (above .fails high) in
+          let g =
+          fails-to (set .rules) (text (set .rules) (parent t c)) (state-long (set .rules) (parent t c) high below) (failure t (parent t c))
+          (above .fails high)
+          in
           shorter (failure t (parent t c)) (g .place) (omega (arith, g .short, more))
 
-      own : RightFailure rules t c
+      own : RightFailure (set .rules) t c
       own =
-          each c pos lt .failing
-          ∙ failure-found rules symbols t rows trie c pos lt (above .fails) (λ high. over high .row (symbol t c) (trie .small c pos lt))
+          each c behind lt .failing
+          ∙ failure-found set t rows trie c other lt (above .fails) (λ high. over high .row (symbol t c) (trie .small c behind lt))
 
-      f : FailsTo rules (text rules c) (failure t c)
-      f = fails-to rules (text rules c) long (failure t c) own
+      f : FailsTo (set .rules) (text (set .rules) c) (failure t c)
+      f = fails-to (set .rules) (text (set .rules) c) long (failure t c) own
 
       base : RightState (failure t c)
       base = shorter (failure t c) (f .place) (f .short)
 
   -- A table whose every state passes its tests is the rules' table.
-  pub consistent-right : RightTable rules symbols matches rows
+  pub consistent-right : RightTable (set .rules) (set .symbols) matches rows
   consistent-right =
       record {
-        right-next = λ c a lt small. all (suc (length (text rules c))) c lt (omega arith) .row a small;
-        right-match = λ c lt. all (suc (length (text rules c))) c lt (omega arith) .word;
+        right-next = λ c a lt small. all (suc (length (text (set .rules) c))) c lt (omega arith) .row a small;
+        right-match = λ c lt. all (suc (length (text (set .rules) c))) c lt (omega arith) .word;
       }
     where
-      turn : (c : ℕ) → c < length (states rules)
-          → ((b : ℕ) → b < length (states rules) → length (text rules b) < length (text rules c) → RightState b)
-          → (b : Bool) → ltb 0 c ≡ b → RightState c
-      turn c lt shorter true l = state-right c (ltb-true 0 c l) lt shorter
-      turn c lt shorter false l = let none : c ≡ 0 = omega (arith, ltb-false 0 c l) in rw none root-right
+      turn : (c : ℕ) → c < length (states (set .rules))
+          → ((b : ℕ) → b < length (states (set .rules)) → length (text (set .rules) b) < length (text (set .rules) c) → RightState b)
+          → (c ≡ root (set .rules)) ⊎ (c ≢ root (set .rules)) → RightState c
+      turn c lt shorter (inl e) = rw e root-right
+      turn c lt shorter (inr other) =
+          ⊎-elim (λ (behind : root (set .rules) < c). state-right c behind lt shorter)
+          (λ (p : (c ≡ 0) × (0 < root (set .rules))). rw (p .0) (mark-right (p .1)))
+          (node-cases (root (set .rules)) (states (set .rules)) (set .symbols) t trie c other)
 
-      all : (d c : ℕ) → c < length (states rules) → length (text rules c) < d → RightState c
+      all : (d c : ℕ) → c < length (states (set .rules)) → length (text (set .rules) c) < d → RightState c
       all zero c lt h = absurd (not-suc-le-zero h)
-      all (suc d) c lt h = turn c lt (λ b below less. all d b below (omega arith)) (ltb 0 c) refl
+      all (suc d) c lt h = turn c lt (λ b below less. all d b below (omega arith)) (same-or (root (set .rules)) c)

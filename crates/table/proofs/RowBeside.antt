@@ -73,7 +73,3 @@ module _ {rules : List Rule} {v : List ℕ} {w : ℕ → List ℕ} (inherits : I
       go true k d e = placed a lt k ∙ ap (number (states rules)) (sym (next-listed rules v a k))
       go false k true e = eqb-true (here a) (base a) e ∙ based a lt ∙ ap (number (states rules)) (sym (inherits .other a k))
       go false k false e = let r = back (rw e) in let z : _≡_ {A = ℕ} 0 1 = cc in absurd (omega arith)
-
--- the root's row begins the rows
-pub root-row : (rows : List ℕ) (symbols a : ℕ) → transition rows symbols 0 a ≡ getD rows a 0
-root-row rows symbols a = let at : 0 * symbols + a ≡ a = omega arith in rw at

@@ -110,9 +110,9 @@ module _ (set : RuleSet) (table : List ℕ) {n s : ℕ} (all : n ≡ length (sta
           words-are table n s (length (states (set .rules)) * set .symbols) sized rows rows-long matches
           ∙ rw (all, width, filled, written)
 
--- the number of words by the number of states that were built, within document 01's bound
+-- the number of words by the number of states that were built, within its bound
 pub words-built : (image : List ℕ) → valid image ≡ true → (n : ℕ) (t : List ℕ) → Built (read image) n t → (s : ℕ) → s ≡ read image .symbols
-    → (2 + n + n * s ≡ length (tableOf (read image))) × (2 + n + n * s ≤ 16931)
+    → (2 + n + n * s ≡ length (tableOf (read image))) × (2 + n + n * s ≤ 16964)
 words-built image e n t b s is =
     let w : 2 + n + n * s ≡ length (tableOf (read image)) = rw (b .nodes, is) (sym (length-table (read image))) in
     (w, rw w (table-length (read image) (valid-in-range image e)))

@@ -15,7 +15,7 @@ use Rattle.table.proofs.write.Tie as tie
 
 -- the area has room for the first words
 some : (c : tie.Start) → 2 + c .args .n ≤ length (c .args .table .now)
-some c = area-some (read (c .args .image .now)) (c .args .table .now) (c .pre .1 .0 .nodes) refl (c .pre .1 .1)
+some c = area-some (read (c .args .image .now)) (c .args .table .now) (c .pre .1 .1 .0 .nodes) refl (c .pre .1 .1 .1)
 
 symbols-requires : tie.Need-symbols-requires
 symbols-requires c κs = search needs
@@ -23,7 +23,7 @@ symbols-requires c κs = search needs
 cast-table : tie.Need-cast-table
 cast-table c =
     let start = c .before .before .before .before in
-    omega (arith, start .pre .1 .0 .nodes, few-states _ (valid-in-range _ (start .pre .0)))
+    omega (arith, start .pre .1 .1 .0 .nodes, few-states _ (valid-in-range _ (start .pre .0)))
 
 slice-write-table : tie.Need-slice-write-table
 slice-write-table c =
@@ -62,9 +62,9 @@ part-fill-end c = search needs
 fill-requires : tie.Need-fill-requires
 fill-requires c κs =
     let start = c .before .before .before .before .before .before in
-    let size = rows-room (read (start .args .image .now)) (start .args .table .now) (start .pre .1 .0 .nodes) (c .before .before .symbols .ensures)
-    (start .pre .1 .1) in
-    (start .pre .0, (start .pre .1 .0, size))
+    let size = rows-room (read (start .args .image .now)) (start .args .table .now) (start .pre .1 .1 .0 .nodes) (c .before .before .symbols .ensures)
+    (start .pre .1 .1 .1) in
+    (start .pre .0, (start .pre .1 .0, (start .pre .1 .1 .0, size)))
 
 sub-write-matches : tie.Need-sub-write-matches
 sub-write-matches c = search needs
@@ -77,22 +77,22 @@ part-write-matches-end c =
     let filled = c .before .before .before .before .before in
     let read-symbols = filled .before .before .before in
     let start = read-symbols .before .before .before .before in
-    matches-end (read (start .args .image .now)) (start .args .table .now) (start .pre .1 .0 .nodes) (read-symbols .symbols .ensures) (start .pre .1 .1)
-    (filled .fill .last .1 .1 .1 .0) (filled .fill .ensures .table)
+    matches-end (read (start .args .image .now)) (start .args .table .now) (start .pre .1 .1 .0 .nodes) (read-symbols .symbols .ensures) (start .pre .1 .1 .1)
+    (filled .fill .last .1 .1 .1 .1 .0) (filled .fill .ensures .table)
 
 write-matches-requires : tie.Need-write-matches-requires
 write-matches-requires c κs =
     let filled = c .before .before .before .before .before .before in
     let read-symbols = filled .before .before .before in
     let start = read-symbols .before .before .before .before in
-    let trie = start .pre .1 .0 in (
+    let trie = start .pre .1 .1 .0 in (
       filled .fill .ensures .matches,
       (
         trie .nodes,
         (
           omega (arith, filled .fill .ensures .size, trie .trie .linked .size, trie .nodes),
-          matches-room (read (start .args .image .now)) (start .args .table .now) (start .pre .1 .0 .nodes) (read-symbols .symbols .ensures) (start .pre .1 .1)
-              (filled .fill .last .1 .1 .1 .0) (filled .fill .ensures .table),
+          matches-room (read (start .args .image .now)) (start .args .table .now) (start .pre .1 .1 .0 .nodes) (read-symbols .symbols .ensures) (start .pre .1 .1 .1)
+              (filled .fill .last .1 .1 .1 .1 .0) (filled .fill .ensures .table),
         ),
       ),
     )
@@ -106,8 +106,8 @@ same-length-2 c =
     let filled = written .before .before .before .before .before .before .before in
     let read-symbols = filled .before .before .before in
     let start = read-symbols .before .before .before .before in
-    area-length (read (start .args .image .now)) (start .args .table .now) (start .pre .1 .0 .nodes) (read-symbols .symbols .ensures) (start .pre .1 .1)
-    (filled .fill .last .1 .1 .1 .0) (filled .fill .ensures .table) (written .write-matches .last .1 .1 .1 .0) (written .write-matches .ensures)
+    area-length (read (start .args .image .now)) (start .args .table .now) (start .pre .1 .1 .0 .nodes) (read-symbols .symbols .ensures) (start .pre .1 .1 .1)
+    (filled .fill .last .1 .1 .1 .1 .0) (filled .fill .ensures .table) (written .write-matches .last .1 .1 .1 .0) (written .write-matches .ensures)
 
 returns : tie.Need-returns
 returns c =
@@ -115,8 +115,8 @@ returns c =
     let filled = written .before .before .before .before .before .before .before in
     let read-symbols = filled .before .before .before in
     let start = read-symbols .before .before .before .before in
-    table-written (read (start .args .image .now)) (start .args .table .now) (start .pre .1 .0 .nodes) (read-symbols .symbols .ensures) (start .pre .1 .1)
-    (filled .fill .last .1 .1 .1 .0) (filled .fill .ensures .table) (written .write-matches .last .1 .1 .1 .0) (written .write-matches .ensures)
+    table-written (read (start .args .image .now)) (start .args .table .now) (start .pre .1 .1 .0 .nodes) (read-symbols .symbols .ensures) (start .pre .1 .1 .1)
+    (filled .fill .last .1 .1 .1 .1 .0) (filled .fill .ensures .table) (written .write-matches .last .1 .1 .1 .0) (written .write-matches .ensures)
 
 pub write-spec : {M : Type 1} → statement M
 write-spec =

@@ -12,10 +12,10 @@ use Rattle.table.proofs.compare.holds.Tie as tie
 
 -- the table's words are few
 small : (c : tie.After-symbols)
-    → 2 + c .before .before .before .before .args .n + (c .before .before .before .before .args .n) * (c .symbols .result) ≤ 16931
+    → 2 + c .before .before .before .before .args .n + (c .before .before .before .before .args .n) * (c .symbols .result) ≤ 16964
 small c =
     let start = c .before .before .before .before in
-    table-small (read (start .args .image .now)) (start .args .table .now) (start .pre .1 .nodes) (c .symbols .ensures)
+    table-small (read (start .args .image .now)) (start .args .table .now) (start .pre .1 .1 .nodes) (c .symbols .ensures)
     (valid-in-range (start .args .image .now) (start .pre .0))
 
 symbols-requires : tie.Need-symbols-requires
@@ -33,7 +33,7 @@ add-end c = omega (arith, small c)
 returns : tie.Need-returns
 returns c =
     let start = c .before .before .before .before .before in
-    short-table (read (start .args .image .now)) (start .args .table .now) (start .pre .1 .nodes) (c .before .symbols .ensures) (c .if1 .taken)
+    short-table (read (start .args .image .now)) (start .args .table .now) (start .pre .1 .1 .nodes) (c .before .symbols .ensures) (c .if1 .taken)
 
 shared-slice-read-word : tie.Need-shared-slice-read-word
 shared-slice-read-word c = search needs
@@ -45,7 +45,7 @@ returns-2 : tie.Need-returns-2
 returns-2 c =
     let symbols = c .before .before .before .before in
     let start = symbols .before .before .before .before in
-    other-states (read (start .args .image .now)) (start .args .table .now) (start .pre .1 .nodes) (symbols .symbols .ensures)
+    other-states (read (start .args .image .now)) (start .args .table .now) (start .pre .1 .1 .nodes) (symbols .symbols .ensures)
     (λ e. c .if2 .taken (c .before .word .ensures ∙ e))
 
 shared-slice-read-word-2 : tie.Need-shared-slice-read-word-2
@@ -58,7 +58,7 @@ returns-3 : tie.Need-returns-3
 returns-3 c =
     let symbols = c .before .before .before .before .before .before .before in
     let start = symbols .before .before .before .before in
-    other-symbols (read (start .args .image .now)) (start .args .table .now) (start .pre .1 .nodes) (symbols .symbols .ensures)
+    other-symbols (read (start .args .image .now)) (start .args .table .now) (start .pre .1 .1 .nodes) (symbols .symbols .ensures)
     (λ e. c .if3 .taken (c .before .word2 .ensures ∙ e))
 
 sub-states-hold : tie.Need-sub-states-hold
@@ -87,8 +87,8 @@ states-hold-requires c κs =
     let sized = c .before .before .before .before .before .before .before .before .before in
     let symbols = sized .before in
     let start = symbols .before .before .before .before in
-    let parts = part-lengths (read (start .args .image .now)) (start .args .table .now) (start .pre .1 .nodes) (symbols .symbols .ensures) (sized .if1 .left) in
-    (start .pre .0, (start .pre .1, parts))
+    let parts = part-lengths (read (start .args .image .now)) (start .args .table .now) (start .pre .1 .1 .nodes) (symbols .symbols .ensures) (sized .if1 .left) in
+    (start .pre .0, (start .pre .1 .0, (start .pre .1 .1, parts)))
 
 same-length : tie.Need-same-length
 same-length c = search needs
@@ -103,7 +103,7 @@ returns-4 c =
     let sized = word .before .before in
     let symbols = sized .before in
     let start = symbols .before .before .before .before in
-    compared (read (start .args .image .now)) (start .args .table .now) (start .pre .1 .nodes) (symbols .symbols .ensures)
+    compared (read (start .args .image .now)) (start .args .table .now) (start .pre .1 .1 .nodes) (symbols .symbols .ensures)
     (valid-in-range (start .args .image .now) (start .pre .0)) (sized .if1 .left)
     (sym (word .word .ensures) ∙ second .if2 .left) (sym (word2 .word2 .ensures) ∙ third .if3 .left)
     (states-hold .states-hold .result) (states-hold .states-hold .ensures)

@@ -1,4 +1,4 @@
--- `table::compare::transitions` meets its contract. The loop's invariant: n words of the first a are not 0.
+-- `table::compare::transitions` meets its contract. The loop's invariant: n words of the first a lead away from the root.
 -- Assumes nothing.
 use Prim.Native.Nat.{ℕ, _+_, _-_, _≤_}
 use mathlib.Core.Path.{_≡_, refl, sym, ap, _∙_}
@@ -6,8 +6,8 @@ use mathlib.Core.Bool.{not}
 use mathlib.Core.Logic.{⊎-elim}
 use native.Mathlib.Omega.{arith}
 use lib.Dec.{eqb}
-use lib.ListN.{getD}
 use borrow.Author.Needs.{needs}
+use Rattle.layout.specs.Words.{transition}
 use Rattle.trie.specs.Nodes.{tally}
 use Rattle.table.specs.Consistent.{leaving}
 use Rattle.trie.proofs.Tally.{tally-differ, tally-equal}
@@ -15,20 +15,34 @@ use Rattle.table.proofs.compare.transitions.Statement.{statement}
 use Rattle.table.proofs.compare.transitions.Tie as tie
 
 abbrev Inv-loop : tie.InvT-loop
-Inv-loop rows s n₀ a₀ n a = (a ≤ s) × (n ≤ a) × (n ≡ tally (λ k. not (eqb (getD rows k 0) 0)) a)
+Inv-loop rows s root first own n₀ a₀ n a = (a ≤ s) × (n ≤ a) × (n ≡ tally (λ k. not (eqb (transition rows s root k) root)) a)
 
 abbrev μ-loop : tie.MeasureT-loop
-μ-loop rows s n₀ a₀ n a = s - a
+μ-loop rows s root first own n₀ a₀ n a = s - a
+
+mul-first : tie.Need-mul-first Inv-loop μ-loop
+mul-first c =
+    omega arith
+
+cast-own : tie.Need-cast-own Inv-loop μ-loop
+cast-own c = search needs
 
 loop-holds : tie.Need-loop-holds Inv-loop μ-loop
 unfolding tally
-loop-holds c = (omega arith, omega arith, refl)
+loop-holds c =
+    (omega arith, omega arith, refl)
+
+add-if1 : tie.Need-add-if1 Inv-loop μ-loop
+add-if1 c =
+    omega arith
 
 mul-if1 : tie.Need-mul-if1 Inv-loop μ-loop
-mul-if1 c = search needs
+mul-if1 c =
+    omega arith
 
 shared-slice-read-if1 : tie.Need-shared-slice-read-if1 Inv-loop μ-loop
-shared-slice-read-if1 c = search needs
+shared-slice-read-if1 c =
+    omega arith
 
 add-n : tie.Need-add-n Inv-loop μ-loop
 add-n c = search needs
@@ -41,21 +55,24 @@ loop-less c = search needs
 
 loop-again : tie.Need-loop-again Inv-loop μ-loop
 loop-again c =
-    let turn = c .before .before .before in
-    let start = turn .before in
-    let own : ℕ → ℕ = λ k. getD (start .args .rows .now) k 0 in
-    let known = turn .loop .inv .2 in
+    let loop = c .before .before .before in
+    let start = loop .before in
+    let row : ℕ → ℕ = λ k. transition (start .args .rows .now) (start .args .s) (start .args .root) k in
+    let turn = loop .loop in
+    let known = turn .inv .2 in
     ⊎-elim
-    (λ w. (omega arith, omega arith, w .1 ∙ ap (λ (n : ℕ). n + 1) known ∙ sym (tally-differ own (λ k. 0) (turn .loop .a) (w .0 .taken))))
-    (λ w. (omega arith, omega arith, w .1 ∙ known ∙ sym (tally-equal own (λ k. 0) (turn .loop .a) (w .0 .left))))
+    (λ w. (omega arith, omega arith, w .1 ∙ ap (λ (n : ℕ). n + 1) known ∙ sym (tally-differ row (λ k. start .args .root) (turn .a) (w .0 .taken))))
+    (λ w. (omega arith, omega arith, w .1 ∙ known ∙ sym (tally-equal row (λ k. start .args .root) (turn .a) (w .0 .left))))
     (c .if1 .came)
 
 returns : tie.Need-returns Inv-loop μ-loop
 unfolding leaving
 returns c =
     let loop = c .before in
-    let done : loop .loop .a ≡ c .before .before .args .s = omega arith in
-    rw (← done) (loop .loop .inv .2)
+    let start = loop .before in
+    let row : ℕ → ℕ = λ k. transition (start .args .rows .now) (start .args .s) (start .args .root) k in
+    let done : loop .loop .a ≡ start .args .s = omega arith in
+    loop .loop .inv .2 ∙ ap (λ (m : ℕ). tally (λ k. not (eqb (row k) (start .args .root))) m) done
 
 pub transitions-spec : {M : Type 1} → statement M
 transitions-spec =
@@ -63,7 +80,10 @@ transitions-spec =
     (tie.spec
     Inv-loop
     μ-loop
+    mul-first
+    cast-own
     loop-holds
+    add-if1
     mul-if1
     shared-slice-read-if1
     add-n
