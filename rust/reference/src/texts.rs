@@ -211,6 +211,9 @@ pub fn tokens(set: &RuleSet, symbols: &[Name], verdicts: &[Name]) -> Vec<Vec<u8>
                 .map(|&symbol| symbols[usize::from(symbol)].clone())
                 .collect()
         };
+        if rule.marked {
+            tokens.push(b"^".to_vec());
+        }
         tokens.extend(names(&rule.left));
         tokens.push(b"->".to_vec());
         match &rule.right {
