@@ -240,14 +240,13 @@ fn next_state(states: &[Vec<Symbol>], string: &[Symbol], symbol: Symbol) -> usiz
         .expect("the empty string is a state")
 }
 
-/// The match word: 1 + the rule with the longest left side that is a suffix of `string`, the lowest
-/// rule among equals; 0 if there is none. The mark is longer than nothing, so a marked left side comes
-/// before the same symbols without a mark.
-fn match_word(set: &RuleSet, string: &[Symbol]) -> usize {
+/// The match word: 1 + the rule with the longest of these left sides that is a suffix of `string`, the
+/// lowest rule among equals; 0 if there is none. A mark counts, so a marked left side comes before the
+/// same symbols without a mark.
+fn match_word(lefts: &[Vec<Symbol>], string: &[Symbol]) -> usize {
     for length in (1..=string.len()).rev() {
         let suffix = &string[string.len() - length..];
-        let is_suffix = |rule: &Rule| rule.left_with_mark() == suffix;
-        if let Some(rule) = set.rules.iter().position(is_suffix) {
+        if let Some(rule) = lefts.iter().position(|left| left == suffix) {
             return 1 + rule;
         }
     }
@@ -265,8 +264,9 @@ pub fn table(set: &RuleSet) -> Vec<u16> {
     let states = states(set);
     let word = |number: usize| u16::try_from(number).expect("a number that fits in a word");
     let mut table = vec![word(states.len()), set.symbols.into()];
+    let lefts: Vec<Vec<Symbol>> = set.rules.iter().map(Rule::left_with_mark).collect();
     for string in &states {
-        table.push(word(match_word(set, string)));
+        table.push(word(match_word(&lefts, string)));
     }
     for string in &states {
         for symbol in 0..set.symbols {
