@@ -117,6 +117,15 @@ impl Shape {
         Shape::NoRules,
     ];
 
+    /// A rule set of this shape, without marks or with.
+    pub fn either(self, random: &mut Random) -> RuleSet {
+        if random.once_in(2) {
+            self.with_marks(random)
+        } else {
+            self.rule_set(random)
+        }
+    }
+
     /// A rule set of this shape with marks, if it has rules.
     pub fn with_marks(self, random: &mut Random) -> RuleSet {
         let set = self.rule_set(random);
@@ -213,6 +222,15 @@ impl Habit {
         Habit::Judge,
         Habit::Mixed,
     ];
+
+    /// A rule set with this habit, without marks or with.
+    pub fn either(self, random: &mut Random) -> RuleSet {
+        if random.once_in(2) {
+            self.with_marks(random)
+        } else {
+            self.rule_set(random)
+        }
+    }
 
     /// A rule set with this habit and with marks.
     pub fn with_marks(self, random: &mut Random) -> RuleSet {

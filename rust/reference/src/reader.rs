@@ -494,11 +494,9 @@ mod tests {
         for round in 0..2_000 {
             let shape = Shape::ALL[random.below(Shape::ALL.len())];
             let habit = Habit::ALL[random.below(Habit::ALL.len())];
-            let set = match round % 4 {
-                0 => shape.rule_set(&mut random),
-                1 => habit.rule_set(&mut random),
-                2 => shape.with_marks(&mut random),
-                _ => habit.with_marks(&mut random),
+            let set = match round % 2 {
+                0 => shape.either(&mut random),
+                _ => habit.either(&mut random),
             };
             let naming = Naming::ALL[random.below(Naming::ALL.len())];
             let spacing = Spacing::ALL[random.below(Spacing::ALL.len())];

@@ -167,10 +167,7 @@ mod tests {
         let mut random = Random::new(3);
         for habit in Habit::ALL {
             for _ in 0..20 {
-                let set = match random.once_in(2) {
-                    true => habit.with_marks(&mut random),
-                    false => habit.rule_set(&mut random),
-                };
+                let set = habit.either(&mut random);
                 let text = texts::write(&mut random, &set, Naming::Short, Spacing::One);
                 let (mut input, reading) = (text.text, text.reading);
                 let lent = Lent::of(&reading.set);

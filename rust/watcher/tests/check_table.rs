@@ -156,10 +156,7 @@ fn tables_of_other_rule_sets() {
     };
     for index in 0..3_000 {
         let shape = [Shape::TwoSymbols, Shape::Nested, Shape::Equal, Shape::Any][index % 4];
-        let case = Case::new(match random.once_in(2) {
-            false => shape.rule_set(&mut random),
-            true => shape.with_marks(&mut random),
-        });
+        let case = Case::new(shape.either(&mut random));
         let mut set = case.set.clone();
         let rule = random.below(set.rules.len());
         match random.below(7) {

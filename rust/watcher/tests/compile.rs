@@ -39,11 +39,8 @@ fn random_rule_sets() {
     let mut lengths_seen = [0; 9];
     let mut verdicts_seen = [0; 16];
     for shape in Shape::ALL {
-        for round in 0..2_000 {
-            let case = Case::new(match round % 2 {
-                0 => shape.rule_set(&mut random),
-                _ => shape.with_marks(&mut random),
-            });
+        for _ in 0..2_000 {
+            let case = Case::new(shape.either(&mut random));
             let needed = case.table.len();
             case.compile_into(needed);
             case.compile_into(needed - 1);
@@ -277,10 +274,7 @@ fn one_area_for_many_rule_sets() {
     let mut refused = 0;
     for _ in 0..1_000 {
         let shape = Shape::ALL[random.below(Shape::ALL.len())];
-        let case = Case::new(match random.once_in(2) {
-            false => shape.rule_set(&mut random),
-            true => shape.with_marks(&mut random),
-        });
+        let case = Case::new(shape.either(&mut random));
         let lent = random.within(0, 2 * case.table.len()).min(area.len());
         let found = watcher::compile(&case.image, &mut area[..lent]);
         if lent < case.table.len() {

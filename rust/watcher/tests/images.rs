@@ -325,10 +325,7 @@ fn lengths_that_make_up_for_each_other() {
     let mut tables = 0;
     for case in 0..6_000 {
         let shape = [Shape::TwoSymbols, Shape::Nested, Shape::Equal][case % 3];
-        let mut image = match case % 2 {
-            0 => reference::encode(&shape.rule_set(&mut random)),
-            _ => reference::encode(&shape.with_marks(&mut random)),
-        };
+        let mut image = reference::encode(&shape.either(&mut random));
         let rules = usize::from(image[1]);
         let mut lengths: Vec<usize> = (0..rules).map(|rule| 4 + 4 * rule).collect();
         lengths.extend(
@@ -360,10 +357,7 @@ fn kinds_changed() {
     let mut tally = Tally::default();
     for case in 0..4_000 {
         let shape = [Shape::Any, Shape::TwoSymbols, Shape::Equal][case % 3];
-        let mut image = match case % 2 {
-            0 => reference::encode(&shape.rule_set(&mut random)),
-            _ => reference::encode(&shape.with_marks(&mut random)),
-        };
+        let mut image = reference::encode(&shape.either(&mut random));
         let entry = 4 + 4 * random.below(image[1].into());
         let right = usize::from(image[entry + 2]);
         if image[entry + 1] == 0 {
@@ -502,10 +496,7 @@ fn several_bytes_changed() {
     let mut tally = Tally::default();
     for case in 0..60_000 {
         let shape = Shape::ALL[case % 5];
-        let mut image = match case % 2 {
-            0 => reference::encode(&shape.rule_set(&mut random)),
-            _ => reference::encode(&shape.with_marks(&mut random)),
-        };
+        let mut image = reference::encode(&shape.either(&mut random));
         for _ in 0..random.within(1, 3) {
             let place = random.below(image.len());
             image[place] = match random.below(4) {
