@@ -228,6 +228,22 @@ pub fn tokens(set: &RuleSet, symbols: &[Name], verdicts: &[Name]) -> Vec<Vec<u8>
     tokens
 }
 
+/// The tokens with one to three `^` more: where a rule begins, where a `^` stands, or anywhere.
+pub fn with_more_marks(random: &mut Random, tokens: &[Vec<u8>]) -> Vec<Vec<u8>> {
+    let mut tokens = tokens.to_vec();
+    for _ in 0..random.within(1, 3) {
+        let begins: Vec<usize> = (1..=tokens.len())
+            .filter(|&place| [&b"."[..], b"^"].contains(&&tokens[place - 1][..]))
+            .collect();
+        let place = match begins.len() {
+            count if count > 0 && random.once_in(2) => begins[random.below(count)],
+            _ => random.within(0, tokens.len()),
+        };
+        tokens.insert(place, b"^".to_vec());
+    }
+    tokens
+}
+
 /// The rule set with symbols and verdicts numbered as they first appear, and without those that do not.
 fn renumbered(set: &RuleSet, symbols: &[Name], verdicts: &[Name]) -> Reading {
     // The old numbers in the order of the new ones.
