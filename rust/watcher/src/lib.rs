@@ -61,12 +61,12 @@ marked left side is read only at the start, and there it comes before the same s
 # Monitors
 
 A monitor holds up to [`ROOM`] symbols: settled ones, in which no left side occurs, and then waiting
-ones. A marked left side may stand in their middle, where it does not occur. An offer adds its event to the waiting symbols. Then the call runs, one step after another. A
-step takes the first waiting symbol onto the settled string. If a left side has been read, the longest
-that ends there, its symbols are taken off, and those of the right side are put back before the
-waiting ones; or a verdict is set, and nothing is put back. A call ends when a verdict stands, when no
-symbol waits, when as many steps were taken as it was given fuel, or when the next step would leave
-more symbols than there is room for.
+ones. A marked left side may stand in the middle of the settled ones, where it does not occur. An offer
+adds its event to the waiting symbols. Then the call runs, one step after another. A step takes the first
+waiting symbol onto the settled string. If a left side has been read, the longest that ends there, its
+symbols are taken off, and those of the right side are put back before the waiting ones; or a verdict is
+set, and nothing is put back. A call ends when a verdict stands, when no symbol waits, when as many steps
+were taken as it was given fuel, or when the next step would leave more symbols than there is room for.
 
 So the string is at each time what the events become when the occurrence of a left side that ends
 first is rewritten, then the one that ends first in what that gives, and so on, for as many rewrites as
