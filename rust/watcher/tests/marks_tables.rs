@@ -7,6 +7,7 @@ mod common;
 use common::{expect_check, expect_compile, Case};
 use reference::random::{self, Random, Shape};
 use reference::{marked, string, verdict, Rule, RuleSet, Symbol, MARK};
+use watcher::raw;
 
 /// A rule set over these symbols, all of them events.
 fn set(symbols: u8, rules: Vec<Rule>) -> RuleSet {
@@ -364,6 +365,64 @@ fn each_word_of_the_largest_table_changed() {
     }
     assert_eq!(table, case.table);
     assert!(changed > 4 * 16_964, "{changed} changed");
+}
+
+/// Every single word of the largest table changed: an offer, a go-on and a batch take turns, refuse it and
+/// change nothing.
+#[test]
+fn calls_with_a_word_of_the_largest_table_changed() {
+    let case = Case::new(random::largest_with_marks());
+    let mut table = case.table.clone();
+    let (mut head, mut bytes, mut words) = ([0, 1, 0, 0], [0; 2_048], [0; 2_048]);
+    bytes[2_047] = 5;
+    let before = (head, bytes, words);
+    let mut call = |table: &[u16], turn: usize| {
+        let (image, head) = (&case.image, &mut head);
+        let refusal = match turn % 3 {
+            0 => raw::offer(
+                image,
+                table,
+                head,
+                &mut bytes,
+                &mut words,
+                3,
+                0,
+                &mut [0; 4],
+            ),
+            1 => raw::go_on(image, table, head, &mut bytes, &mut words, 0, &mut [0; 4]),
+            _ => {
+                let (answers, out) = (&mut [], &mut [0; 5]);
+                raw::batch(
+                    image,
+                    table,
+                    head,
+                    &mut bytes,
+                    &mut words,
+                    &[],
+                    0,
+                    answers,
+                    out,
+                )
+            }
+        };
+        (refusal, (*head, bytes, words) == before)
+    };
+    for place in 0..table.len() {
+        let word = table[place];
+        // One more, another state, or the mark alone, which no next state is.
+        table[place] = match place % 3 {
+            0 => word + 1,
+            1 => (word + 257) % 514,
+            _ if word == 0 => 1,
+            _ => 0,
+        };
+        assert_eq!(call(&table, place), (9, true), "word {place}");
+        table[place] = word;
+    }
+    assert_eq!(call(&table[..16_963], 1), (9, true));
+    assert_eq!(call(&table, 1), (0, true));
+    assert_eq!(call(&table, 2), (0, true));
+    assert_eq!(call(&table, 0), (0, false));
 }
 
 /// Rows of the largest table exchanged: each with the next, and drawn ones. Two match words likewise.
