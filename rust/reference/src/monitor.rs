@@ -593,7 +593,7 @@ mod tests {
         assert_eq!((short.refusal, short.answers), (BATCH_LENGTH, vec![7]));
     }
 
-    /// ^ a → fail; b b → empty; a c: words in a marked image, and the mark after a cut.
+    /// ^ a → fail; b b → empty; a c → b: words in a marked image, and the mark after a cut.
     #[test]
     fn marks() {
         let (a, b, c) = (0, 1, 2);
@@ -637,7 +637,7 @@ mod tests {
     }
 
     /// By another way: the word of a settled symbol is the longest state that ends the settled string up to it,
-    /// with the mark before it; and offers with much fuel are the plain rewriter's rewrites, one after another.
+    /// with the mark before it; and the rewrites that an offer reports are those of the plain rewriter.
     #[test]
     fn marks_by_another_way() {
         let mut random = Random::new(6);
