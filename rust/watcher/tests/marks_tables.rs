@@ -210,11 +210,15 @@ fn all_small_rule_sets() {
                 count += 1;
             }
             if rules < most {
-                let longer =
-                    |rules: &Vec<Rule>, left: &Rule| [&rules[..], &[left.clone()]].concat();
                 sets = sets
                     .iter()
-                    .flat_map(|rules| lefts.iter().map(move |left| longer(rules, left)))
+                    .flat_map(|set| {
+                        lefts.iter().map(|left| {
+                            let mut longer = set.clone();
+                            longer.push(left.clone());
+                            longer
+                        })
+                    })
                     .collect();
             }
         }
