@@ -5,7 +5,7 @@
 mod common;
 
 use common::{expect_same, sample};
-use reference::random::{full, largest, overlapping, Habit, Random, Shape};
+use reference::random::{full, largest, largest_with_marks, overlapping, Habit, Random, Shape};
 use reference::reader::{Name, Reading};
 use reference::texts::{write, Naming, Spacing};
 use reference::RuleSet;
@@ -55,8 +55,8 @@ fn one<'a, T: ?Sized>(random: &mut Random, of: &[&'a T]) -> &'a T {
 /// A rule set of any kind.
 fn rule_set(random: &mut Random) -> RuleSet {
     match random.below(10) {
-        0..=3 => Shape::ALL[random.below(Shape::ALL.len())].rule_set(random),
-        _ => Habit::ALL[random.below(Habit::ALL.len())].rule_set(random),
+        0..=3 => Shape::ALL[random.below(Shape::ALL.len())].either(random),
+        _ => Habit::ALL[random.below(Habit::ALL.len())].either(random),
     }
 }
 
@@ -66,7 +66,7 @@ fn run(random: &mut Random, length: usize) -> Name {
     while run.len() < length {
         let byte = match random.below(4) {
             0 => random.byte(),
-            1 => b"\0%#.-,>_\x80\xff"[random.below(10)],
+            1 => b"\0%#.-,>_^\x80\xff"[random.below(11)],
             _ => b'a' + random.below(26) as u8,
         };
         if !b" \t\r\n".contains(&byte) {
@@ -88,7 +88,10 @@ fn name(random: &mut Random, reading: &Reading) -> Name {
         0..=2 => symbol.clone(),
         3 => verdict.clone(),
         4 => [b"#", &verdict[..]].concat(),
-        5 => one(random, &["#epsilon", "->", ".", "%", "events", "-", ","]).into(),
+        5 => {
+            let odd = ["#epsilon", "->", ".", "%", "events", "-", ",", "^", "^^"];
+            one(random, &odd).into()
+        }
         6 => {
             let length = random.within(1, 30);
             run(random, length)
@@ -168,7 +171,7 @@ fn long_runs() {
     let mut seen = Seen::default();
     for _ in 0..150 {
         let habit = [Habit::Grow, Habit::Loop, Habit::Chain, Habit::Mixed][random.below(4)];
-        let mut set = habit.rule_set(&mut random);
+        let mut set = habit.either(&mut random);
         // Verdicts would end most of these runs soon.
         if !random.once_in(4) {
             set.rules
@@ -184,10 +187,11 @@ fn long_runs() {
 fn the_most_rules() {
     let mut random = Random::new(103);
     let mut seen = Seen::default();
-    for round in 0..60 {
-        let set = match round % 4 {
+    for round in 0..75 {
+        let set = match round % 5 {
             0 => largest(),
             1 => overlapping(random.within(2, 32) as u8),
+            2 => largest_with_marks(),
             _ => {
                 let symbols = random.within(1, 32) as u8;
                 let used = random.within(1, symbols.min(3).into()) as u8;
@@ -208,7 +212,7 @@ fn damage(random: &mut Random, bytes: &mut Vec<u8>) {
     let place = random.within(0, bytes.len());
     let byte = match random.below(3) {
         0 => random.byte(),
-        _ => b" \t\r\n%#.->aZ0_\0\x80"[random.below(15)],
+        _ => b" \t\r\n%#.->^aZ0_\0\x80"[random.below(16)],
     };
     match random.below(8) {
         0 => bytes.truncate(place),
@@ -288,9 +292,9 @@ fn tokens() {
     let mut seen = Seen::default();
     let tokens = [
         "a", "b", "c", "a", "b", "->", "->", ".", ".", "#fail", "#x", "#epsilon", "%", "events",
-        "A.",
+        "A.", "^", "^",
     ];
-    for _ in 0..700 {
+    for _ in 0..900 {
         let count = random.within(0, 12);
         let mut list: Vec<&str> = Vec::new();
         match random.below(10) {
@@ -306,6 +310,9 @@ fn tokens() {
                 "b b -> a c .",
                 "c -> #epsilon .",
                 "b -> b b .",
+                "^ a -> #y .",
+                "^ b b -> b .",
+                "^ b -> #epsilon .",
             ];
             list.push(one(&mut random, &rule));
         }
@@ -319,6 +326,23 @@ fn tokens() {
         seen.compare(&spacing.join(&mut random, &list));
     }
     seen.expect("nothing quiet spent verdict full 3 4 6 12 14 15");
+}
+
+/// The sample with `^ take` for `take`, with a `^` at every place, joined to a token or apart.
+#[test]
+fn a_mark_at_every_place() {
+    let input =
+        "events lock take free . lock take -> held . held free -> #epsilon . ^ take -> #fail . \
+                 % take lock take free free take"
+            .as_bytes();
+    let mut seen = Seen::default();
+    for place in 0..=input.len() {
+        for more in ["^", " ^ "] {
+            let (before, after) = input.split_at(place);
+            seen.compare(&[before, more.as_bytes(), after].concat());
+        }
+    }
+    seen.expect("quiet verdict 3 4 12 14");
 }
 
 /// Bytes of any kind, and of few kinds.
@@ -336,7 +360,7 @@ fn any_bytes() {
             0 => &[],
             1 => b"a%",
             2 => b" .a",
-            _ => b"events a .->%#\n",
+            _ => b"events a .->%#^\n",
         };
         let mut input = match random.below(3) {
             0 => b"events a .".to_vec(),

@@ -406,6 +406,119 @@ fn worked_rule_sets() {
     );
 }
 
+/// Rules for the start of the string.
+#[test]
+fn marks() {
+    let rules =
+        "events lock take free . lock take -> held . held free -> #epsilon . ^ take -> #fail . ";
+    expect(format!("{rules}% lock take free take"), SAMPLE_LINES);
+    expect(
+        format!("{rules}% free take lock take free take"),
+        "free quiet 1 0 free\n\
+         take quiet 1 0 free,take\n\
+         lock quiet 1 0 free,take,lock\n\
+         take quiet 2 1 free,take,held\n\
+         free quiet 1 1 free,take\n\
+         take quiet 1 0 free,take,take\n",
+    );
+    expect(
+        "events lock take free . ^ take -> #fail . % take take",
+        "take #fail 1 1 -\ntake refused 14\n",
+    );
+    // The sample as it is reissued, under the choice of what begins first.
+    expect(
+        "events lock take free . lock take -> held . held free -> #epsilon . ^ take -> #fail . \
+         held take -> #fail . % lock take free take",
+        SAMPLE_LINES,
+    );
+    // A string for the start, and none.
+    expect(
+        "events a b . ^ a -> b b . ^ b b -> #epsilon . % b a a b b a",
+        "b quiet 1 0 b\n\
+         a quiet 1 0 b,a\n\
+         a quiet 1 0 b,a,a\n\
+         b quiet 1 0 b,a,a,b\n\
+         b quiet 1 0 b,a,a,b,b\n\
+         a quiet 1 0 b,a,a,b,b,a\n",
+    );
+    expect(
+        "events a b . ^ a -> b b . ^ b b -> #epsilon . % a a b b",
+        "a quiet 3 2 -\na quiet 3 2 -\nb quiet 1 0 b\nb quiet 1 1 -\n",
+    );
+    // Marked before unmarked on the same span, whatever their numbers.
+    for rules in [
+        "a -> #late . ^ a -> #early . ^ a -> #never .",
+        "^ a -> #early . a -> #late . ^ a -> #never .",
+        "^ a -> #early . ^ a -> #never . a -> #late .",
+    ] {
+        expect(format!("events a b . {rules} % a"), "a #early 1 1 -\n");
+        expect(
+            format!("events a b . {rules} % b a"),
+            "b quiet 1 0 b\na #late 1 1 b\n",
+        );
+    }
+    // The rest beside a verdict of the start; behind another symbol there is none.
+    let rules = "events a b . a -> c d b . ^ c -> #stop .";
+    expect(format!("{rules} % a b"), "a #stop 2 2 d,b\nb refused 14\n");
+    expect(
+        format!("{rules} % b a"),
+        "b quiet 1 0 b\na quiet 4 1 b,c,d,b\n",
+    );
+}
+
+/// Texts that break at a `^` or behind one.
+#[test]
+fn refused_marks() {
+    for (input, output) in [
+        ("^ events a . % a", "rules refused 4 0\n"),
+        ("events ^ a . % a", "rules refused 4 7\n"),
+        ("events a ^ . % a", "rules refused 4 9\n"),
+        ("events a . ^a -> a . % a", "rules refused 3 11\n"),
+        ("events a . ^ ^ a -> a . % a", "rules refused 4 13\n"),
+        ("events a . ^ -> a . % a", "rules refused 4 13\n"),
+        ("events a . ^ . % a", "rules refused 4 13\n"),
+        ("events a . ^ #x . % a", "rules refused 4 13\n"),
+        ("events a . a ^ -> a . % a", "rules refused 4 13\n"),
+        ("events a . a -> ^ a . % a", "rules refused 4 16\n"),
+        ("events a . a -> a ^ . % a", "rules refused 4 18\n"),
+        // The `%` ends the text behind a `^`.
+        ("events a . ^ % a", "rules refused 4 13\n"),
+        ("events a . ^% a -> a .", "rules refused 4 12\n"),
+        ("events a . ^ a -> a . ^%", "rules refused 4 23\n"),
+        (
+            "events a . ^ a a a a a a a a a -> a . % a",
+            "rules refused 5 29\n",
+        ),
+    ] {
+        expect(input, output);
+    }
+    let rules = "events a .".to_string() + &" ^ b -> a .".repeat(64);
+    expect(format!("{rules}%a"), "a quiet 1 0 a\n");
+    // Behind `events a .` stand 64 rules of eleven bytes, and ` ^ `.
+    expect(format!("{rules} ^ b -> a .%a"), "rules refused 5 717\n");
+    expect(format!("{rules} ^ -> a .%a"), "rules refused 4 717\n");
+    expect(format!("{rules} ^%a"), "rules refused 4 716\n");
+}
+
+/// A `^` behind the `%` is a name that no symbol has.
+#[test]
+fn marks_behind_the_percent_sign() {
+    for rules in [
+        "events a .",
+        "events a . ^ a -> b .",
+        "events a . ^ a -> #fail .",
+    ] {
+        expect(
+            format!("{rules} %^ ^ ^a a^ ^^ ^%"),
+            "^ refused 12\n^ refused 12\n^a refused 12\na^ refused 12\n^^ refused 12\n^% refused 12\n",
+        );
+    }
+    expect(
+        "events a . ^ a -> #fail . % a ^ a ^",
+        "a #fail 1 1 -\n^ refused 12\na refused 14\n^ refused 12\n",
+    );
+}
+
 #[test]
 fn verdicts() {
     expect(

@@ -1,10 +1,10 @@
 /*!
 Rule texts, rule images, matching tables, the plain rewriter and the monitor, computed naively.
 
-This is the model that the tests compare the library with. It follows the words of document 01 one
-by one: states are strings, a next state is found by trying every suffix, a match by trying every
-rule. There is no trie and there are no failure states here, and nothing is shared with the library,
-so that a mistake in the one is not a mistake in the other.
+This is the model that the tests compare the library with. It follows the words of document 01, and of
+the start mark's request in document 02, one by one: states are strings, a next state is found by trying
+every suffix, a match by trying every rule. There is no trie and there are no failure states here, and
+nothing is shared with the library, so that a mistake in the one is not a mistake in the other.
 
 * [`RuleSet`] and [`Rule`]: the rules, as strings of symbols.
 * [`encode`], [`parse`]: rule sets to images and back.
@@ -30,6 +30,10 @@ pub mod watch;
 /// A symbol: a number below the number of symbols.
 pub type Symbol = u8;
 
+/// The start mark in the strings of a table's states, where it counts as a symbol that stands before the
+/// string. It is no symbol of a rule set, and no string that is held or rewritten has it.
+pub const MARK: Symbol = Symbol::MAX;
+
 /// Refusal 7: the image breaks the layout or a range.
 pub const BAD_IMAGE: u32 = 7;
 /// Refusal 8: the table area is shorter than the words needed.
@@ -46,28 +50,48 @@ pub enum Right {
     Verdict(u8),
 }
 
-/// A rule: a left side and a right side.
+/// A rule: a left side, marked or not, and a right side.
 #[derive(Clone, Debug, PartialEq, Eq)]
 pub struct Rule {
-    /// The left side.
+    /// Whether the left side has the start mark: then it occurs only at the string's first symbol.
+    pub marked: bool,
+    /// The symbols of the left side.
     pub left: Vec<Symbol>,
     /// The right side.
     pub right: Right,
 }
 
-/// A rule with a string as its right side.
+impl Rule {
+    /// The left side as the table has it: the mark, if there is one, and the symbols.
+    pub fn left_with_mark(&self) -> Vec<Symbol> {
+        let mark: &[Symbol] = if self.marked { &[MARK] } else { &[] };
+        [mark, &self.left].concat()
+    }
+}
+
+/// An unmarked rule with a string as its right side.
 pub fn string(left: &[Symbol], right: &[Symbol]) -> Rule {
     Rule {
+        marked: false,
         left: left.to_vec(),
         right: Right::Symbols(right.to_vec()),
     }
 }
 
-/// A rule with a verdict as its right side.
+/// An unmarked rule with a verdict as its right side.
 pub fn verdict(left: &[Symbol], verdict: u8) -> Rule {
     Rule {
+        marked: false,
         left: left.to_vec(),
         right: Right::Verdict(verdict),
+    }
+}
+
+/// The rule with a mark.
+pub fn marked(rule: Rule) -> Rule {
+    Rule {
+        marked: true,
+        ..rule
     }
 }
 
@@ -85,6 +109,11 @@ pub struct RuleSet {
 }
 
 impl RuleSet {
+    /// Whether a rule is marked.
+    pub fn has_mark(&self) -> bool {
+        self.rules.iter().any(|rule| rule.marked)
+    }
+
     /// Whether every number is in its range.
     pub fn in_range(&self) -> bool {
         let symbols_in_range = |string: &[Symbol]| string.iter().all(|&a| a < self.symbols);
@@ -116,7 +145,7 @@ pub fn encode(set: &RuleSet) -> Vec<u8> {
             Right::Symbols(right) => (0, byte(right.len())),
             Right::Verdict(verdict) => (1, *verdict),
         };
-        image.extend([byte(rule.left.len()), kind, number, 0]);
+        image.extend([byte(rule.left.len()), kind, number, rule.marked.into()]);
     }
     for rule in &set.rules {
         image.extend(&rule.left);
@@ -150,10 +179,16 @@ fn read_layout(image: &[u8]) -> Option<RuleSet> {
             1 => Right::Verdict(entry[2]),
             _ => return None,
         };
-        if entry[3] != 0 {
-            return None;
-        }
-        rules.push(Rule { left, right });
+        let marked = match entry[3] {
+            0 => false,
+            1 => true,
+            _ => return None,
+        };
+        rules.push(Rule {
+            marked,
+            left,
+            right,
+        });
     }
     if !rest.is_empty() {
         return None;
@@ -176,13 +211,18 @@ fn take<'a>(rest: &mut &'a [u8], count: usize) -> Option<&'a [u8]> {
     Some(taken)
 }
 
-/// The states' strings in the order of their numbers: the empty string, then each prefix of a left
-/// side, rule by rule, short before long, when it is new.
+/// The states' strings in the order of their numbers: with a marked rule the mark alone; the empty
+/// string; then each prefix of a left side, rule by rule, short before long, when it is new.
 pub fn states(set: &RuleSet) -> Vec<Vec<Symbol>> {
-    let mut states = vec![Vec::new()];
+    let mut states = if set.has_mark() {
+        vec![vec![MARK], vec![]]
+    } else {
+        vec![vec![]]
+    };
     for rule in &set.rules {
-        for length in 1..=rule.left.len() {
-            let prefix = rule.left[..length].to_vec();
+        let left = rule.left_with_mark();
+        for length in 1..=left.len() {
+            let prefix = left[..length].to_vec();
             if !states.contains(&prefix) {
                 states.push(prefix);
             }
@@ -200,12 +240,13 @@ fn next_state(states: &[Vec<Symbol>], string: &[Symbol], symbol: Symbol) -> usiz
         .expect("the empty string is a state")
 }
 
-/// The match word: 1 + the rule with the longest left side that is a suffix of `string`, the lowest
-/// rule among equals; 0 if there is none.
-fn match_word(set: &RuleSet, string: &[Symbol]) -> usize {
+/// The match word: 1 + the rule with the longest of these left sides that is a suffix of `string`, the
+/// lowest rule among equals; 0 if there is none. A mark counts, so a marked left side comes before the
+/// same symbols without a mark.
+fn match_word(lefts: &[Vec<Symbol>], string: &[Symbol]) -> usize {
     for length in (1..=string.len()).rev() {
         let suffix = &string[string.len() - length..];
-        if let Some(rule) = set.rules.iter().position(|rule| rule.left == suffix) {
+        if let Some(rule) = lefts.iter().position(|left| left == suffix) {
             return 1 + rule;
         }
     }
@@ -223,8 +264,9 @@ pub fn table(set: &RuleSet) -> Vec<u16> {
     let states = states(set);
     let word = |number: usize| u16::try_from(number).expect("a number that fits in a word");
     let mut table = vec![word(states.len()), set.symbols.into()];
+    let lefts: Vec<Vec<Symbol>> = set.rules.iter().map(Rule::left_with_mark).collect();
     for string in &states {
-        table.push(word(match_word(set, string)));
+        table.push(word(match_word(&lefts, string)));
     }
     for string in &states {
         for symbol in 0..set.symbols {
@@ -350,7 +392,8 @@ mod tests {
             (5, 1), // a verdict has no right symbols
             (5, 2), // no such kind
             (6, 0), // the body is too long
-            (7, 1),
+            (7, 2), // neither marked nor unmarked
+            (7, 255),
             (8, 2),
             (9, 2),
         ];
@@ -368,6 +411,146 @@ mod tests {
         assert_eq!(encode(&set).len(), 1_284);
         assert_eq!(states(&set).len(), 481);
         assert_eq!(table_len(&set), 15_875);
+        let set = random::largest_with_marks();
+        assert!(set.in_range());
+        assert_eq!(encode(&set).len(), 1_284);
+        assert_eq!(states(&set).len(), 514);
+        assert_eq!(table_len(&set), 16_964);
+    }
+
+    /// The sample that document 02 reissues, with `^ take` and `held take` for its ban: its numbers there
+    /// are 28 bytes, 8 states and 42 words.
+    #[test]
+    fn reissued_sample() {
+        let (lock, take, free, held) = (0, 1, 2, 3);
+        let mut set = random::sample();
+        set.rules[2] = marked(verdict(&[take], 0));
+        set.rules.push(verdict(&[held, take], 0));
+        let image = [
+            4, 4, 2, 3, //
+            2, 0, 1, 0, //
+            2, 0, 0, 0, //
+            1, 1, 0, 1, //
+            2, 1, 0, 0, //
+            lock, take, held, //
+            held, free, //
+            take, //
+            held, take, //
+        ];
+        assert_eq!(encode(&set), image);
+        assert_eq!(image.len(), 28);
+        assert_eq!(parse(&image), Ok(set.clone()));
+        // States: 0 ^, 1 empty, 2 lock, 3 lock take, 4 held, 5 held free, 6 ^ take, 7 held take.
+        let words = [
+            8, 4, //
+            0, 0, 0, 1, 0, 2, 3, 4, //
+            2, 6, 1, 4, //
+            2, 1, 1, 4, //
+            2, 3, 1, 4, //
+            2, 1, 1, 4, //
+            2, 7, 5, 4, //
+            2, 1, 1, 4, //
+            2, 1, 1, 4, //
+            2, 1, 1, 4, //
+        ];
+        assert_eq!(words.len(), 42);
+        assert_eq!(table(&set), words);
+    }
+
+    /// a b; ^ a b; b: the first rule has no mark, and the states are numbered by rules all the same.
+    #[test]
+    fn a_late_mark() {
+        let (a, b) = (0, 1);
+        let set = RuleSet {
+            symbols: 2,
+            events: 2,
+            verdicts: 2,
+            rules: vec![
+                verdict(&[a, b], 0),
+                marked(verdict(&[a, b], 1)),
+                verdict(&[b], 0),
+            ],
+        };
+        let strings = [
+            vec![MARK],
+            vec![],
+            vec![a],
+            vec![a, b],
+            vec![MARK, a],
+            vec![MARK, a, b],
+            vec![b],
+        ];
+        assert_eq!(states(&set), strings);
+        // The marked rule where its mark has been read, and elsewhere the rule that begins first.
+        assert_eq!(table(&set)[2..9], [0, 0, 0, 1, 0, 2, 3]);
+        assert_eq!(table(&set)[9..11], [4, 6]);
+        assert_eq!(table(&set)[11..13], [2, 6]);
+        assert_eq!(table(&set)[17..19], [2, 5]);
+    }
+
+    /// The table by another way: a state is a pair of a string and whether the mark stands before it, a next
+    /// state is the longest of all states that end what is read, and a match is the plain rewriter's choice
+    /// among the occurrences that end there.
+    #[test]
+    fn tables_by_another_way() {
+        let mut random = random::Random::new(5);
+        let (mut with_marks, mut inherited) = (0, 0);
+        for round in 0..3_000 {
+            let shape = random::Shape::ALL[round % random::Shape::ALL.len()];
+            let set = match round % 4 {
+                0 => shape.rule_set(&mut random),
+                _ => shape.with_marks(&mut random),
+            };
+            let words = table(&set);
+            let mut pairs: Vec<(bool, Vec<Symbol>)> = Vec::new();
+            if set.has_mark() {
+                pairs.push((true, vec![]));
+                with_marks += 1;
+            }
+            pairs.push((false, vec![]));
+            for rule in &set.rules {
+                for length in 1..=rule.left.len() {
+                    let pair = (rule.marked, rule.left[..length].to_vec());
+                    if !pairs.contains(&pair) {
+                        pairs.push(pair);
+                    }
+                }
+            }
+            let (n, s) = (pairs.len(), usize::from(set.symbols));
+            assert_eq!(words[..2], [n as u16, s as u16]);
+            assert_eq!(words.len(), 2 + n + n * s);
+            for (q, (start, string)) in pairs.iter().enumerate() {
+                // In a string that goes on before `string` a marked left side does not occur here.
+                let before: &[Symbol] = if *start { &[] } else { &[0] };
+                let whole = [before, string].concat();
+                let ends = |found: &rewriter::Occurrence| {
+                    found.end == whole.len() && found.begin >= before.len()
+                };
+                let chosen = rewriter::occurrences(&set, &whole)
+                    .into_iter()
+                    .filter(ends)
+                    .min_by_key(|found| (found.begin, !set.rules[found.rule].marked, found.rule));
+                let word = chosen.map_or(0, |found| 1 + found.rule as u16);
+                assert_eq!(words[2 + q], word, "{set:?}");
+                let own = |rule: &Rule| rule.left == *string && rule.marked == *start;
+                inherited += usize::from(word != 0 && !set.rules.iter().any(own));
+                for symbol in 0..set.symbols {
+                    let read = [&string[..], &[symbol]].concat();
+                    let next = (0..n)
+                        .filter(|&p| match pairs[p].0 {
+                            true => *start && pairs[p].1 == read,
+                            false => read.ends_with(&pairs[p].1),
+                        })
+                        .max_by_key(|&p| (pairs[p].1.len(), pairs[p].0));
+                    let word = words[2 + n + q * s + usize::from(symbol)];
+                    assert_eq!(Some(word.into()), next, "{set:?}");
+                }
+            }
+        }
+        assert!(
+            with_marks > 1_500 && inherited > 1_500,
+            "{with_marks} {inherited}"
+        );
     }
 
     #[test]
@@ -376,13 +559,19 @@ mod tests {
         for _ in 0..2_000 {
             for shape in random::Shape::ALL {
                 let set = shape.rule_set(&mut random);
-                assert!(set.in_range(), "{shape:?}: {set:?}");
-                assert_eq!(parse(&encode(&set)), Ok(set));
+                let with_marks = shape.with_marks(&mut random);
+                assert!(!set.has_mark());
+                assert_eq!(with_marks.has_mark(), shape != random::Shape::NoRules);
+                for set in [set, with_marks] {
+                    assert!(set.in_range(), "{shape:?}: {set:?}");
+                    assert_eq!(parse(&encode(&set)), Ok(set));
+                }
             }
             for habit in random::Habit::ALL {
-                let set = habit.rule_set(&mut random);
-                assert!(set.in_range(), "{habit:?}: {set:?}");
-                assert_eq!(parse(&encode(&set)), Ok(set));
+                for set in [habit.rule_set(&mut random), habit.with_marks(&mut random)] {
+                    assert!(set.in_range(), "{habit:?}: {set:?}");
+                    assert_eq!(parse(&encode(&set)), Ok(set));
+                }
             }
         }
     }

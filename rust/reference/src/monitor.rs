@@ -78,7 +78,7 @@ impl Lent {
         self.set.as_ref().expect("a good image and its table")
     }
 
-    /// The table's states after each symbol of a string.
+    /// The table's states after each symbol of a string, which begins in state 0.
     fn states(&self, string: &[Symbol]) -> Vec<u16> {
         let n = usize::from(self.table[0]);
         let s = usize::from(self.table[1]);
@@ -300,17 +300,14 @@ impl State {
     }
 }
 
-/// The rule with the longest left side that is a suffix of `settled`, the lowest among equals.
+/// The rule whose left side ends `settled`, a marked one only if it is the whole of it: the one that
+/// begins first; of these a marked one; of these the lowest.
 fn match_at_the_end(set: &RuleSet, settled: &[Symbol]) -> Option<usize> {
-    let longest = set
-        .rules
-        .iter()
-        .filter(|rule| settled.ends_with(&rule.left))
-        .map(|rule| rule.left.len())
-        .max()?;
-    set.rules
-        .iter()
-        .position(|rule| rule.left.len() == longest && settled.ends_with(&rule.left))
+    let begin = |rule: usize| settled.len() - set.rules[rule].left.len();
+    (0..set.rules.len())
+        .filter(|&rule| settled.ends_with(&set.rules[rule].left))
+        .filter(|&rule| begin(rule) == 0 || !set.rules[rule].marked)
+        .min_by_key(|&rule| (begin(rule), !set.rules[rule].marked, rule))
 }
 
 /// The verdict of the rule with this number, or refusal 11 if it has none.
@@ -482,8 +479,9 @@ pub fn batch(
 #[cfg(test)]
 mod tests {
     use super::*;
-    use crate::random::sample;
-    use crate::{string, verdict};
+    use crate::random::{sample, Habit, Random};
+    use crate::rewriter::{first_occurrence, Rewriter};
+    use crate::{marked, states, string, verdict, MARK};
 
     /// Offers the events, each with this fuel, and returns the last outcome and the summed counts.
     fn offers(set: &RuleSet, events: &[u8], fuel: u32) -> (Outcome, [u64; 3]) {
@@ -593,6 +591,92 @@ mod tests {
         assert_eq!((again.refusal, again.out), (0, [0; 5]));
         let short = batch(&lent, &Memory::empty(), &[0, 1], 9, &[7]);
         assert_eq!((short.refusal, short.answers), (BATCH_LENGTH, vec![7]));
+    }
+
+    /// ^ a → fail; b b → empty; a c → b: words in a marked image, and the mark after a cut.
+    #[test]
+    fn marks() {
+        let (a, b, c) = (0, 1, 2);
+        let set = rules(
+            3,
+            vec![
+                marked(verdict(&[a], 0)),
+                string(&[b, b], &[]),
+                string(&[a, c], &[b]),
+            ],
+        );
+        // States: 0 ^, 1 empty, 2 ^ a, 3 b, 4 b b, 5 a, 6 a c.
+        let lent = Lent::of(&set);
+        let (last, _) = offers(&set, &[c, a, b, a], 9);
+        assert_eq!(last.memory.bytes[..5], [c, a, b, a, 0]);
+        assert_eq!(last.memory.words[..5], [1, 5, 3, 5, 0]);
+        assert_eq!(last.out, [0, 1, 0, 0]);
+        // The string is empty again before `a`.
+        let (last, sums) = offers(&set, &[b, b, a], 9);
+        assert_eq!((last.out[0], sums), (16, [3, 2, 0]));
+        assert_eq!(last.memory.head, [0, 0, 1, 0]);
+        // A word of a settled symbol that begins nothing is 1, and not 0.
+        let mut memory = offers(&set, &[c], 9).0.memory;
+        assert_eq!(memory.words[0], 1);
+        assert_eq!(go_on(&lent, &memory, 9).refusal, 0);
+        memory.words[0] = 0;
+        assert_eq!(go_on(&lent, &memory, 9).refusal, NOT_DESCRIBED);
+        // A marked left side at the start, and the same in the middle.
+        let settled = |string: &[Symbol]| State {
+            settled: string.to_vec(),
+            ..State::default()
+        };
+        let refusal = |state: State| go_on(&lent, &state.lay_out(&lent), 9).refusal;
+        assert_eq!(refusal(settled(&[a])), NOT_DESCRIBED);
+        assert_eq!(refusal(settled(&[c, a])), 0);
+        let judged = State {
+            verdict: Some(Verdict { number: 0, rule: 0 }),
+            ..State::default()
+        };
+        assert_eq!(refusal(judged), VERDICT_STANDS);
+    }
+
+    /// By another way: the word of a settled symbol is the longest state that ends the settled string up to it,
+    /// with the mark before it; and the rewrites that an offer reports are those of the plain rewriter.
+    #[test]
+    fn marks_by_another_way() {
+        let mut random = Random::new(6);
+        let (mut words, mut rewrites) = (0, 0);
+        for round in 0..1_500 {
+            let set = Habit::ALL[round % Habit::ALL.len()].with_marks(&mut random);
+            let lent = Lent::of(&set);
+            let strings = states(&set);
+            let mut memory = Memory::empty();
+            let mut rewriter = Rewriter::new(&[]);
+            for _ in 0..12 {
+                let event = random.below(set.events.into()) as u8;
+                let outcome = offer(&lent, &memory, event, 12);
+                if outcome.refusal != 0 {
+                    break;
+                }
+                memory = outcome.memory;
+                rewriter.string.push(event);
+                for _ in 0..outcome.out[2] {
+                    rewrites += usize::from(rewriter.rewrite(&set).is_some());
+                }
+                let (a, w) = (memory.head[0] as usize, memory.head[1] as usize);
+                let (settled, waiting) = (&memory.bytes[..a], &memory.bytes[ROOM - w..]);
+                assert_eq!([settled, waiting].concat(), rewriter.string);
+                assert_eq!(memory.head[2] != 0, rewriter.verdict.is_some());
+                if memory.head[2] == 0 {
+                    assert_eq!(first_occurrence(&set, settled), None);
+                }
+                for place in 0..a {
+                    let read = [&[MARK], &settled[..=place]].concat();
+                    let longest = (0..strings.len())
+                        .filter(|&q| read.ends_with(&strings[q]))
+                        .max_by_key(|&q| strings[q].len());
+                    assert_eq!(Some(memory.words[place].into()), longest);
+                    words += 1;
+                }
+            }
+        }
+        assert!(words > 10_000 && rewrites > 3_000, "{words} {rewrites}");
     }
 
     #[test]

@@ -70,7 +70,7 @@ impl Random {
         }
     }
 
-    /// A rule set of these left sides over `symbols` symbols; everything else is drawn.
+    /// A rule set of these left sides over `symbols` symbols, without marks; everything else is drawn.
     pub fn with_left_sides(&mut self, symbols: u8, lefts: Vec<Vec<Symbol>>) -> RuleSet {
         let verdicts = self.within(2, 16) as u8;
         RuleSet {
@@ -80,6 +80,7 @@ impl Random {
             rules: lefts
                 .into_iter()
                 .map(|left| Rule {
+                    marked: false,
                     left,
                     right: self.right(symbols, verdicts),
                 })
@@ -116,7 +117,22 @@ impl Shape {
         Shape::NoRules,
     ];
 
-    /// A rule set of this shape, small enough that its table is quickly computed.
+    /// A rule set of this shape, without marks or with.
+    pub fn either(self, random: &mut Random) -> RuleSet {
+        if random.once_in(2) {
+            self.with_marks(random)
+        } else {
+            self.rule_set(random)
+        }
+    }
+
+    /// A rule set of this shape with marks, if it has rules.
+    pub fn with_marks(self, random: &mut Random) -> RuleSet {
+        let set = self.rule_set(random);
+        with_marks(random, set)
+    }
+
+    /// A rule set of this shape, without marks, small enough that its table is quickly computed.
     pub fn rule_set(self, random: &mut Random) -> RuleSet {
         let symbols = random.within(1, 32) as u8;
         match self {
@@ -207,7 +223,22 @@ impl Habit {
         Habit::Mixed,
     ];
 
-    /// A rule set with this habit.
+    /// A rule set with this habit, without marks or with.
+    pub fn either(self, random: &mut Random) -> RuleSet {
+        if random.once_in(2) {
+            self.with_marks(random)
+        } else {
+            self.rule_set(random)
+        }
+    }
+
+    /// A rule set with this habit and with marks.
+    pub fn with_marks(self, random: &mut Random) -> RuleSet {
+        let set = self.rule_set(random);
+        with_marks(random, set)
+    }
+
+    /// A rule set with this habit, without marks.
     pub fn rule_set(self, random: &mut Random) -> RuleSet {
         let symbols = random.within(1, 5) as u8;
         let events = random.within(symbols.div_ceil(2).into(), symbols.into()) as u8;
@@ -223,6 +254,7 @@ impl Habit {
         let rules = lefts
             .iter()
             .map(|left| Rule {
+                marked: false,
                 left: left.clone(),
                 right: self.right(random, symbols, verdicts, left, &lefts),
             })
@@ -306,10 +338,43 @@ fn judge(random: &mut Random, mut set: RuleSet) -> RuleSet {
         left.insert(random.within(0, length), made);
         let verdict = random.below(set.verdicts.into()) as u8;
         let rule = Rule {
+            marked: false,
             left,
             right: Right::Verdict(verdict),
         };
         set.rules.insert(random.within(0, set.rules.len()), rule);
+    }
+    set
+}
+
+/// The rule set with marks on some rules, on most or on all, and with a few rules more: their left sides
+/// are others of the set, or these with a symbol more or fewer at either end, marked or not. At least one
+/// rule is marked, if there are rules.
+pub fn with_marks(random: &mut Random, mut set: RuleSet) -> RuleSet {
+    if set.rules.is_empty() {
+        return set;
+    }
+    // Out of four rules so many are marked.
+    let marked = random.within(1, 4);
+    for rule in &mut set.rules {
+        rule.marked = random.below(4) < marked;
+    }
+    for _ in 0..random.within(0, 4).min(64 - set.rules.len()) {
+        let mut rule = set.rules[random.below(set.rules.len())].clone();
+        let more = random.below(set.symbols.into()) as Symbol;
+        match random.below(6) {
+            0 if rule.left.len() < 8 => rule.left.push(more),
+            1 if rule.left.len() < 8 => rule.left.insert(0, more),
+            2 if rule.left.len() > 1 => drop(rule.left.pop()),
+            3 if rule.left.len() > 1 => drop(rule.left.remove(0)),
+            _ => {}
+        }
+        rule.marked = random.once_in(2);
+        set.rules.insert(random.within(0, set.rules.len()), rule);
+    }
+    if !set.has_mark() {
+        let rule = random.below(set.rules.len());
+        set.rules[rule].marked = true;
     }
     set
 }
@@ -324,6 +389,7 @@ pub fn full(random: &mut Random, symbols: u8, used: u8) -> RuleSet {
 pub fn sample() -> RuleSet {
     let (lock, take, free, held) = (0, 1, 2, 3);
     let rule = |left: &[Symbol], right| Rule {
+        marked: false,
         left: left.to_vec(),
         right,
     };
@@ -339,8 +405,8 @@ pub fn sample() -> RuleSet {
     }
 }
 
-/// A rule set with the longest image and the largest table: 32 symbols and 64 rules of 8 symbols
-/// that have no prefix in common but the first symbol, which two rules must share.
+/// A rule set with the longest image and the largest table without marks: 32 symbols and 64 rules of 8
+/// symbols that have no prefix in common but the first symbol, which two rules must share.
 pub fn largest() -> RuleSet {
     let rules = (0..64)
         .map(|rule: u8| {
@@ -354,6 +420,7 @@ pub fn largest() -> RuleSet {
                     .collect()
             };
             Rule {
+                marked: false,
                 left: string(1),
                 right: Right::Symbols(string(5)),
             }
@@ -367,6 +434,16 @@ pub fn largest() -> RuleSet {
     }
 }
 
+/// A rule set with the longest image and the largest table there is: the rules of [`largest`], of which
+/// two begin with each symbol. One of these is marked and the other is not, so that they share no prefix.
+pub fn largest_with_marks() -> RuleSet {
+    let mut set = largest();
+    for rule in &mut set.rules[..32] {
+        rule.marked = true;
+    }
+    set
+}
+
 /// 64 different left sides of 8 symbols over the first two of `symbols` symbols. Each begins with
 /// six symbols of its own and goes on with the first two of them turned round, so that nearly every
 /// prefix ends in a long prefix of other left sides.
@@ -376,6 +453,7 @@ pub fn overlapping(symbols: u8) -> RuleSet {
             let mut left: Vec<Symbol> = (0..6).map(|place| rule >> place & 1).collect();
             left.extend([left[1], left[0]]);
             Rule {
+                marked: false,
                 left,
                 right: Right::Symbols(vec![0; 8]),
             }

@@ -42,6 +42,8 @@ pub enum Token {
     Arrow,
     /// `.`.
     Stop,
+    /// `^`.
+    Mark,
 }
 
 /// A refusal and its place.
@@ -114,6 +116,7 @@ pub fn token(run: &[u8]) -> Option<Token> {
     match run {
         b"->" => Some(Token::Arrow),
         b"." => Some(Token::Stop),
+        b"^" => Some(Token::Mark),
         [b'#', name @ ..] if is_name(name) => Some(Token::Word(name.to_vec())),
         name if is_name(name) => Some(Token::Name(name.to_vec())),
         _ => None,
@@ -138,6 +141,8 @@ enum Behind {
     Event,
     /// The `.` that ends the events or a rule.
     Stop,
+    /// The `^` of a left side.
+    Mark,
     /// A name of a left side.
     LeftName,
     /// An arrow.
@@ -153,7 +158,8 @@ impl Behind {
     fn allows(self, token: &Token) -> bool {
         match self {
             Behind::Nothing => *token == Token::Name(b"events".to_vec()),
-            Behind::Events | Behind::Stop => matches!(token, Token::Name(_)),
+            Behind::Events | Behind::Mark => matches!(token, Token::Name(_)),
+            Behind::Stop => matches!(token, Token::Name(_) | Token::Mark),
             Behind::Event | Behind::RightName => matches!(token, Token::Name(_) | Token::Stop),
             Behind::LeftName => matches!(token, Token::Name(_) | Token::Arrow),
             Behind::Arrow => matches!(token, Token::Name(_) | Token::Word(_)),
@@ -172,9 +178,15 @@ struct Reader {
     /// The verdicts' names.
     verdicts: Vec<Name>,
     /// The rules' left sides.
-    lefts: Vec<Vec<Name>>,
+    lefts: Vec<Left>,
     /// The rules' right sides; one fewer while a left side is read.
     rights: Vec<Side>,
+}
+
+/// A left side as it is written.
+struct Left {
+    marked: bool,
+    names: Vec<Name>,
 }
 
 /// A right side as it is written.
@@ -200,21 +212,26 @@ impl Reader {
                 self.events += 1;
                 Behind::Event
             }
-            (Behind::Stop, Token::Name(name)) => {
+            // A `^` begins no rule too many: the name behind it does.
+            (Behind::Stop, Token::Mark) => Behind::Mark,
+            (Behind::Stop | Behind::Mark, Token::Name(name)) => {
                 if self.lefts.len() == 64 {
                     return Err(TOO_MANY);
                 }
                 self.name(&name)?;
-                self.lefts.push(vec![name]);
+                self.lefts.push(Left {
+                    marked: self.behind == Behind::Mark,
+                    names: vec![name],
+                });
                 Behind::LeftName
             }
             (Behind::LeftName, Token::Name(name)) => {
                 self.name(&name)?;
                 let left = self.lefts.last_mut().expect("a left side is being read");
-                if left.len() == 8 {
+                if left.names.len() == 8 {
                     return Err(TOO_MANY);
                 }
-                left.push(name);
+                left.names.push(name);
                 Behind::LeftName
             }
             (Behind::Arrow, Token::Name(name)) => {
@@ -240,7 +257,7 @@ impl Reader {
             }
             (_, Token::Arrow) => Behind::Arrow,
             (_, Token::Stop) => Behind::Stop,
-            (_, Token::Name(_)) => panic!("no name is allowed here"),
+            (_, Token::Name(_) | Token::Mark) => panic!("neither is allowed here"),
         };
         Ok(())
     }
@@ -283,7 +300,8 @@ impl Reader {
             .iter()
             .zip(&self.rights)
             .map(|(left, right)| Rule {
-                left: symbols(left),
+                marked: left.marked,
+                left: symbols(&left.names),
                 right: match right {
                     Side::Names(names) => Right::Symbols(symbols(names)),
                     Side::Word(word) if word == b"epsilon" => Right::Symbols(Vec::new()),
@@ -395,9 +413,10 @@ mod tests {
         assert_eq!(token(&[b"#", &[b'a'; 25][..]].concat()), None);
         assert_eq!(token(b"->"), Some(Token::Arrow));
         assert_eq!(token(b"."), Some(Token::Stop));
+        assert_eq!(token(b"^"), Some(Token::Mark));
         for other in [
-            "#", "##a", "#9", "#_", "9a", "_a", "-", ">", "--", "->>", "->-", "..", "a.", ".a",
-            "a->", "->a", "a#", "#a#", "a-b", "a\u{b}", "\0",
+            "^^", "^a", "a^", "#^", "^.", "^->", "#", "##a", "#9", "#_", "9a", "_a", "-", ">",
+            "--", "->>", "->-", "..", "a.", ".a", "a->", "->a", "a#", "#a#", "a-b", "a\u{b}", "\0",
         ] {
             assert_eq!(token(other.as_bytes()), None, "{other}");
         }
@@ -428,14 +447,56 @@ mod tests {
         }
     }
 
+    /// Where a `^` may stand, and what may stand behind it.
+    #[test]
+    fn marks() {
+        let marks = |text: &str| -> Result<Vec<bool>, Refused> {
+            let reading = read(text.as_bytes())?;
+            Ok(reading.set.rules.iter().map(|rule| rule.marked).collect())
+        };
+        assert_eq!(marks("events a . ^ a -> #x ."), Ok(vec![true]));
+        assert_eq!(marks("events a . ^ a a a a a a a a -> a ."), Ok(vec![true]));
+        assert_eq!(
+            marks("events a . a -> a . ^ b -> #epsilon . b -> #fail ."),
+            Ok(vec![false, true, false])
+        );
+        let rules = "a -> a . ".repeat(64);
+        for (text, refusal, place) in [
+            ("^", 4, 0),
+            ("^ events a .", 4, 0),
+            ("events ^ a .", 4, 7),
+            ("events a ^ .", 4, 9),
+            ("events a . ^ ", 4, 13),
+            ("events a . ^ ^ a -> a .", 4, 13),
+            ("events a . ^ -> a .", 4, 13),
+            ("events a . ^ . a", 4, 13),
+            ("events a . ^ #x .", 4, 13),
+            ("events a . ^a -> a .", 3, 11),
+            ("events a . ^^ a -> a .", 3, 11),
+            ("events a . a ^ -> a .", 4, 13),
+            ("events a . a -> ^ a .", 4, 16),
+            ("events a . a -> a ^ .", 4, 18),
+            ("events a . a -> #x ^ .", 4, 19),
+            ("events a . ^ a a a a a a a a a -> a .", 5, 29),
+            ("events a . ^ a a a a a a a a ^ -> a .", 4, 29),
+            (&format!("events a . {rules}^ a -> a ."), 5, 11 + 64 * 9 + 2),
+            (&format!("events a . {rules}^ -> a ."), 4, 11 + 64 * 9 + 2),
+            (&format!("events a . {rules}^ "), 4, 11 + 64 * 9 + 2),
+        ] {
+            assert_eq!(marks(text), Err(Refused { refusal, place }), "{text}");
+        }
+    }
+
     /// What is written is read back: the writer knows the answer without this reader.
     #[test]
     fn written_texts_are_read_back() {
         let mut random = Random::new(2);
         for round in 0..2_000 {
+            let shape = Shape::ALL[random.below(Shape::ALL.len())];
+            let habit = Habit::ALL[random.below(Habit::ALL.len())];
             let set = match round % 2 {
-                0 => Shape::ALL[random.below(Shape::ALL.len())].rule_set(&mut random),
-                _ => Habit::ALL[random.below(Habit::ALL.len())].rule_set(&mut random),
+                0 => shape.either(&mut random),
+                _ => habit.either(&mut random),
             };
             let naming = Naming::ALL[random.below(Naming::ALL.len())];
             let spacing = Spacing::ALL[random.below(Spacing::ALL.len())];

@@ -211,6 +211,9 @@ pub fn tokens(set: &RuleSet, symbols: &[Name], verdicts: &[Name]) -> Vec<Vec<u8>
                 .map(|&symbol| symbols[usize::from(symbol)].clone())
                 .collect()
         };
+        if rule.marked {
+            tokens.push(b"^".to_vec());
+        }
         tokens.extend(names(&rule.left));
         tokens.push(b"->".to_vec());
         match &rule.right {
@@ -221,6 +224,22 @@ pub fn tokens(set: &RuleSet, symbols: &[Name], verdicts: &[Name]) -> Vec<Vec<u8>
             }
         }
         tokens.push(b".".to_vec());
+    }
+    tokens
+}
+
+/// The tokens with one to three `^` more: where a rule begins, where a `^` stands, or anywhere.
+pub fn with_more_marks(random: &mut Random, tokens: &[Vec<u8>]) -> Vec<Vec<u8>> {
+    let mut tokens = tokens.to_vec();
+    for _ in 0..random.within(1, 3) {
+        let begins: Vec<usize> = (1..=tokens.len())
+            .filter(|&place| [&b"."[..], b"^"].contains(&&tokens[place - 1][..]))
+            .collect();
+        let place = match begins.len() {
+            count if count > 0 && random.once_in(2) => begins[random.below(count)],
+            _ => random.within(0, tokens.len()),
+        };
+        tokens.insert(place, b"^".to_vec());
     }
     tokens
 }

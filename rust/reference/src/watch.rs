@@ -120,6 +120,26 @@ mod tests {
         );
     }
 
+    /// A marked rule, and a `^` behind the `%`, which is an unknown name.
+    #[test]
+    fn marks() {
+        assert_eq!(
+            written("events lock take . ^ take -> #fail . lock lock -> #epsilon . % lock take ^ ^take lock"),
+            "lock quiet 1 0 lock\n\
+             take quiet 1 0 lock,take\n\
+             ^ refused 12\n\
+             ^take refused 12\n\
+             lock quiet 1 0 lock,take,lock\n"
+        );
+        assert_eq!(
+            written(
+                "events lock take . ^ take -> #fail . lock lock -> #epsilon . % lock lock take"
+            ),
+            "lock quiet 1 0 lock\nlock quiet 1 1 -\ntake #fail 1 1 -\n"
+        );
+        assert_eq!(written("events a . a ^ -> a . % a"), "rules refused 4 13\n");
+    }
+
     #[test]
     fn cuts() {
         assert_eq!(cut(b""), (&b""[..], &b""[..]));
@@ -147,7 +167,7 @@ mod tests {
         let mut random = Random::new(3);
         for habit in Habit::ALL {
             for _ in 0..20 {
-                let set = habit.rule_set(&mut random);
+                let set = habit.either(&mut random);
                 let text = texts::write(&mut random, &set, Naming::Short, Spacing::One);
                 let (mut input, reading) = (text.text, text.reading);
                 let lent = Lent::of(&reading.set);

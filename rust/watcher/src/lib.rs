@@ -22,14 +22,15 @@ functions safe Rust signatures and adds nothing else.
 # Rule texts
 
 A text is a run of tokens, separated by spaces, tabs, carriage returns or line feeds. A token is a name,
-`#` and a name, `->` or `.`; a name is a letter followed by letters, digits or `_`, at most 24 bytes in
-all.
+`#` and a name, `->`, `.` or `^`; a name is a letter followed by letters, digits or `_`, at most 24 bytes
+in all.
 
 First comes `events`, one or more names, and `.`: these are the events. Then come the rules, each of them
-one or more names, `->`, and one or more names or a single `#` word, and `.`. `#epsilon` is the empty
-string; every other word is a verdict. `#fail` and `#succeed` are verdicts 0 and 1, other words get the
-next numbers in the order in which they first appear. So do names, which are the symbols. No word is
-reserved: a symbol may be called `events` or `fail`.
+one or more names, `->`, and one or more names or a single `#` word, and `.`. A `^` may stand before the
+names of the left side: it is the start mark, and such a left side occurs only at the string's first
+symbol. `#epsilon` is the empty string; every other word is a verdict. `#fail` and `#succeed` are verdicts
+0 and 1, other words get the next numbers in the order in which they first appear. So do names, which are
+the symbols. No word is reserved: a symbol may be called `events` or `fail`.
 
 A text has at most [`MAX_TEXT_BYTES`] bytes, 32 symbols, 64 rules, eight names on a side, and 14 verdicts
 besides fail and succeed. Of a text that is refused the place is told too: that of the first token at
@@ -40,8 +41,9 @@ which it breaks.
 An image is a run of bytes. Bytes 0 to 3 are the number of symbols S (1 to 32), the number of rules
 (0 to 64), the number of verdicts (2 to 16) and the number of events (1 to S). Then each rule has
 four bytes: the length of its left side (1 to 8), its kind (0 for a string, 1 for a verdict), the
-length of its right side (0 to 8) or its verdict, and 0. Then come, rule by rule, the symbols of the
-left side and, for a string, those of the right side, one byte each. Nothing follows.
+length of its right side (0 to 8) or its verdict, and 1 if its left side has the start mark, else 0.
+Then come, rule by rule, the symbols of the left side and, for a string, those of the right side, one
+byte each. Nothing follows.
 
 # Tables
 
@@ -52,19 +54,24 @@ prefixes of left sides, numbered as they first appear; state 0 is the empty stri
 0, or 1 + the number of the rule whose left side has just been read: the longest such left side, and
 of equal ones the lowest rule.
 
+If a rule is marked, the mark counts as a symbol that stands before the string, and a marked left side
+begins with it: state 0 is the mark alone, where every string begins, and state 1 the empty string. So a
+marked left side is read only at the start, and there it comes before the same symbols without a mark.
+
 # Monitors
 
 A monitor holds up to [`ROOM`] symbols: settled ones, in which no left side occurs, and then waiting
-ones. An offer adds its event to the waiting symbols. Then the call runs, one step after another. A
-step takes the first waiting symbol onto the settled string. If a left side has been read, the longest
-that ends there, its symbols are taken off, and those of the right side are put back before the
-waiting ones; or a verdict is set, and nothing is put back. A call ends when a verdict stands, when no
-symbol waits, when as many steps were taken as it was given fuel, or when the next step would leave
-more symbols than there is room for.
+ones. A marked left side may stand in the middle of the settled ones, where it does not occur. An offer
+adds its event to the waiting symbols. Then the call runs, one step after another. A step takes the first
+waiting symbol onto the settled string. If a left side has been read, the longest that ends there, its
+symbols are taken off, and those of the right side are put back before the waiting ones; or a verdict is
+set, and nothing is put back. A call ends when a verdict stands, when no symbol waits, when as many steps
+were taken as it was given fuel, or when the next step would leave more symbols than there is room for.
 
 So the string is at each time what the events become when the occurrence of a left side that ends
 first is rewritten, then the one that ends first in what that gives, and so on, for as many rewrites as
-the calls reported.
+the calls reported. Of those that end together it is the one that begins first, then that of a marked
+rule, then that of the lowest.
 
 # Example: a small school's swaps
 
@@ -127,6 +134,37 @@ for name in ["lock", "take", "free", "take"] {
     });
 }
 assert_eq!(said, ["lock", "held", "nothing", "fail"]);
+# Ok::<(), Box<dyn std::error::Error>>(())
+```
+
+# Example: a rule for the start of the string
+
+Without a `lock` before it, `take` is a failure; behind other symbols it stays.
+
+```
+use watcher::{Answer, Monitor, Rules};
+
+let rules = Rules::read(
+    "events lock take free .
+     lock take -> held .
+     held free -> #epsilon .
+     ^ take -> #fail .",
+)?;
+let names = rules.names();
+let [lock, take, free] = ["lock", "take", "free"].map(|name| names.symbol(name).expect("an event"));
+
+let mut monitor = Monitor::new();
+for event in [free, take] {
+    assert_eq!(monitor.offer(&rules, event, 1_000)?.answer, Answer::Quiet);
+}
+assert_eq!(monitor.string(), [free, take]);
+
+// What counts is the string as it stands: behind a `lock take free` nothing is left.
+let mut monitor = Monitor::new();
+for event in [lock, take, free] {
+    assert_eq!(monitor.offer(&rules, event, 1_000)?.answer, Answer::Quiet);
+}
+assert_eq!(monitor.offer(&rules, take, 1_000)?.answer, Answer::Verdict(0));
 # Ok::<(), Box<dyn std::error::Error>>(())
 ```
 

@@ -5,8 +5,8 @@ use crate::{raw, Refusal};
 /// The length in bytes of the longest rule image.
 pub const MAX_IMAGE_BYTES: usize = 1_284;
 
-/// A number of words that suffices for the table of every rule image.
-pub const MAX_TABLE_WORDS: usize = 16_931;
+/// The length in words of the longest table: 514 states and 32 symbols.
+pub const MAX_TABLE_WORDS: usize = 16_964;
 
 /// Writes the table of a rule image into `table` and returns the number of words written.
 ///
@@ -26,6 +26,12 @@ pub const MAX_TABLE_WORDS: usize = 16_931;
 /// let mut table = [9; 6];
 /// assert_eq!(compile(&[2, 0, 2, 1], &mut table), Ok(5));
 /// assert_eq!(table, [1, 2, 0, 0, 0, 9]);
+///
+/// // One symbol, and a marked rule that turns it into verdict 0: state 0 is the mark alone, state 1 the
+/// // empty string, state 2 the symbol behind the mark.
+/// let mut table = [9; 8];
+/// assert_eq!(compile(&[1, 1, 2, 1, 1, 1, 0, 1, 0], &mut table), Ok(8));
+/// assert_eq!(table, [3, 1, 0, 0, 1, 2, 1, 1]);
 /// ```
 pub fn compile(image: &[u8], table: &mut [u16]) -> Result<usize, Refusal> {
     let mut out = [0];

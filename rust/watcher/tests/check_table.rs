@@ -7,13 +7,14 @@ use common::{expect_check, Case};
 use reference::random::{self, Random, Shape};
 use reference::{Right, RuleSet, Symbol};
 
-/// Cases of every shape.
+/// Cases of every shape, without marks and with.
 fn cases(seed: u64, each: usize) -> Vec<Case> {
     let mut random = Random::new(seed);
     let mut cases = vec![Case::new(random::sample())];
     for shape in Shape::ALL {
         for _ in 0..each {
             cases.push(Case::new(shape.rule_set(&mut random)));
+            cases.push(Case::new(shape.with_marks(&mut random)));
         }
     }
     cases
@@ -24,6 +25,7 @@ fn large_cases(seed: u64) -> Vec<Case> {
     let mut random = Random::new(seed);
     vec![
         Case::new(random::largest()),
+        Case::new(random::largest_with_marks()),
         Case::new(random::overlapping(2)),
         Case::new(random::overlapping(32)),
         Case::new(random::full(&mut random, 32, 3)),
@@ -154,10 +156,10 @@ fn tables_of_other_rule_sets() {
     };
     for index in 0..3_000 {
         let shape = [Shape::TwoSymbols, Shape::Nested, Shape::Equal, Shape::Any][index % 4];
-        let case = Case::new(shape.rule_set(&mut random));
+        let case = Case::new(shape.either(&mut random));
         let mut set = case.set.clone();
         let rule = random.below(set.rules.len());
-        match random.below(6) {
+        match random.below(7) {
             // One symbol of a left side.
             0 => {
                 let left = &mut set.rules[rule].left;
@@ -175,6 +177,8 @@ fn tables_of_other_rule_sets() {
             }
             // Another right side: the table is the same.
             3 => set.rules[rule].right = Right::Verdict(1),
+            // A mark more or fewer.
+            6 => set.rules[rule].marked ^= true,
             // A symbol more, or a left side cut short.
             4 if set.symbols < 32 => set.symbols += 1,
             _ if set.rules[rule].left.len() > 1 => {

@@ -4,11 +4,12 @@ mod common;
 
 use common::Case;
 use reference::random::{self, Random, Shape};
-use reference::{Right, Rule, RuleSet};
+use reference::{verdict, Right, Rule, RuleSet};
 
 /// The states that match though their own string is no left side.
 fn inherited_matches(case: &Case) -> usize {
-    let is_left = |string: &Vec<u8>| case.set.rules.iter().any(|rule| rule.left == *string);
+    let rules = &case.set.rules;
+    let is_left = |string: &Vec<u8>| rules.iter().any(|rule| rule.left_with_mark() == *string);
     let states = reference::states(&case.set);
     (0..states.len())
         .filter(|&q| case.table[2 + q] != 0 && !is_left(&states[q]))
@@ -38,8 +39,8 @@ fn random_rule_sets() {
     let mut lengths_seen = [0; 9];
     let mut verdicts_seen = [0; 16];
     for shape in Shape::ALL {
-        for _ in 0..1_000 {
-            let case = Case::new(shape.rule_set(&mut random));
+        for _ in 0..2_000 {
+            let case = Case::new(shape.either(&mut random));
             let needed = case.table.len();
             case.compile_into(needed);
             case.compile_into(needed - 1);
@@ -63,12 +64,12 @@ fn random_rule_sets() {
         }
     }
     // The rule sets drawn have what makes tables hard.
-    assert!(inherited > 1_500, "{inherited} inherit a match");
-    assert!(middle > 1_500, "{middle} fall back to a middle state");
-    assert!(repeated > 1_500, "{repeated} repeat a left side");
-    assert!(symbols_seen[1..].iter().all(|&count| count > 20));
-    assert!(lengths_seen.iter().all(|&count| count > 500));
-    assert!(verdicts_seen.iter().all(|&count| count > 50));
+    assert!(inherited > 3_000, "{inherited} inherit a match");
+    assert!(middle > 3_000, "{middle} fall back to a middle state");
+    assert!(repeated > 3_000, "{repeated} repeat a left side");
+    assert!(symbols_seen[1..].iter().all(|&count| count > 40));
+    assert!(lengths_seen.iter().all(|&count| count > 1_000));
+    assert!(verdicts_seen.iter().all(|&count| count > 100));
 }
 
 /// Every rule set of up to three rules whose left sides have up to three symbols out of two.
@@ -90,13 +91,7 @@ fn all_small_rule_sets() {
                 symbols: 2,
                 events: 1,
                 verdicts: 2,
-                rules: set
-                    .iter()
-                    .map(|left| Rule {
-                        left: left.clone(),
-                        right: Right::Verdict(1),
-                    })
-                    .collect(),
+                rules: set.iter().map(|left| verdict(left, 1)).collect(),
             });
             case.compile_into(case.table.len());
             assert!(case.check(&case.table));
@@ -133,13 +128,16 @@ fn full_rule_sets() {
         (32, 4),
         (32, 32),
     ] {
-        let case = Case::new(random::full(&mut random, symbols, used));
-        most = most.max(case.states());
-        let needed = case.table.len();
-        case.compile_into(needed);
-        case.compile_into(needed - 1);
-        case.compile_into(needed + 1_000);
-        assert!(case.check(&case.table));
+        let set = random::full(&mut random, symbols, used);
+        let with_marks = random::with_marks(&mut random, set.clone());
+        for case in [set, with_marks].map(Case::new) {
+            most = most.max(case.states());
+            let needed = case.table.len();
+            case.compile_into(needed);
+            case.compile_into(needed - 1);
+            case.compile_into(needed + 1_000);
+            assert!(case.check(&case.table));
+        }
     }
     assert!(most > 400, "{most} states");
 }
@@ -156,60 +154,80 @@ fn overlapping_rule_sets() {
     }
 }
 
-/// The longest image and the largest table that a rule set can have.
+/// The longest image and the largest table that a rule set can have, without marks and with.
 #[test]
 fn largest_table() {
-    let case = Case::new(random::largest());
-    assert_eq!(case.image.len(), watcher::MAX_IMAGE_BYTES);
-    assert_eq!(case.states(), 481);
-    assert_eq!(case.table.len(), 15_875);
-    for area in [
-        0,
-        1,
-        2,
-        483,
-        15_874,
-        15_875,
-        15_876,
-        watcher::MAX_TABLE_WORDS,
-        65_535,
-        65_536,
-        65_536 + 15_874,
-        100_000,
+    for (set, states, words) in [
+        (random::largest(), 481, 15_875),
+        (random::largest_with_marks(), 514, 16_964),
     ] {
-        case.compile_into(area);
+        let case = Case::new(set);
+        assert_eq!(case.image.len(), watcher::MAX_IMAGE_BYTES);
+        assert_eq!(case.states(), states);
+        assert_eq!(case.table.len(), words);
+        for area in [
+            0,
+            1,
+            2,
+            2 + states,
+            words - 1,
+            words,
+            words + 1,
+            watcher::MAX_TABLE_WORDS - 1,
+            watcher::MAX_TABLE_WORDS,
+            65_535,
+            65_536,
+            65_536 + words - 1,
+            100_000,
+        ] {
+            case.compile_into(area);
+        }
     }
+    assert_eq!(watcher::MAX_TABLE_WORDS, 16_964);
 }
 
 /// Rule sets with every number of symbols in their bodies up to 200, in left sides alone (each symbol a new state) and with
-/// right sides.
+/// right sides; without a mark, with a mark on the last rule, on every second and on all.
 #[test]
 fn bodies_of_every_length() {
-    for total in 0..=200u8 {
+    for (total, marks) in (0..=200u8).flat_map(|total| (0..4).map(move |marks| (total, marks))) {
         let lefts: Vec<Vec<u8>> = (0..total.div_ceil(8))
             .map(|rule| {
                 let length = (total - 8 * rule).min(8);
                 (0..length).map(|place| (rule + place) % 32).collect()
             })
             .collect();
-        for right in [
+        let rights = [
             Right::Verdict(1),
             Right::Symbols(vec![0]),
             Right::Symbols(vec![31; 8]),
-        ] {
+        ];
+        // With marks mostly one of them, so that it takes less time.
+        let one = usize::from(total) % 3;
+        let all = marks == 0 || (20..=30).contains(&total) || (56..=70).contains(&total);
+        let rights = if all { &rights[..] } else { &rights[one..=one] };
+        for right in rights {
             let case = Case::new(RuleSet {
                 symbols: 32,
                 events: 32,
                 verdicts: 2,
                 rules: lefts
                     .iter()
-                    .map(|left| Rule {
+                    .enumerate()
+                    .map(|(rule, left)| Rule {
+                        marked: match marks {
+                            0 => false,
+                            1 => rule + 1 == lefts.len(),
+                            2 => rule % 2 == 0,
+                            _ => true,
+                        },
                         left: left.clone(),
                         right: right.clone(),
                     })
                     .collect(),
             });
-            assert_eq!(case.states(), 1 + usize::from(total));
+            let start = if case.set.has_mark() { 2 } else { 1 };
+            assert_eq!(case.states(), start + usize::from(total));
             case.compile_into(case.table.len());
             case.compile_into(case.table.len() - 1);
             assert!(case.check(&case.table));
@@ -227,7 +245,8 @@ fn areas_of_every_length() {
     let mut random = Random::new(103);
     let mut sets = vec![random::sample()];
     for shape in Shape::ALL {
-        sets.extend((0..4).map(|_| shape.rule_set(&mut random)));
+        sets.extend((0..2).map(|_| shape.rule_set(&mut random)));
+        sets.extend((0..2).map(|_| shape.with_marks(&mut random)));
     }
     let (mut short, mut enough) = (0, 0);
     for set in sets {
@@ -252,7 +271,7 @@ fn one_area_for_many_rule_sets() {
     let mut refused = 0;
     for _ in 0..1_000 {
         let shape = Shape::ALL[random.below(Shape::ALL.len())];
-        let case = Case::new(shape.rule_set(&mut random));
+        let case = Case::new(shape.either(&mut random));
         let lent = random.within(0, 2 * case.table.len()).min(area.len());
         let found = watcher::compile(&case.image, &mut area[..lent]);
         if lent < case.table.len() {

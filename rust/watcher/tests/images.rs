@@ -7,7 +7,7 @@ mod common;
 
 use common::{expect_check, expect_compile};
 use reference::random::{self, Random, Shape};
-use reference::{Right, Rule, RuleSet};
+use reference::{string, verdict, Rule, RuleSet};
 
 /// Values at the edges of the ranges, and their neighbours.
 const EDGES: [u8; 20] = [
@@ -71,25 +71,23 @@ impl Tally {
 }
 
 fn string_rule(left: usize, right: usize) -> Rule {
-    Rule {
-        left: vec![0; left],
-        right: Right::Symbols(vec![0; right]),
-    }
+    string(&vec![0; left], &vec![0; right])
 }
 
-/// Images of small rule sets of every shape.
+/// Images of small rule sets of every shape, without marks and with.
 fn small_images(seed: u64, each: usize) -> Vec<Vec<u8>> {
     let mut random = Random::new(seed);
     let mut images = vec![reference::encode(&random::sample())];
     for shape in Shape::ALL {
         for _ in 0..each {
             images.push(reference::encode(&shape.rule_set(&mut random)));
+            images.push(reference::encode(&shape.with_marks(&mut random)));
         }
     }
     images
 }
 
-/// Images as long as they can be: the largest rule set, and one of drawn symbols.
+/// Images as long as they can be: the largest rule sets, and one of drawn symbols.
 fn longest_images() -> Vec<Vec<u8>> {
     let mut random = Random::new(201);
     let drawn = RuleSet {
@@ -97,14 +95,12 @@ fn longest_images() -> Vec<Vec<u8>> {
         events: 7,
         verdicts: 9,
         rules: (0..64)
-            .map(|_| Rule {
-                left: random.string(8, 20),
-                right: Right::Symbols(random.string(8, 20)),
-            })
+            .map(|_| string(&random.string(8, 20), &random.string(8, 20)))
             .collect(),
     };
     let images = vec![
         reference::encode(&random::largest()),
+        reference::encode(&random::largest_with_marks()),
         reference::encode(&drawn),
     ];
     for image in &images {
@@ -131,7 +127,7 @@ fn each_byte_of_the_sample_set_to_each_value() {
 #[test]
 fn each_byte_of_small_images_set_to_each_value() {
     let mut tally = Tally::default();
-    for image in small_images(202, 4) {
+    for image in small_images(202, 3) {
         for place in 0..image.len() {
             for value in 0..=255 {
                 let mut damaged = image.clone();
@@ -233,7 +229,7 @@ fn every_entry() {
         for left in EDGES {
             for kind in [0, 1, 2, 3, 128, 255] {
                 for right in EDGES {
-                    for last in [0, 1, 2, 255] {
+                    for last in [0, 1, 2, 3, 128, 255] {
                         let mut image = vec![1, 1, 9, 1, left, kind, right, last];
                         image.resize(8 + length, 0);
                         tally.add(compare(&image));
@@ -243,8 +239,81 @@ fn every_entry() {
         }
     }
     // Left sides of 1, 2, 3, 7 and 8 symbols; strings of 0, 1, 2, 3, 7 and 8 and verdicts of 0, 1,
-    // 2, 3, 7 and 8; each with the one length that fits.
-    assert_eq!(tally.accepted, 5 * (6 + 6));
+    // 2, 3, 7 and 8; unmarked and marked; each with the one length that fits.
+    assert_eq!(tally.accepted, 5 * (6 + 6) * 2);
+}
+
+/// The fourth byte of each rule's entry set to each value: 0 and 1 are accepted, whatever the rule's kind
+/// and whether the other rules are marked. All others are refused, by compile and by the check.
+#[test]
+fn every_fourth_byte() {
+    let kinds = [
+        string(&[1, 0], &[0; 8]),
+        verdict(&[0], 1),
+        string(&[2], &[]),
+        verdict(&[1; 8], 15),
+    ];
+    let mut tally = Tally::default();
+    for count in [1, 2, 5, 63, 64] {
+        for first in 0..kinds.len() {
+            for others in [false, true] {
+                let rules: Vec<Rule> = (0..count)
+                    .map(|rule| Rule {
+                        marked: others,
+                        ..kinds[(first + rule) % kinds.len()].clone()
+                    })
+                    .collect();
+                let image = reference::encode(&RuleSet {
+                    symbols: 3,
+                    events: 2,
+                    verdicts: 16,
+                    rules,
+                });
+                for rule in 0..count {
+                    for value in 0..=255 {
+                        let mut changed = image.clone();
+                        let fourth = 4 + 4 * rule + 3;
+                        assert_eq!(changed[fourth], others.into());
+                        changed[fourth] = value;
+                        let accepted = compare(&changed);
+                        assert_eq!(accepted, value < 2);
+                        tally.add(accepted);
+                    }
+                }
+            }
+        }
+    }
+    let rules = 4 * 2 * (1 + 2 + 5 + 63 + 64);
+    assert_eq!((tally.accepted, tally.refused), (rules * 2, rules * 254));
+}
+
+/// Images whose fourth bytes alone differ: each has the table of its own marks.
+#[test]
+fn every_set_of_marks() {
+    // a b; b; a b; b a a
+    let image = reference::encode(&RuleSet {
+        symbols: 2,
+        events: 2,
+        verdicts: 2,
+        rules: vec![
+            string(&[0, 1], &[1]),
+            verdict(&[1], 0),
+            verdict(&[0, 1], 1),
+            string(&[1, 0, 0], &[]),
+        ],
+    });
+    let mut tables = Vec::new();
+    for marks in 0..16u8 {
+        let mut image = image.clone();
+        for rule in 0..4 {
+            image[4 + 4 * rule + 3] = marks >> rule & 1;
+        }
+        assert!(compare_table(&image));
+        tables.push(reference::compile(&image, usize::MAX).unwrap());
+    }
+    for (marks, table) in tables.iter().enumerate() {
+        assert!(!tables[..marks].contains(table), "marks {marks:b}");
+    }
 }
 
 /// Lengths changed by pairs so that the image's length still fits: in range the same bodies are cut
@@ -256,7 +325,7 @@ fn lengths_that_make_up_for_each_other() {
     let mut tables = 0;
     for case in 0..6_000 {
         let shape = [Shape::TwoSymbols, Shape::Nested, Shape::Equal][case % 3];
-        let mut image = reference::encode(&shape.rule_set(&mut random));
+        let mut image = reference::encode(&shape.either(&mut random));
         let rules = usize::from(image[1]);
         let mut lengths: Vec<usize> = (0..rules).map(|rule| 4 + 4 * rule).collect();
         lengths.extend(
@@ -288,7 +357,7 @@ fn kinds_changed() {
     let mut tally = Tally::default();
     for case in 0..4_000 {
         let shape = [Shape::Any, Shape::TwoSymbols, Shape::Equal][case % 3];
-        let mut image = reference::encode(&shape.rule_set(&mut random));
+        let mut image = reference::encode(&shape.either(&mut random));
         let entry = 4 + 4 * random.below(image[1].into());
         let right = usize::from(image[entry + 2]);
         if image[entry + 1] == 0 {
@@ -316,12 +385,7 @@ fn one_past_each_range() {
         rules,
         ..good.clone()
     };
-    let verdict_rule = |verdict| {
-        vec![Rule {
-            left: vec![31],
-            right: Right::Verdict(verdict),
-        }]
-    };
+    let verdict_rule = |number| vec![verdict(&[31], number)];
     let accepted = [
         good.clone(),
         rules(vec![]),
@@ -432,7 +496,7 @@ fn several_bytes_changed() {
     let mut tally = Tally::default();
     for case in 0..60_000 {
         let shape = Shape::ALL[case % 5];
-        let mut image = reference::encode(&shape.rule_set(&mut random));
+        let mut image = reference::encode(&shape.either(&mut random));
         for _ in 0..random.within(1, 3) {
             let place = random.below(image.len());
             image[place] = match random.below(4) {

@@ -79,8 +79,8 @@ fn batches_are_offers() {
     let mut random = Random::new(901);
     let mut stops = [0; 16];
     for habit in Habit::ALL {
-        for _ in 0..150 {
-            let set = habit.rule_set(&mut random);
+        for _ in 0..250 {
+            let set = habit.either(&mut random);
             let lent = Lent::of(&set);
             let mut memory = Memory::empty();
             for _ in 0..random.within(1, 5) {
@@ -106,8 +106,8 @@ fn batches_are_offers() {
 fn batches_that_fill_the_monitor() {
     let mut random = Random::new(902);
     let mut stops = [0; 16];
-    for round in 0..200 {
-        let mut set = Habit::ALL[round % Habit::ALL.len()].rule_set(&mut random);
+    for round in 0..300 {
+        let mut set = Habit::ALL[round % Habit::ALL.len()].either(&mut random);
         let still = set.symbols;
         set.symbols += 1;
         set.events = set.symbols;

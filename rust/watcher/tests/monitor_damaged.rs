@@ -5,7 +5,8 @@ mod common;
 
 use common::calls::{batch, fresh, go_on, offer};
 use reference::monitor::{Lent, Memory, ROOM};
-use reference::random::{largest, sample, Habit, Random, Shape};
+use reference::random::{largest, largest_with_marks, sample, Habit, Random, Shape};
+use reference::Right;
 
 /// The lengths that areas have here.
 fn length(random: &mut Random) -> usize {
@@ -61,6 +62,7 @@ fn random_memories() {
     let lents: Vec<Lent> = [sample(), Shape::NoRules.rule_set(&mut random)]
         .iter()
         .chain(&Habit::ALL.map(|habit| habit.rule_set(&mut random)))
+        .chain(&Habit::ALL.map(|habit| habit.with_marks(&mut random)))
         .map(Lent::of)
         .collect();
     let mut seen = [0; 17];
@@ -81,10 +83,16 @@ fn random_memories() {
             memory.words = (0..words).map(|_| random.word()).collect();
         }
         if random.once_in(3) {
-            // Nothing held, and now and then a verdict.
+            // Nothing held, and now and then a verdict, that of its rule or another.
             memory = Memory::empty();
             memory.head[2] = random.below(4) as u64;
             memory.head[3] = random.below(4) as u64;
+            let rule = lent.set().rules.get(memory.head[3] as usize);
+            if let Some(Right::Verdict(verdict)) = rule.map(|rule| &rule.right) {
+                if random.once_in(2) {
+                    memory.head[2] = u64::from(*verdict) + 1;
+                }
+            }
         }
         for refusal in all_calls(&mut random, lent, &memory) {
             seen[refusal as usize] += 1;
@@ -127,8 +135,8 @@ fn random_images_and_tables() {
 fn damaged_lists() {
     let mut random = Random::new(1_003);
     let mut seen = [0; 17];
-    for round in 0..600 {
-        let set = Habit::ALL[round % Habit::ALL.len()].rule_set(&mut random);
+    for round in 0..800 {
+        let set = Habit::ALL[round % Habit::ALL.len()].either(&mut random);
         let good = Lent::of(&set);
         let mut memory = Memory::empty();
         for _ in 0..12 {
@@ -187,9 +195,9 @@ fn damaged_lists() {
 fn monitors_of_other_rule_sets() {
     let mut random = Random::new(1_004);
     let mut sets: Vec<_> = (0..20)
-        .map(|round| Habit::ALL[round % Habit::ALL.len()].rule_set(&mut random))
+        .map(|round| Habit::ALL[round % Habit::ALL.len()].either(&mut random))
         .collect();
-    sets.extend([sample(), largest()]);
+    sets.extend([sample(), largest(), largest_with_marks()]);
     let lents: Vec<Lent> = sets.iter().map(Lent::of).collect();
     let mut seen = [0; 17];
     for lent in &lents {

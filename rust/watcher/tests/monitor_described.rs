@@ -5,9 +5,9 @@ mod common;
 
 use common::calls::{batch, go_on, offer, refusals};
 use reference::monitor::{Lent, Memory, State, Verdict, ROOM};
-use reference::random::{sample, Habit, Random};
+use reference::random::{largest, largest_with_marks, sample, Habit, Random};
 use reference::rewriter::occurrences;
-use reference::{string, verdict, RuleSet, Symbol};
+use reference::{marked, string, verdict, RuleSet, Symbol};
 
 /// Five symbols, three events, and rules of both kinds. Rules 1 and 3 can never fire: rule 0 has the
 /// left side of rule 1, and that of rule 3 begins with that of rule 2, which is rewritten before.
@@ -26,6 +26,24 @@ fn rules() -> RuleSet {
             string(&[3, 0], &[4]),
         ],
     }
+}
+
+/// The same rules with marks, and two marked rules more. The same strings can be settled: `3 4` stands in
+/// their middle, where `^ 3 4` does not occur. Rule 6 can never fire.
+///
+/// ^ 0 1 → verdict 2; 0 1 → verdict 0; 2 → 3 4; ^ 2 4 → verdict 1; 3 0 → 4; ^ 3 4 → empty; ^ 3 4 → 1
+fn rules_with_marks() -> RuleSet {
+    let mut set = rules();
+    set.rules[0].marked = true;
+    set.rules[3].marked = true;
+    set.rules.push(marked(string(&[3, 4], &[])));
+    set.rules.push(marked(string(&[3, 4], &[1])));
+    set
+}
+
+/// Image and table of both.
+fn both() -> [Lent; 2] {
+    [Lent::of(&rules()), Lent::of(&rules_with_marks())]
 }
 
 /// A state without a verdict.
@@ -110,16 +128,22 @@ fn expect_11(lent: &Lent, memory: &Memory) {
 
 #[test]
 fn every_state_is_described() {
-    let lent = Lent::of(&rules());
-    for state in states() {
-        assert!(described(&lent, &state.lay_out(&lent)));
+    for lent in both() {
+        for state in states() {
+            assert!(described(&lent, &state.lay_out(&lent)));
+        }
     }
 }
 
 /// Each head word changed to values around its own, powers of two, and the largest.
 #[test]
 fn each_head_word_changed() {
-    let lent = Lent::of(&rules());
+    for lent in both() {
+        change_each_head_word(&lent);
+    }
+}
+
+fn change_each_head_word(lent: &Lent) {
     let mut values: Vec<u64> = vec![
         0, 1, 2, 3, 4, 5, 6, 15, 16, 17, 63, 64, 65, 255, 2_047, 2_048,
     ];
@@ -135,7 +159,7 @@ fn each_head_word_changed() {
     values.extend((8..64).map(|bit| 1 << bit));
     let (mut bad, mut good) = (0, 0);
     for state in states() {
-        let memory = state.lay_out(&lent);
+        let memory = state.lay_out(lent);
         for word in 0..4 {
             let own = memory.head[word];
             let around = [
@@ -149,7 +173,7 @@ fn each_head_word_changed() {
             for value in values.iter().copied().chain(around).chain(wrapped) {
                 let mut changed = memory.clone();
                 changed.head[word] = value;
-                let found = [0, 1, 2].map(|turn| described_in_turn(&lent, &changed, turn));
+                let found = [0, 1, 2].map(|turn| described_in_turn(lent, &changed, turn));
                 assert!(found == [true; 3] || found == [false; 3]);
                 if found[0] {
                     good += 1;
@@ -166,9 +190,14 @@ fn each_head_word_changed() {
 /// Counts whose sum wraps round to the right one, or to a small one.
 #[test]
 fn counts_whose_sum_wraps() {
-    let lent = Lent::of(&rules());
+    for lent in both() {
+        wrap_the_sum(&lent);
+    }
+}
+
+fn wrap_the_sum(lent: &Lent) {
     for state in states() {
-        let memory = state.lay_out(&lent);
+        let memory = state.lay_out(lent);
         let [a, w, ..] = memory.head;
         let sum = a + w;
         for bits in [12, 16, 31, 32, 63] {
@@ -179,7 +208,7 @@ fn counts_whose_sum_wraps() {
             ] {
                 let mut changed = memory.clone();
                 changed.head[..2].copy_from_slice(&pair);
-                expect_11(&lent, &changed);
+                expect_11(lent, &changed);
             }
         }
         for first in [
@@ -194,7 +223,7 @@ fn counts_whose_sum_wraps() {
                 for pair in [[first, second], [second, first]] {
                     let mut changed = memory.clone();
                     changed.head[..2].copy_from_slice(&pair);
-                    expect_11(&lent, &changed);
+                    expect_11(lent, &changed);
                 }
             }
         }
@@ -207,7 +236,7 @@ fn counts_whose_sum_wraps() {
         ] {
             let mut changed = memory.clone();
             changed.head[..2].copy_from_slice(&pair);
-            expect_11(&lent, &changed);
+            expect_11(lent, &changed);
         }
     }
 }
@@ -215,10 +244,15 @@ fn counts_whose_sum_wraps() {
 /// Each byte of the area changed, to a symbol and to bytes that are none.
 #[test]
 fn each_byte_changed() {
-    let lent = Lent::of(&rules());
+    for lent in both() {
+        change_each_byte(&lent);
+    }
+}
+
+fn change_each_byte(lent: &Lent) {
     let (mut gap, mut no_symbol, mut other_symbol) = (0, 0, 0);
     for state in states() {
-        let memory = state.lay_out(&lent);
+        let memory = state.lay_out(lent);
         let (a, w) = (state.settled.len(), state.waiting.len());
         for place in 0..ROOM {
             let own = memory.bytes[place];
@@ -233,7 +267,7 @@ fn each_byte_changed() {
                 }
                 let mut changed = memory.clone();
                 changed.bytes[place] = value;
-                let good = described_in_turn(&lent, &changed, turn);
+                let good = described_in_turn(lent, &changed, turn);
                 if (a..ROOM - w).contains(&place) {
                     assert!(!good, "byte {place} of the gap");
                     gap += 1;
@@ -256,11 +290,16 @@ fn each_byte_changed() {
 /// Each word of the area changed.
 #[test]
 fn each_word_changed() {
-    let lent = Lent::of(&rules());
+    for lent in both() {
+        change_each_word(&lent);
+    }
+}
+
+fn change_each_word(lent: &Lent) {
     let n = lent.table[0];
     let mut count = 0;
     for (number, state) in states().iter().enumerate() {
-        let memory = state.lay_out(&lent);
+        let memory = state.lay_out(lent);
         for place in 0..ROOM {
             let own = memory.words[place];
             let values = match place % 4 {
@@ -273,7 +312,7 @@ fn each_word_changed() {
                 assert_ne!(value, own);
                 let mut changed = memory.clone();
                 changed.words[place] = value;
-                let good = described_in_turn(&lent, &changed, turn);
+                let good = described_in_turn(lent, &changed, turn);
                 assert!(!good, "word {place} is {value}");
                 count += 1;
             }
@@ -286,25 +325,30 @@ fn each_word_changed() {
 /// anew in the middle.
 #[test]
 fn words_of_another_walk() {
-    let lent = Lent::of(&rules());
-    let good = state(&settled(50), &[]).lay_out(&lent);
+    for lent in both() {
+        walk_otherwise(&lent);
+    }
+}
+
+fn walk_otherwise(lent: &Lent) {
+    let good = state(&settled(50), &[]).lay_out(lent);
     for place in 0..50 {
         for value in 0..lent.table[0] {
             let mut changed = good.clone();
             changed.words[place] = value;
-            assert_eq!(described(&lent, &changed), value == good.words[place]);
+            assert_eq!(described(lent, &changed), value == good.words[place]);
         }
         if good.words[place] != 0 {
             // From here on as if the string began here.
             let mut changed = good.clone();
-            let rest = state(&settled(50)[place + 1..], &[]).lay_out(&lent);
+            let rest = state(&settled(50)[place + 1..], &[]).lay_out(lent);
             changed.words[place] = 0;
             changed.words[place + 1..50].copy_from_slice(&rest.words[..49 - place]);
-            expect_11(&lent, &changed);
+            expect_11(lent, &changed);
         }
         let mut changed = good.clone();
         changed.words.copy_within(place..50, place + 1);
-        assert_eq!(described(&lent, &changed), changed == good);
+        assert_eq!(described(lent, &changed), changed == good);
     }
 }
 
@@ -312,12 +356,17 @@ fn words_of_another_walk() {
 /// ones, as if the byte were a symbol there.
 #[test]
 fn settled_bytes_that_reach_other_rows() {
-    let lent = Lent::of(&rules());
+    for lent in both() {
+        reach_other_rows(&lent);
+    }
+}
+
+fn reach_other_rows(lent: &Lent) {
     let n = usize::from(lent.table[0]);
     let rows = &lent.table[2 + n..];
     let mut tried = 0;
     for before in [0, 1, 3, 50, 2_047] {
-        let good = state(&settled(before), &[]).lay_out(&lent);
+        let good = state(&settled(before), &[]).lay_out(lent);
         let last = match before {
             0 => 0,
             _ => usize::from(good.words[before - 1]),
@@ -330,7 +379,7 @@ fn settled_bytes_that_reach_other_rows() {
             changed.head[0] += 1;
             changed.bytes[before] = byte;
             changed.words[before] = word;
-            expect_11(&lent, &changed);
+            expect_11(lent, &changed);
             tried += 1;
         }
     }
@@ -340,28 +389,38 @@ fn settled_bytes_that_reach_other_rows() {
 /// Settled strings in which a left side occurs, with the words that they would have.
 #[test]
 fn settled_states_with_a_match() {
-    let lent = Lent::of(&rules());
+    for lent in both() {
+        settle_a_match(&lent);
+    }
+}
+
+fn settle_a_match(lent: &Lent) {
     for left in [&[0, 1][..], &[2], &[2, 4], &[3, 0]] {
         for before in [0, 1, 5, 100, 1_000, 2_040] {
             for behind in [0, 1, 5] {
                 let string = [&settled(before)[..], left, &vec![4; behind]].concat();
-                expect_11(&lent, &state(&string, &[1]).lay_out(&lent));
+                expect_11(lent, &state(&string, &[1]).lay_out(lent));
             }
         }
     }
     // The same with a verdict.
-    let mut judged = state(&[0, 0, 1], &[]).lay_out(&lent);
+    let mut judged = state(&[0, 0, 1], &[]).lay_out(lent);
     judged.head[2..].copy_from_slice(&[3, 0]);
-    expect_11(&lent, &judged);
+    expect_11(lent, &judged);
 }
 
 /// Every pair of a verdict and a rule, in and out of range: a verdict is that of its rule.
 #[test]
 fn verdicts_and_their_rules() {
-    let lent = Lent::of(&rules());
+    for lent in both() {
+        judge_by_other_rules(&lent);
+    }
+}
+
+fn judge_by_other_rules(lent: &Lent) {
     let of_rules = [(3, 0), (1, 1), (2, 3)];
     for state in states() {
-        let memory = state.lay_out(&lent);
+        let memory = state.lay_out(lent);
         for verdict in 0..=20 {
             for rule in 0..=70 {
                 let mut changed = memory.clone();
@@ -370,11 +429,11 @@ fn verdicts_and_their_rules() {
                 // Most of the bad ones with one operation, so that it takes less time.
                 if good {
                     let refusal = if verdict == 0 { 0 } else { 14 };
-                    assert_eq!(go_on(&lent, &mut changed, 0).refusal, refusal);
+                    assert_eq!(go_on(lent, &mut changed, 0).refusal, refusal);
                 } else if rule < 6 && verdict < 6 {
-                    expect_11(&lent, &changed);
+                    expect_11(lent, &changed);
                 } else {
-                    assert!(!described(&lent, &changed));
+                    assert!(!described(lent, &changed));
                 }
             }
         }
@@ -382,9 +441,9 @@ fn verdicts_and_their_rules() {
             for bit in 8..64 {
                 let mut changed = memory.clone();
                 changed.head[2..].copy_from_slice(&[verdict + (1 << bit), rule]);
-                assert!(!described(&lent, &changed));
+                assert!(!described(lent, &changed));
                 changed.head[2..].copy_from_slice(&[verdict, rule + (1 << bit)]);
-                assert!(!described(&lent, &changed));
+                assert!(!described(lent, &changed));
             }
         }
     }
@@ -436,7 +495,12 @@ fn the_verdict_of_a_string_rule() {
 /// Neighbours of what is refused, which are as described.
 #[test]
 fn good_neighbours() {
-    let lent = Lent::of(&rules());
+    for lent in both() {
+        try_good_neighbours(&lent);
+    }
+}
+
+fn try_good_neighbours(lent: &Lent) {
     // A verdict with a full monitor, settled or waiting.
     for (settled, waiting) in [
         (settled(2_048), vec![]),
@@ -448,7 +512,7 @@ fn good_neighbours() {
             waiting,
             verdict: Some(Verdict { number: 2, rule: 0 }),
         };
-        assert_eq!(refusals(&lent, &full.lay_out(&lent), 0, 9), [14, 14, 0]);
+        assert_eq!(refusals(lent, &full.lay_out(lent), 0, 9), [14, 14, 0]);
     }
     // Verdicts of rules that can never fire.
     for (number, rule) in [(0, 1), (1, 3)] {
@@ -457,26 +521,28 @@ fn good_neighbours() {
             waiting: vec![2],
             verdict: Some(Verdict { number, rule }),
         };
-        assert_eq!(refusals(&lent, &judged.lay_out(&lent), 0, 9), [14, 14, 0]);
+        assert_eq!(refusals(lent, &judged.lay_out(lent), 0, 9), [14, 14, 0]);
     }
     // Waiting symbols that are no events, and waiting symbols that match.
-    let waits = state(&[], &[3, 4, 3, 4, 0, 1, 2]).lay_out(&lent);
-    assert_eq!(refusals(&lent, &waits, 0, 9), [0; 3]);
+    let waits = state(&[], &[3, 4, 3, 4, 0, 1, 2]).lay_out(lent);
+    assert_eq!(refusals(lent, &waits, 0, 9), [0; 3]);
     // The symbols before the cut and behind it would match together.
-    let split = state(&[4, 0], &[1]).lay_out(&lent);
-    assert_eq!(refusals(&lent, &split, 0, 9), [0; 3]);
+    let split = state(&[4, 0], &[1]).lay_out(lent);
+    assert_eq!(refusals(lent, &split, 0, 9), [0; 3]);
     // A byte of the gap counted as a symbol 0: among the waiting ones, or behind a settled symbol
     // that leaves state 0. The state after a settled 0 is another one here.
-    let mut waiting = state(&[4], &[1, 4]).lay_out(&lent);
+    let mut waiting = state(&[4], &[1, 4]).lay_out(lent);
     waiting.head[1] = 3;
-    assert_eq!(refusals(&lent, &waiting, 0, 9), [0; 3]);
-    let mut settled = state(&[4], &[]).lay_out(&lent);
+    assert_eq!(refusals(lent, &waiting, 0, 9), [0; 3]);
+    let mut settled = state(&[4], &[]).lay_out(lent);
     settled.head[0] = 2;
-    expect_11(&lent, &settled);
+    expect_11(lent, &settled);
     let none = Lent::of(&RuleSet {
         rules: vec![],
         ..rules()
     });
+    let mut settled = state(&[4], &[]).lay_out(&none);
+    settled.head[0] = 2;
     assert_eq!(refusals(&none, &settled, 0, 9), [0; 3]);
 }
 
@@ -489,7 +555,7 @@ fn random_changes() {
         let habits = [Habit::Judge, Habit::Mixed, Habit::Chain];
         let set = match round % 4 {
             3 => sample(),
-            habit => habits[habit].rule_set(&mut random),
+            habit => habits[habit].either(&mut random),
         };
         let lent = Lent::of(&set);
         let length = random.within(0, 6);
@@ -530,17 +596,23 @@ fn random_changes() {
     assert!(bad > 1_200, "{bad} bad");
 }
 
-/// The largest rule set: states above 255 in the words.
+/// The largest rule sets: states above 255 in the words.
 #[test]
 fn states_of_a_large_table() {
-    let set = reference::random::largest();
-    let lent = Lent::of(&set);
+    for set in [largest(), largest_with_marks()] {
+        change_high_states(&set);
+    }
+}
+
+fn change_high_states(set: &RuleSet) {
+    let lent = Lent::of(set);
+    let n = lent.table[0];
     let mut high = 0;
     for rule in [0, 20, 33, 47, 63] {
         // All but the last symbol of a left side, twice.
         let begin = &set.rules[rule].left[..7];
         let held = [begin, begin].concat();
-        if !occurrences(&set, &held).is_empty() {
+        if !occurrences(set, &held).is_empty() {
             continue;
         }
         let memory = state(&held, &[1]).lay_out(&lent);
@@ -550,8 +622,8 @@ fn states_of_a_large_table() {
             for value in [
                 memory.words[place] ^ 1,
                 memory.words[place] ^ 0x100,
-                481,
-                480,
+                n,
+                n - 1,
             ] {
                 let mut changed = memory.clone();
                 changed.words[place] = value;

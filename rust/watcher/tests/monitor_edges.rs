@@ -153,7 +153,7 @@ fn random_states_near_the_edge() {
     let mut random = Random::new(601);
     let (mut full, mut quiet, mut no_room) = (0, 0, 0);
     for round in 0..1_200 {
-        let mut set = Habit::ALL[round % Habit::ALL.len()].rule_set(&mut random);
+        let mut set = Habit::ALL[round % Habit::ALL.len()].either(&mut random);
         // A symbol that is in no left side, so that anything of it can be settled.
         let still = set.symbols;
         set.symbols += 1;
@@ -220,7 +220,7 @@ fn verdicts_beside_a_full_monitor() {
     let mut random = Random::new(602);
     let mut tried = 0;
     for _ in 0..100 {
-        let set = Habit::Judge.rule_set(&mut random);
+        let set = Habit::Judge.either(&mut random);
         let lent = Lent::of(&set);
         for (rule, right) in set.rules.iter().map(|rule| &rule.right).enumerate() {
             let &Right::Verdict(number) = right else {

@@ -64,8 +64,11 @@ fn short_lists() {
     let mut random = Random::new(501);
     let mut seen = Seen::default();
     for habit in Habit::ALL {
-        for _ in 0..500 {
-            let lent = Lent::of(&habit.rule_set(&mut random));
+        for round in 0..900 {
+            let lent = Lent::of(&match round {
+                0..500 => habit.rule_set(&mut random),
+                _ => habit.with_marks(&mut random),
+            });
             let mut list = List::new(&lent);
             for _ in 0..random.within(0, 14) {
                 let call = draw(&mut random, lent.set(), 12);
@@ -89,8 +92,11 @@ fn long_lists() {
     let mut random = Random::new(502);
     let mut seen = Seen::default();
     for habit in Habit::ALL {
-        for _ in 0..16 {
-            let mut set = habit.rule_set(&mut random);
+        for round in 0..28 {
+            let mut set = match round {
+                0..16 => habit.rule_set(&mut random),
+                _ => habit.with_marks(&mut random),
+            };
             // Many verdicts would end most lists early.
             for rule in &mut set.rules {
                 if matches!(rule.right, Right::Verdict(_)) && random.once_in(2) {
@@ -120,6 +126,7 @@ fn rule_sets_of_every_shape() {
     let mut random = Random::new(503);
     let mut sets = vec![
         random::largest(),
+        random::largest_with_marks(),
         random::overlapping(2),
         random::overlapping(32),
         random::full(&mut random, 32, 2),
@@ -127,6 +134,7 @@ fn rule_sets_of_every_shape() {
     ];
     for shape in Shape::ALL {
         sets.extend((0..25).map(|_| shape.rule_set(&mut random)));
+        sets.extend((0..25).map(|_| shape.with_marks(&mut random)));
     }
     let mut seen = Seen::default();
     for mut set in sets {
@@ -210,13 +218,61 @@ fn all_small_rule_sets() {
     assert!(seen.rewrites > 10_000, "{seen:?}");
 }
 
+/// The same pairs of rules with the one marked, the other, or both, and some of these strings of events.
+#[test]
+fn all_small_rule_sets_with_marks() {
+    let mut strings: Vec<Vec<u8>> = Vec::new();
+    for length in 0..=2 {
+        for bits in 0..1u8 << length {
+            strings.push((0..length).map(|place| bits >> place & 1).collect());
+        }
+    }
+    let mut rules: Vec<Rule> = Vec::new();
+    for left in &strings[1..] {
+        rules.extend(strings.iter().map(|right| string(left, right)));
+        rules.push(verdict(left, 1));
+    }
+    let mut seen = Seen::default();
+    let mut number = 0;
+    for first in &rules {
+        for second in &rules {
+            for marks in [[true, false], [false, true], [true, true]] {
+                let mut pair = vec![first.clone(), second.clone()];
+                pair[0].marked = marks[0];
+                pair[1].marked = marks[1];
+                let lent = Lent::of(&RuleSet {
+                    symbols: 2,
+                    events: 2,
+                    verdicts: 2,
+                    rules: pair,
+                });
+                number += 1;
+                for place in 0..3 {
+                    let events = (5 * number + 6 * place) % 16;
+                    let fuel = [5, 2, 0][(number + place) % 3];
+                    let mut list = List::new(&lent);
+                    for bit in 0..4 {
+                        seen.call(&mut list, Call::Offer((events >> bit & 1) as u8, fuel));
+                    }
+                    seen.call(&mut list, Call::GoOn(9));
+                    list.check_from_the_start();
+                }
+            }
+        }
+    }
+    assert!(seen.quiet > 20_000, "{seen:?}");
+    assert!(seen.spent > 20_000, "{seen:?}");
+    assert!(seen.verdict > 2_000, "{seen:?}");
+    assert!(seen.rewrites > 5_000, "{seen:?}");
+}
+
 /// Rules that grow until the monitor is full, and offers and goes-on from there.
 #[test]
 fn lists_that_fill_the_monitor() {
     let mut random = Random::new(504);
     let mut seen = Seen::default();
     for _ in 0..30 {
-        let mut set = Habit::Grow.rule_set(&mut random);
+        let mut set = Habit::Grow.either(&mut random);
         for rule in &mut set.rules {
             if matches!(rule.right, Right::Verdict(_)) {
                 rule.right = Right::Symbols(vec![rule.left[0]; 8]);

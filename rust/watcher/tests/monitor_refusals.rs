@@ -6,11 +6,20 @@ mod common;
 use common::calls::{batch, fresh, go_on, offer, refusals};
 use reference::monitor::{Lent, Memory, State, ROOM};
 use reference::random::{sample, Habit, Random, Shape};
-use reference::Right;
+use reference::{Right, RuleSet};
+
+/// The sample, and the sample with `^ take` for `take`.
+fn sets() -> [RuleSet; 2] {
+    let mut with_mark = sample();
+    with_mark.rules[2].marked = true;
+    [sample(), with_mark]
+}
 
 /// What a call is given.
 #[derive(Clone)]
 struct Given {
+    /// The rule set that image and table were of at first.
+    set: RuleSet,
     image: Vec<u8>,
     table: Vec<u16>,
     memory: Memory,
@@ -21,9 +30,10 @@ struct Given {
 }
 
 impl Given {
-    /// The sample, a monitor that holds `lock free` settled and `free free` waiting, and events lock.
-    fn good() -> Given {
-        let lent = Lent::of(&sample());
+    /// One of these rule sets, a monitor that holds `lock free` settled and `free free` waiting, and events
+    /// lock.
+    fn good(set: &RuleSet) -> Given {
+        let lent = Lent::of(set);
         let memory = State {
             settled: vec![0, 2],
             waiting: vec![2, 2],
@@ -31,6 +41,7 @@ impl Given {
         }
         .lay_out(&lent);
         Given {
+            set: set.clone(),
             image: lent.image,
             table: lent.table,
             memory,
@@ -99,7 +110,7 @@ impl Given {
                     waiting: vec![0; 1_048],
                     verdict: None,
                 };
-                self.memory = room.lay_out(&Lent::of(&sample()));
+                self.memory = room.lay_out(&Lent::of(&self.set));
             }
             16 => self.answers -= 1,
             _ => unreachable!("no such refusal"),
@@ -110,8 +121,14 @@ impl Given {
 /// Gives a call every set of these causes, which stand in the order of the refusals, and expects the
 /// first of each set.
 fn every_set_of_causes(causes: &[u32], refusal: fn(&Given) -> u32) {
+    for set in sets() {
+        every_set_of_causes_for(&set, causes, refusal);
+    }
+}
+
+fn every_set_of_causes_for(set: &RuleSet, causes: &[u32], refusal: fn(&Given) -> u32) {
     for chosen in 0..1u32 << causes.len() {
-        let mut given = Given::good();
+        let mut given = Given::good(set);
         let mut first = 0;
         for (place, &cause) in causes.iter().enumerate().rev() {
             if chosen >> place & 1 == 1 {
@@ -132,7 +149,7 @@ fn offer_with_every_set_of_causes() {
 #[test]
 fn go_on_with_every_set_of_causes() {
     every_set_of_causes(&[7, 9, 10, 11, 13, 14], Given::go_on);
-    let mut full = Given::good();
+    let mut full = Given::good(&sample());
     full.spoil(15);
     assert_eq!(full.go_on(), 0);
     full.spoil(12);
@@ -186,7 +203,12 @@ fn fresh_with_areas_of_every_length() {
 /// 7: every byte of the image changed. Whatever the change, the table and the monitor are the same.
 #[test]
 fn bad_images() {
-    let good = Given::good();
+    for set in sets() {
+        change_the_image(&Given::good(&set));
+    }
+}
+
+fn change_the_image(good: &Given) {
     let (mut refused, mut others) = (0, 0);
     for place in 0..good.image.len() {
         for change in 1..=255 {
@@ -209,7 +231,12 @@ fn bad_images() {
 /// 9: every word of the table changed, and tables cut at every length. Longer ones are accepted.
 #[test]
 fn other_tables() {
-    let good = Given::good();
+    for set in sets() {
+        change_the_table(&Given::good(&set));
+    }
+}
+
+fn change_the_table(good: &Given) {
     let mut random = Random::new(702);
     for place in 0..good.table.len() {
         let word = good.table[place];
@@ -238,7 +265,7 @@ fn other_tables() {
 /// 10: areas of other lengths, whatever the head says.
 #[test]
 fn areas_of_other_lengths() {
-    let good = Given::good();
+    let good = Given::good(&sample());
     let lengths = [0, 1, 2, 3, 1_024, 2_047, 2_048, 2_049, 4_096, 67_584];
     for bytes in lengths {
         for words in lengths {
@@ -278,7 +305,7 @@ fn no_events() {
 /// 13: fuel above 65,535, with every bit above.
 #[test]
 fn too_much_fuel() {
-    let given = Given::good();
+    let given = Given::good(&sample());
     let lent = given.lent();
     let mut values = vec![65_536, 65_537, 65_538, 131_071, u32::MAX, u32::MAX - 1];
     values.extend((16..32).map(|bit| 1 << bit));
@@ -301,7 +328,7 @@ fn standing_verdicts() {
     let mut random = Random::new(704);
     let mut tried = [0; 16];
     for _ in 0..1_000 {
-        let set = Habit::Mixed.rule_set(&mut random);
+        let set = Habit::Mixed.either(&mut random);
         let lent = Lent::of(&set);
         for (rule, right) in set.rules.iter().map(|rule| &rule.right).enumerate() {
             let &Right::Verdict(verdict) = right else {

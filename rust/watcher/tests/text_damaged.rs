@@ -11,10 +11,10 @@ use watcher::MAX_TEXT_BYTES;
 /// Bytes that mean something in a text, the neighbours of letters and digits, and bytes that mean
 /// nothing.
 const BYTES: &[u8] =
-    b" \t\r\n#.->az_AZ09es%@[`{/:,!\0\x08\x0b\x0c\x0e\x1f\x7f\x80\x85\xa0\xc3\xe9\xff";
+    b" \t\r\n#.->^az_AZ09es%@[`{/:,!\0\x08\x0b\x0c\x0e\x1f\x7f\x80\x85\xa0\xc3\xe9\xff";
 
 /// Some of them.
-const FEW: &[u8] = b" #.->aZ_9\0\xff";
+const FEW: &[u8] = b" #.->^aZ_9\0\xff";
 
 /// Texts of many kinds, none of them long.
 fn texts() -> Vec<Vec<u8>> {
@@ -22,13 +22,14 @@ fn texts() -> Vec<Vec<u8>> {
     let mut all = vec![
         b"events a .".to_vec(),
         b" events a b\t. a -> #x . b a -> a b .\r\n".to_vec(),
+        b"events a b . ^ a -> #x . ^\tb a -> a b . a -> a .".to_vec(),
         b"events e . e e e e e e e e -> e e e e e e e e . e -> #succeed .".to_vec(),
         b"events abcdefghijklmnopqrstuvwx . abcdefghijklmnopqrstuvwx -> #abcdefghijklmnopqrstuvwx ."
             .to_vec(),
     ];
     for naming in Naming::ALL {
         let spacing = [Spacing::One, Spacing::Few][random.below(2)];
-        let mut set = Habit::Mixed.rule_set(&mut random);
+        let mut set = Habit::Mixed.either(&mut random);
         set.rules.truncate(4);
         all.push(texts::write(&mut random, &set, naming, spacing).text);
     }
@@ -187,18 +188,19 @@ fn random_bytes() {
     let mut tally = Tally::default();
     let every: Vec<u8> = (0..=255).collect();
     let alphabets: [&[u8]; 4] = [
-        b"ab   \n..->#",
+        b"ab   \n..->#^^",
         b"a b.",
         b"  \t\t\r\r\n\nevntsab.->##_9\0\x0b",
         &every,
     ];
-    let begins: [&[u8]; 6] = [
+    let begins: [&[u8]; 7] = [
         b"",
         b"events ",
         b"events a b . ",
         b"events a b . a b ",
         b"events a b . a -> ",
         b"events a b . a -> b . ",
+        b"events a b . ^ ",
     ];
     for round in 0..200_000 {
         let mut text = begins[random.below(begins.len())].to_vec();

@@ -36,6 +36,10 @@ impl Seen {
         self.count("rules", set.rules.len());
         for rule in &set.rules {
             self.count("left side", rule.left.len());
+            self.count("mark", rule.marked);
+            if rule.marked {
+                self.count("marked left side", rule.left.len());
+            }
             match &rule.right {
                 Right::Symbols(right) => self.count("right side", right.len()),
                 Right::Verdict(verdict) => self.count("verdict", *verdict),
@@ -66,8 +70,17 @@ impl Seen {
     }
 }
 
-/// A rule set that fills a limit of each kind once in a while.
+/// A rule set that fills a limit of each kind once in a while, without marks or with.
 fn rule_set(random: &mut Random, round: usize) -> RuleSet {
+    let set = rule_set_without_marks(random, round);
+    if random.once_in(2) {
+        random::with_marks(random, set)
+    } else {
+        set
+    }
+}
+
+fn rule_set_without_marks(random: &mut Random, round: usize) -> RuleSet {
     match round % 4 {
         0 => Shape::ALL[random.below(Shape::ALL.len())].rule_set(random),
         1 => Habit::ALL[random.below(Habit::ALL.len())].rule_set(random),
@@ -123,6 +136,8 @@ fn written_texts() {
     seen.expect("rules", 0..=64, 5);
     seen.expect("rules", [64], 300);
     seen.expect("left side", 1..=8, 500);
+    seen.expect("marked left side", 1..=8, 500);
+    seen.expect("mark", [0, 1], 5_000);
     seen.expect("right side", 0..=8, 500);
     seen.expect("verdict", 0..=15, 200);
     seen.expect("name", 1..=24, 300);
@@ -147,8 +162,13 @@ fn written_texts_into_other_areas() {
 #[test]
 fn longest_image() {
     let mut random = Random::new(2_003);
-    let set = random::largest();
-    for length in [1, 2, 14] {
+    for (set, length) in [
+        (random::largest(), 1),
+        (random::largest(), 2),
+        (random::largest(), 14),
+        (random::largest_with_marks(), 1),
+        (random::largest_with_marks(), 14),
+    ] {
         let mut symbols = Vec::new();
         while symbols.len() < 32 {
             let letters = b"abcdefghijklmnopqrstuvwxyzABCDEFGHIJKLMNOPQRSTUVWXYZ";
@@ -166,30 +186,36 @@ fn longest_image() {
         assert_eq!(reading.symbols, symbols);
         // The symbols of this rule set are numbered as they appear, since all are events.
         assert_eq!(reading.image()[3..], reference::encode(&set)[3..]);
+        assert_eq!(reading.set.has_mark(), set.has_mark());
         assert!(length < 14 || text.len() > 16_000, "{}", text.len());
     }
 }
 
 /// The tokens of the lists below: what the grammar names, two names, a word.
-const TOKENS: [&str; 8] = ["events", "a", "b", "#fail", "#x", "#epsilon", "->", "."];
+const TOKENS: [&str; 9] = [
+    "events", "a", "b", "^", "#fail", "#x", "#epsilon", "->", ".",
+];
 
-/// Every list of up to six tokens.
+/// Every list of up to five tokens, and every list of six that begins with `events`.
 #[test]
 fn all_small_lists() {
     let mut tally = Tally::default();
     let mut count = 0;
     for length in 0..=6 {
-        for number in 0..8usize.pow(length) {
+        for number in 0..9usize.pow(length) {
             let list: Vec<&str> = (0..length)
-                .map(|place| TOKENS[number / 8usize.pow(place) % 8])
+                .map(|place| TOKENS[number / 9usize.pow(place) % 9])
                 .collect();
+            if length == 6 && list[0] != "events" {
+                continue;
+            }
             tally.add(&read(list.join(" ").as_bytes()));
             count += 1;
         }
     }
-    assert_eq!(count, 299_593);
+    assert_eq!(count, 66_430 + 59_049);
     // `events`, one to three different names out of three, `.`. With a rule there would be seven tokens.
-    tally.expect(3 + 6 + 6, [0, 290_000, 0, 1_000]);
+    tally.expect(3 + 6 + 6, [0, 100_000, 0, 1_000]);
 }
 
 /// Every list that goes on behind `events a .`, up to seven tokens, as long as it has not broken; each
@@ -240,9 +266,9 @@ fn all_tokens_behind_sides_of_every_length() {
 }
 
 /// Runs that stand where tokens should: tokens of all kinds, and runs that are none.
-const RUNS: [&str; 24] = [
+const RUNS: [&str; 28] = [
     "events", "a", "b", "c", "events", "a", "b", "->", ".", "->", ".", ".", "#x", "#y", "#fail",
-    "#epsilon", "#succeed", "a.", "->.", "#", "9", "_a", "Events", "#a",
+    "#epsilon", "#succeed", "a.", "->.", "#", "9", "_a", "Events", "#a", "^", "^", "^", "^a",
 ];
 
 /// Lists of random tokens behind a good beginning.
@@ -255,6 +281,7 @@ fn random_lists() {
             0 => vec![],
             1 => vec!["events"],
             2 => vec!["events", "a", "b", "."],
+            _ if random.once_in(2) => vec!["events", "a", "b", ".", "^", "a"],
             _ => vec!["events", "a", "b", ".", "a", "b"],
         };
         for _ in 0..random.within(0, 14) {
@@ -304,7 +331,7 @@ fn rules_that_are_read_and_run() {
     let mut random = Random::new(2_006);
     let (mut rewrites, mut verdicts) = (0, 0);
     for round in 0..1_000 {
-        let set = Habit::ALL[round % Habit::ALL.len()].rule_set(&mut random);
+        let set = Habit::ALL[round % Habit::ALL.len()].either(&mut random);
         let naming = Naming::ALL[random.below(Naming::ALL.len())];
         let spacing = Spacing::ALL[random.below(Spacing::ALL.len())];
         let Written { text, reading } = texts::write(&mut random, &set, naming, spacing);

@@ -132,7 +132,13 @@ fn symbols() {
 
 #[test]
 fn rules() {
-    for (rule, length) in [("a -> a .", 1), ("a -> #fail .", 0), ("a -> #epsilon .", 0)] {
+    for (rule, length) in [
+        ("a -> a .", 1),
+        ("a -> #fail .", 0),
+        ("a -> #epsilon .", 0),
+        ("^ a -> a .", 1),
+        ("^ a -> #x .", 0),
+    ] {
         for count in 0..=70 {
             let text = format!("events a .\n{}", format!("{rule}\n").repeat(count));
             if count <= 64 {
@@ -140,7 +146,9 @@ fn rules() {
                 assert_eq!(reading.set.rules.len(), count);
                 assert_eq!(reading.image().len(), 4 + (4 + 1 + length) * count);
             } else {
-                expect_refused(&text, 5, 11 + 64 * (rule.len() + 1));
+                // The name, behind a `^`.
+                let name = rule.find('a').expect("a name");
+                expect_refused(&text, 5, 11 + 64 * (rule.len() + 1) + name);
             }
         }
         // What may stand behind rule 64, and what not.
@@ -158,7 +166,12 @@ fn rules() {
         ] {
             expect_refused(format!("{text}{next}"), refusal, text.len());
             expect_refused(format!("{text}\n {next} -> a ."), refusal, text.len() + 2);
+            // The same behind a `^`, which is taken.
+            expect_refused(format!("{text}^ {next}"), refusal, text.len() + 2);
+            expect_refused(format!("{text}^\t\n{next} -> a ."), refusal, text.len() + 3);
         }
+        expect_refused(format!("{text}^"), 4, text.len() + 1);
+        expect_refused(format!("{text}^ ^ a"), 4, text.len() + 2);
     }
 }
 
@@ -174,6 +187,8 @@ fn sides() {
             for (before, after) in [
                 ("events a . ", " -> a ."),
                 ("events a . ", " -> #x ."),
+                ("events a . ^ ", " -> a ."),
+                ("events a . ^\n", " -> #epsilon ."),
                 ("events a . a -> ", " ."),
             ] {
                 let text = format!("{before}{side}{after}");

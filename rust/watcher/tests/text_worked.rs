@@ -37,17 +37,17 @@ fn expect_read(text: impl AsRef<[u8]>, image: &[u8], symbols: &[&str], others: &
     assert_eq!(reading.slots(), slots(symbols, &verdicts));
 }
 
-/// The place of the only `^` in the text, and the text without it.
-fn marked(text: &str) -> (usize, String) {
-    assert_eq!(text.matches('^').count(), 1, "{text}");
-    let place = text.find('^').expect("a mark");
-    (place, text.replace('^', ""))
+/// The place of the only `|` in the text, and the text without it.
+fn pointed(text: &str) -> (usize, String) {
+    assert_eq!(text.matches('|').count(), 1, "{text}");
+    let place = text.find('|').expect("a place");
+    (place, text.replace('|', ""))
 }
 
-/// Expects a refusal at the place of the only `^`, which is not a part of the text.
+/// Expects a refusal at the place of the only `|`, which is not a part of the text.
 #[track_caller]
 fn expect_refused_at(text: &str, refusal: u32) {
-    let (place, text) = marked(text);
+    let (place, text) = pointed(text);
     expect_refused(text, refusal, place);
 }
 
@@ -138,16 +138,16 @@ fn repeated_names_in_rules() {
 #[test]
 fn runs_that_are_no_tokens() {
     for text in [
-        "events ^a.",
-        "events ^a. a -> a .",
-        "events a ^.a",
-        "events a . ^a->b .",
-        "events a . ^a-> b .",
-        "events a . a ^->b .",
-        "events a . a -> ^#fail.",
-        "events a . a -> ^a.",
-        "^events. a .",
-        "^events\u{b}a .",
+        "events |a.",
+        "events |a. a -> a .",
+        "events a |.a",
+        "events a . |a->b .",
+        "events a . |a-> b .",
+        "events a . a |->b .",
+        "events a . a -> |#fail.",
+        "events a . a -> |a.",
+        "|events. a .",
+        "|events\u{b}a .",
     ] {
         expect_refused_at(text, 3);
     }
@@ -156,23 +156,24 @@ fn runs_that_are_no_tokens() {
         "-->", "->-", "->.", ".->", "..", "...", "9", "9a", "_", "_a", "a-b", "a.b", ",", "%",
         "a%", "\0", "a\0", "\u{b}", "\u{c}", "a\u{b}b", "a\u{c}b", "\u{1b}", "\u{7f}", "é", "aé",
         "#é", "\u{a0}", "a\u{85}", "(a)", "a'", "\"a\"", "@", "[", "`", "{", "/", ":", "a@", "a[",
-        "a`", "a{", "a/", "a:", "#a@", "#@", "#[", "#`", "#{", "\u{feff}",
+        "a`", "a{", "a/", "a:", "#a@", "#@", "#[", "#`", "#{", "\u{feff}", "^^", "^a", "a^", "#^",
+        "^#", "^#x", "#x^", "^.", ".^", "^->", "->^", "^events", "\u{2c6}", "^\u{b}",
     ] {
-        expect_refused_at(&format!("^{run}"), 3);
-        expect_refused_at(&format!("^{run} events a ."), 3);
-        expect_refused_at(&format!("events ^{run} ."), 3);
-        expect_refused_at(&format!("events a ^{run} ."), 3);
-        expect_refused_at(&format!("events a . ^{run} -> a ."), 3);
-        expect_refused_at(&format!("events a . a ^{run} a ."), 3);
-        expect_refused_at(&format!("events a . a -> ^{run} ."), 3);
-        expect_refused_at(&format!("events a . a -> a ^{run}"), 3);
-        expect_refused_at(&format!("events a . a -> #x ^{run}"), 3);
-        expect_refused_at(&format!("events a . a -> #x . ^{run}"), 3);
+        expect_refused_at(&format!("|{run}"), 3);
+        expect_refused_at(&format!("|{run} events a ."), 3);
+        expect_refused_at(&format!("events |{run} ."), 3);
+        expect_refused_at(&format!("events a |{run} ."), 3);
+        expect_refused_at(&format!("events a . |{run} -> a ."), 3);
+        expect_refused_at(&format!("events a . a |{run} a ."), 3);
+        expect_refused_at(&format!("events a . a -> |{run} ."), 3);
+        expect_refused_at(&format!("events a . a -> a |{run}"), 3);
+        expect_refused_at(&format!("events a . a -> #x |{run}"), 3);
+        expect_refused_at(&format!("events a . a -> #x . |{run}"), 3);
     }
     // `#` and a name apart.
-    expect_refused_at("events a . a -> ^# x .", 3);
+    expect_refused_at("events a . a -> |# x .", 3);
     // `-` and `>` apart.
-    expect_refused_at("events a . a ^- > a .", 3);
+    expect_refused_at("events a . a |- > a .", 3);
 }
 
 /// Each byte alone, in a name, behind a name, and in place of each separator.
@@ -198,6 +199,8 @@ fn every_byte() {
             expect_read(&alone, &[1, 0, 2, 1], &["a"], &[]);
         } else if byte == b'.' {
             expect_refused(&alone, 4, 11);
+        } else if byte == b'^' {
+            expect_refused(&alone, 4, 9);
         } else {
             expect_refused(&alone, 3, 9);
         }
@@ -281,7 +284,7 @@ fn names_that_mean_something_elsewhere() {
         &["a"],
         &["events"],
     );
-    expect_refused_at("^#events a .", 4);
+    expect_refused_at("|#events a .", 4);
     // A word and a symbol may have the same name.
     expect_read(
         "events a . a -> #a . a -> a .",
@@ -345,8 +348,8 @@ fn the_empty_string() {
         &["a"],
         &["x", "y"],
     );
-    expect_refused_at("events a . a -> #epsilon ^a .", 4);
-    expect_refused_at("events a . a -> #epsilon ^#epsilon .", 4);
+    expect_refused_at("events a . a -> #epsilon |a .", 4);
+    expect_refused_at("events a . a -> #epsilon |#epsilon .", 4);
 }
 
 /// Names are the same if all their bytes are.
@@ -394,50 +397,71 @@ fn names_that_are_nearly_the_same() {
 fn tokens_in_wrong_places() {
     for text in [
         // First `events`.
-        "^a a .",
-        "^event a .",
-        "^eventsx a .",
-        "^Events a .",
-        "^EVENTS a .",
-        "^. a .",
-        "^-> a .",
-        "^#x a .",
-        "^#events a .",
+        "|a a .",
+        "|event a .",
+        "|eventsx a .",
+        "|Events a .",
+        "|EVENTS a .",
+        "|. a .",
+        "|-> a .",
+        "|#x a .",
+        "|#events a .",
+        "|^ a .",
+        "|^ events a .",
         // Then a name.
-        "events ^.",
-        "events ^. a .",
-        "events ^-> .",
-        "events ^#x .",
-        "events ^#epsilon .",
+        "events |.",
+        "events |. a .",
+        "events |-> .",
+        "events |#x .",
+        "events |#epsilon .",
+        "events |^ a .",
         // Then names or `.`.
-        "events a ^-> a .",
-        "events a ^#x .",
+        "events a |-> a .",
+        "events a |#x .",
+        "events a |^ b .",
+        "events a |^ .",
         // Then a rule or the end.
-        "events a . ^.",
-        "events a . ^-> a .",
-        "events a . ^#x -> a .",
+        "events a . |.",
+        "events a . |-> a .",
+        "events a . |#x -> a .",
+        // Behind a `^` a name.
+        "events a . ^ |-> a .",
+        "events a . ^ |.",
+        "events a . ^ |#x -> a .",
+        "events a . ^ |^ a -> a .",
         // Then names or `->`.
-        "events a . a ^.",
-        "events a . a ^#x -> a .",
-        "events a . a a ^. ",
-        "events a . a a ^#epsilon",
+        "events a . a |.",
+        "events a . a |#x -> a .",
+        "events a . a a |. ",
+        "events a . a a |#epsilon",
+        "events a . a |^ -> a .",
+        "events a . a |^ a -> a .",
+        "events a . ^ a |^ a -> a .",
+        "events a . ^ a |. ",
+        "events a . ^ a |#x -> a .",
         // Then a name or a word.
-        "events a . a -> ^.",
-        "events a . a -> ^-> a .",
+        "events a . a -> |.",
+        "events a . a -> |-> a .",
+        "events a . a -> |^ a .",
+        "events a . ^ a -> |^ .",
         // Then names or `.`.
-        "events a . a -> a ^#x .",
-        "events a . a -> a ^-> a .",
-        "events a . a -> a a ^#epsilon .",
+        "events a . a -> a |#x .",
+        "events a . a -> a |-> a .",
+        "events a . a -> a a |#epsilon .",
+        "events a . a -> a |^ a .",
+        "events a . a -> a |^ .",
         // Behind a word `.`.
-        "events a . a -> #x ^a .",
-        "events a . a -> #x ^#x .",
-        "events a . a -> #x ^-> a .",
-        "events a . a -> #fail ^#fail .",
+        "events a . a -> #x |a .",
+        "events a . a -> #x |#x .",
+        "events a . a -> #x |-> a .",
+        "events a . a -> #fail |#fail .",
+        "events a . a -> #x |^ .",
+        "events a . a -> #epsilon |^ a -> a .",
         // Then a rule or the end.
-        "events a . a -> #x . ^.",
-        "events a . a -> a . ^-> a .",
-        "events a . a -> a . ^#x .",
-        "events a . a -> a . ^#epsilon -> a .",
+        "events a . a -> #x . |.",
+        "events a . a -> a . |-> a .",
+        "events a . a -> a . |#x .",
+        "events a . a -> a . |#epsilon -> a .",
     ] {
         expect_refused_at(text, 4);
     }
@@ -460,8 +484,12 @@ fn texts_that_end() {
             "events a . a -> #x",
             "events a . a -> #epsilon",
             "events a . a -> a . b",
+            "events a . ^",
+            "events a . a -> a . ^",
+            "events a . ^ a",
+            "events a . ^ a ->",
         ] {
-            expect_refused_at(&format!("{text}{end}^"), 4);
+            expect_refused_at(&format!("{text}{end}|"), 4);
         }
         let image = [1, 1, 2, 1, 1, 0, 1, 0, 0, 0];
         expect_read(format!("events a . a -> a .{end}"), &image, &["a"], &[]);
@@ -472,14 +500,14 @@ fn texts_that_end() {
 #[test]
 fn the_first_break_decides() {
     for (text, refusal) in [
-        ("events a ^a a. -> .", 6),
-        ("events a ^a. a -> .", 3),
-        ("events a ^-> a a a. ", 4),
-        ("^a events a a a.", 4),
-        ("events a . a -> ^. a. b b b b b b b b b", 4),
-        ("events a . b b b b b b b b ^b a. -> .", 5),
-        ("events a b ^b b ", 6),
-        ("events a b . a -> a ^-> ", 4),
+        ("events a |a a. -> .", 6),
+        ("events a |a. a -> .", 3),
+        ("events a |-> a a a. ", 4),
+        ("|a events a a a.", 4),
+        ("events a . a -> |. a. b b b b b b b b b", 4),
+        ("events a . b b b b b b b b |b a. -> .", 5),
+        ("events a b |b b ", 6),
+        ("events a b . a -> a |-> ", 4),
     ] {
         expect_refused_at(text, refusal);
     }
@@ -490,50 +518,70 @@ fn the_first_break_decides() {
 fn one_token_with_several_causes() {
     let eight = "a a a a a a a a";
     // The ninth place of a side.
-    expect_refused_at(&format!("events a . {eight} ^a -> a ."), 5);
-    expect_refused_at(&format!("events a . {eight} ^b -> a ."), 5);
-    expect_refused_at(&format!("events a . {eight} ^#x -> a ."), 4);
-    expect_refused_at(&format!("events a . {eight} ^. a ."), 4);
-    expect_refused_at(&format!("events a . {eight} ^a. a ."), 3);
-    expect_refused_at(&format!("events a . a -> {eight} ^a ."), 5);
-    expect_refused_at(&format!("events a . a -> {eight} ^b ."), 5);
-    expect_refused_at(&format!("events a . a -> {eight} ^#x ."), 4);
-    expect_refused_at(&format!("events a . a -> {eight} ^-> a ."), 4);
-    expect_refused_at(&format!("events a . a -> {eight} ^9 ."), 3);
+    expect_refused_at(&format!("events a . {eight} |a -> a ."), 5);
+    expect_refused_at(&format!("events a . {eight} |b -> a ."), 5);
+    expect_refused_at(&format!("events a . {eight} |#x -> a ."), 4);
+    expect_refused_at(&format!("events a . {eight} |. a ."), 4);
+    expect_refused_at(&format!("events a . {eight} |a. a ."), 3);
+    expect_refused_at(&format!("events a . {eight} |^ a ."), 4);
+    expect_refused_at(&format!("events a . {eight} |^a a ."), 3);
+    expect_refused_at(&format!("events a . ^ {eight} |a -> a ."), 5);
+    expect_refused_at(&format!("events a . ^ {eight} |b -> a ."), 5);
+    expect_refused_at(&format!("events a . ^ {eight} |^ -> a ."), 4);
+    expect_refused_at(&format!("events a . ^ {eight} |#x -> a ."), 4);
+    expect_refused_at(&format!("events a . a -> {eight} |a ."), 5);
+    expect_refused_at(&format!("events a . a -> {eight} |b ."), 5);
+    expect_refused_at(&format!("events a . a -> {eight} |#x ."), 4);
+    expect_refused_at(&format!("events a . a -> {eight} |-> a ."), 4);
+    expect_refused_at(&format!("events a . a -> {eight} |9 ."), 3);
 
     // Where rule 65 would begin.
     let rules = "a -> a . ".repeat(64);
-    expect_refused_at(&format!("events a . {rules}^a -> a ."), 5);
-    expect_refused_at(&format!("events a . {rules}^b"), 5);
-    expect_refused_at(&format!("events a . {rules}^-> a ."), 4);
-    expect_refused_at(&format!("events a . {rules}^#x ."), 4);
-    expect_refused_at(&format!("events a . {rules}^. a"), 4);
-    expect_refused_at(&format!("events a . {rules}^a. a"), 3);
-    expect_refused_at(&format!("events a . {rules}^#"), 3);
+    expect_refused_at(&format!("events a . {rules}|a -> a ."), 5);
+    expect_refused_at(&format!("events a . {rules}|b"), 5);
+    expect_refused_at(&format!("events a . {rules}|-> a ."), 4);
+    expect_refused_at(&format!("events a . {rules}|#x ."), 4);
+    expect_refused_at(&format!("events a . {rules}|. a"), 4);
+    expect_refused_at(&format!("events a . {rules}|a. a"), 3);
+    expect_refused_at(&format!("events a . {rules}|#"), 3);
+    // A `^` is taken there, and what stands behind it decides.
+    expect_refused_at(&format!("events a . {rules}^ |a -> a ."), 5);
+    expect_refused_at(&format!("events a . {rules}^ |b"), 5);
+    expect_refused_at(&format!("events a . {rules}^ |-> a ."), 4);
+    expect_refused_at(&format!("events a . {rules}^ |^ a"), 4);
+    expect_refused_at(&format!("events a . {rules}^ |. a"), 4);
+    expect_refused_at(&format!("events a . {rules}^ |#x a"), 4);
+    expect_refused_at(&format!("events a . {rules}^ |a. a"), 3);
+    expect_refused_at(&format!("events a . {rules}|^a -> a ."), 3);
+    expect_refused_at(&format!("events a . {rules}^|"), 4);
+    expect_refused_at(&format!("events a . {rules}^ \n|"), 4);
 
     // Where the 33rd symbol or a repeated event stands.
     let names: Vec<String> = (0..32).map(|number| format!("n{number}")).collect();
     let events = names.join(" ");
-    expect_refused_at(&format!("events {events} ^n0 ."), 6);
-    expect_refused_at(&format!("events {events} ^n31 ."), 6);
-    expect_refused_at(&format!("events {events} ^n32 ."), 5);
-    expect_refused_at(&format!("events {events} ^#n0 ."), 4);
-    expect_refused_at(&format!("events {events} ^-> ."), 4);
-    expect_refused_at(&format!("events {events} ^n0. "), 3);
-    expect_refused_at(&format!("events {events} . ^x -> #x ."), 5);
-    expect_refused_at(&format!("events {events} . n0 ^x -> #x ."), 5);
-    expect_refused_at(&format!("events {events} . n0 -> ^x ."), 5);
-    expect_refused_at(&format!("events {events} . n0 -> n1 ^x ."), 5);
-    expect_refused_at(&format!("events {events} . n0 -> n1 ^#x ."), 4);
+    expect_refused_at(&format!("events {events} |n0 ."), 6);
+    expect_refused_at(&format!("events {events} |n31 ."), 6);
+    expect_refused_at(&format!("events {events} |n32 ."), 5);
+    expect_refused_at(&format!("events {events} |#n0 ."), 4);
+    expect_refused_at(&format!("events {events} |-> ."), 4);
+    expect_refused_at(&format!("events {events} |n0. "), 3);
+    expect_refused_at(&format!("events {events} . |x -> #x ."), 5);
+    expect_refused_at(&format!("events {events} . ^ |x -> #x ."), 5);
+    expect_refused_at(&format!("events {events} . ^ n0 |x -> #x ."), 5);
+    expect_refused_at(&format!("events {events} |^ ."), 4);
+    expect_refused_at(&format!("events {events} . n0 |x -> #x ."), 5);
+    expect_refused_at(&format!("events {events} . n0 -> |x ."), 5);
+    expect_refused_at(&format!("events {events} . n0 -> n1 |x ."), 5);
+    expect_refused_at(&format!("events {events} . n0 -> n1 |#x ."), 4);
 
     // Where the 15th other word stands.
     let words: Vec<String> = (0..14).map(|word| format!("a -> #w{word} . ")).collect();
     let words = words.concat();
-    expect_refused_at(&format!("events a . {words}a -> ^#v ."), 5);
-    expect_refused_at(&format!("events a . {words}a -> a ^#v ."), 4);
-    expect_refused_at(&format!("events a . {words}a -> #w0 ^#v ."), 4);
-    expect_refused_at(&format!("events a . {words}a ^#v -> a ."), 4);
-    expect_refused_at(&format!("events a . {words}a -> ^#v."), 3);
+    expect_refused_at(&format!("events a . {words}a -> |#v ."), 5);
+    expect_refused_at(&format!("events a . {words}a -> a |#v ."), 4);
+    expect_refused_at(&format!("events a . {words}a -> #w0 |#v ."), 4);
+    expect_refused_at(&format!("events a . {words}a |#v -> a ."), 4);
+    expect_refused_at(&format!("events a . {words}a -> |#v."), 3);
 }
 
 /// The list of events is not a side, and a repeated event is refused wherever it was first named.
@@ -545,12 +593,12 @@ fn lists_of_events() {
         &["a", "b", "c", "d", "e", "f", "g", "h", "i"],
         &[],
     );
-    expect_refused_at("events a ^a .", 6);
-    expect_refused_at("events a b ^a .", 6);
-    expect_refused_at("events a b ^b .", 6);
-    expect_refused_at("events a b c ^b d .", 6);
-    expect_refused_at("events events ^events .", 6);
-    expect_refused_at("events a ^a", 6);
+    expect_refused_at("events a |a .", 6);
+    expect_refused_at("events a b |a .", 6);
+    expect_refused_at("events a b |b .", 6);
+    expect_refused_at("events a b c |b d .", 6);
+    expect_refused_at("events events |events .", 6);
+    expect_refused_at("events a |a", 6);
     // An event may be named again in the rules.
     let image = [1, 1, 2, 1, 2, 0, 1, 0, 0, 0, 0];
     expect_read("events a . a a -> a .", &image, &["a"], &[]);

@@ -36,8 +36,8 @@ fn expect_holds(monitor: &Monitor, memory: &Memory) {
 #[test]
 fn rules_hold_image_and_table() {
     let mut random = Random::new(1_101);
-    for habit in Habit::ALL {
-        let set = habit.rule_set(&mut random);
+    for habit in Habit::ALL.repeat(4) {
+        let set = habit.either(&mut random);
         let image = reference::encode(&set);
         let rules = Rules::new(&image).unwrap();
         assert_eq!(rules.image(), image);
@@ -53,7 +53,7 @@ fn rules_hold_image_and_table() {
 fn rules_of_a_text() {
     let mut random = Random::new(1_103);
     for round in 0..300 {
-        let set = Habit::ALL[round % Habit::ALL.len()].rule_set(&mut random);
+        let set = Habit::ALL[round % Habit::ALL.len()].either(&mut random);
         let naming = Naming::ALL[random.below(Naming::ALL.len())];
         let texts::Written { text, reading } =
             texts::write(&mut random, &set, naming, Spacing::Few);
@@ -183,7 +183,7 @@ fn calls_give_what_the_reference_gives() {
     let mut random = Random::new(1_102);
     let (mut accepted, mut refused) = (0, 0);
     for round in 0..300 {
-        let set = Habit::ALL[round % Habit::ALL.len()].rule_set(&mut random);
+        let set = Habit::ALL[round % Habit::ALL.len()].either(&mut random);
         let lent = Lent::of(&set);
         let rules = Rules::new(&lent.image).unwrap();
         let mut monitor = Monitor::new();
