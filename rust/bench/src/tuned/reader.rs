@@ -114,6 +114,7 @@ enum Token {
     Word(Words),
     Arrow,
     Stop,
+    Mark,
     End,
 }
 
@@ -143,6 +144,7 @@ impl Tokens<'_> {
         let (token, length) = match first {
             b'.' => (Token::Stop, 1),
             b'-' if rest.get(1) == Some(&b'>') => (Token::Arrow, 2),
+            b'^' => (Token::Mark, 1),
             b'#' => {
                 let (name, length) = Words::first(&rest[1..])?;
                 (Token::Word(name), 1 + length)
@@ -267,14 +269,18 @@ impl Reading {
         loop {
             match tokens.next()? {
                 Token::End => return Ok(()),
-                Token::Name(name) => self.rule(tokens, &name)?,
+                Token::Name(name) => self.rule(tokens, 0, &name)?,
+                Token::Mark => match tokens.next()? {
+                    Token::Name(name) => self.rule(tokens, 1, &name)?,
+                    _ => return Err(MISPLACED),
+                },
                 _ => return Err(MISPLACED),
             }
         }
     }
 
-    /// Reads the rule that begins with this name.
-    fn rule(&mut self, tokens: &mut Tokens, first: &Words) -> Result<(), u32> {
+    /// Reads the rule that begins with this name, behind a mark if `mark` is 1.
+    fn rule(&mut self, tokens: &mut Tokens, mark: u8, first: &Words) -> Result<(), u32> {
         if self.rules == MAX_RULES {
             return Err(TOO_MANY);
         }
@@ -300,7 +306,7 @@ impl Reading {
             }
             _ => return Err(MISPLACED),
         };
-        self.contents[self.rules] = [left, kind, right, 0];
+        self.contents[self.rules] = [left, kind, right, mark];
         self.rules += 1;
         Ok(())
     }
