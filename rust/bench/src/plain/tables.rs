@@ -87,6 +87,7 @@ pub fn compile(image: &[u8], table: &mut [u16], out: &mut [u64; 1]) -> u32 {
 }
 
 /// The same of a valid image, with so many words for the trie, and with this root.
+#[inline(never)]
 fn compile_with<const W: usize, const ROOT: usize>(
     image: &[u8],
     table: &mut [u16],

@@ -144,15 +144,16 @@ impl Tokens<'_> {
         let (token, length) = match first {
             b'.' => (Token::Stop, 1),
             b'-' if rest.get(1) == Some(&b'>') => (Token::Arrow, 2),
-            b'^' => (Token::Mark, 1),
             b'#' => {
                 let (name, length) = Words::first(&rest[1..])?;
                 (Token::Word(name), 1 + length)
             }
-            _ => {
-                let (name, length) = Words::first(rest)?;
-                (Token::Name(name), length)
-            }
+            _ => match Words::first(rest) {
+                Ok((name, length)) => (Token::Name(name), length),
+                // Last, so that names do not wait for it.
+                Err(_) if first == b'^' => (Token::Mark, 1),
+                Err(refusal) => return Err(refusal),
+            },
         };
         match rest.get(length) {
             Some(&byte) if class(byte) != SEPARATOR => Err(NO_TOKEN),
