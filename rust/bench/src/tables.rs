@@ -185,6 +185,7 @@ impl Work for Check {
 mod tests {
     use super::*;
     use reference::random::Shape;
+    use reference::verdict;
 
     /// Each side is what the reference says, so that all sides of a race do the same work.
     #[test]
@@ -216,6 +217,26 @@ mod tests {
         for (_, set) in rule_sets() {
             for Tables { image, .. } in variants(&set).iter().take(16) {
                 compare(image, 0);
+            }
+        }
+    }
+
+    /// Bodies around the longest of small images, with as many nodes as they can have.
+    #[test]
+    fn small_and_large() {
+        for length in 56..=72 {
+            for has_mark in [false, true] {
+                let symbols: Vec<Symbol> = (0..length).map(|place| place / 8).collect();
+                let mut set = RuleSet {
+                    symbols: 9,
+                    events: 9,
+                    verdicts: 2,
+                    rules: symbols.chunks(8).map(|left| verdict(left, 0)).collect(),
+                };
+                set.rules[3].marked = has_mark;
+                let states = usize::from(length) + 1 + usize::from(has_mark);
+                assert_eq!(reference::states(&set).len(), states);
+                compare(&reference::encode(&set), 0);
             }
         }
     }
