@@ -6,7 +6,7 @@ use crate::shared::monitor::{self, Kind};
 use crate::timing::{Group, Side, Work, BASELINES, LIBRARY};
 use crate::tuned::monitor::Tuned;
 use reference::monitor::{Lent, Memory, State, ROOM};
-use reference::random::{largest, sample, Random};
+use reference::random::{largest, largest_with_marks, sample, Random};
 use reference::{string, Right, RuleSet, Symbol};
 use std::hint::black_box;
 use watcher::raw;
@@ -319,6 +319,7 @@ fn days() -> Vec<(&'static str, &'static str, Day)> {
 fn calls_without_a_step() -> Vec<(&'static str, &'static str, Day)> {
     let sample = Lent::of(&sample());
     let largest = Lent::of(&largest());
+    let with_marks = Lent::of(&largest_with_marks());
     let empty = State::default();
     let offer = |lent| Day::new(lent, &empty, offers(&[0], 0)).with(Back::LastByte, 1);
     let go_on = |lent, state| Day::new(lent, state, vec![Call::GoOn(0)]).with(Back::Calls, 1);
@@ -345,6 +346,16 @@ fn calls_without_a_step() -> Vec<(&'static str, &'static str, Day)> {
             "call",
             go_on(&largest, &empty),
         ),
+        (
+            "largest table with marks: offer",
+            "call",
+            offer(&with_marks),
+        ),
+        (
+            "largest table with marks: go on, nothing held",
+            "call",
+            go_on(&with_marks, &empty),
+        ),
     ]
 }
 
@@ -359,8 +370,8 @@ fn queue() -> RuleSet {
     }
 }
 
-/// The largest table: 64 left sides of eight symbols. Each of the first 32 becomes one of the
-/// others, and those vanish.
+/// The largest table without marks: 64 left sides of eight symbols. Each of the first 32 becomes one
+/// of the others, and those vanish.
 fn eights() -> RuleSet {
     let mut set = largest();
     for rule in 0..32 {
@@ -575,7 +586,11 @@ mod tests {
         let mut random = Random::new(17);
         let mut seen = [0; 17];
         for round in 0..1_200 {
-            let set = Habit::ALL[round % Habit::ALL.len()].rule_set(&mut random);
+            let habit = Habit::ALL[round % Habit::ALL.len()];
+            let set = match round / Habit::ALL.len() % 2 {
+                0 => habit.rule_set(&mut random),
+                _ => habit.with_marks(&mut random),
+            };
             let lent = Lent::of(&set);
             let mut memory = Memory::empty();
             if round % 5 == 0 {
@@ -660,13 +675,14 @@ mod tests {
         }
     }
 
-    /// Calls without a step take none, and the table of the eights is the largest.
+    /// Calls without a step take none, and the table of the eights is the largest without marks.
     #[test]
     fn what_the_names_say() {
         for (name, _, day) in calls_without_a_step() {
             assert_eq!(walk(name, &day).steps, 0, "{name}");
         }
-        let tables = [eights(), largest()].map(|set| Lent::of(&set).table.len());
-        assert_eq!(tables, [15_875; 2]);
+        let sets = [eights(), largest(), largest_with_marks()];
+        let tables = sets.map(|set| Lent::of(&set).table.len());
+        assert_eq!(tables, [15_875, 15_875, 16_964]);
     }
 }

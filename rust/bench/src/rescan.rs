@@ -65,20 +65,22 @@ impl Rescan {
         true
     }
 
-    /// The rule and the end of the occurrence that ends first, of these begins first, of these has
-    /// the lowest rule.
+    /// The rule and the end of the occurrence that ends first, of these begins first, of these is
+    /// marked, of these has the lowest rule.
     fn first_occurrence(&self) -> Option<(usize, usize)> {
         for (place, symbol) in self.string.iter().enumerate() {
             let end = place + 1;
+            // The mark counts as a symbol more.
             let mut longest = 0;
             let mut found = None;
-            for (rule, Rule { left, .. }) in self.set.rules.iter().enumerate() {
+            for (rule, Rule { marked, left, .. }) in self.set.rules.iter().enumerate() {
                 // The last symbol first, since it mostly decides.
                 if left.last() == Some(symbol)
-                    && left.len() > longest
+                    && left.len() + usize::from(*marked) > longest
+                    && (!marked || left.len() == end)
                     && self.string[..end].ends_with(left)
                 {
-                    longest = left.len();
+                    longest = left.len() + usize::from(*marked);
                     found = Some((rule, end));
                 }
             }
@@ -102,7 +104,11 @@ mod tests {
         let mut random = Random::new(18);
         let mut rewritten = 0;
         for round in 0..600 {
-            let set = Habit::ALL[round % Habit::ALL.len()].rule_set(&mut random);
+            let habit = Habit::ALL[round % Habit::ALL.len()];
+            let set = match round / Habit::ALL.len() % 2 {
+                0 => habit.rule_set(&mut random),
+                _ => habit.with_marks(&mut random),
+            };
             let mut rescan = Rescan::new(&set, &[]);
             let mut rewriter = Rewriter::new(&[]);
             for _ in 0..12 {

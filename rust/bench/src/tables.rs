@@ -46,6 +46,10 @@ fn rule_sets() -> Vec<(&'static str, RuleSet)> {
         ("sample", random::sample()),
         ("middle: 20 rules, S = 12", middle()),
         ("largest: 64 × 8, S = 32", random::largest()),
+        (
+            "largest with marks: 64 × 8, S = 32",
+            random::largest_with_marks(),
+        ),
         ("overlapping: 64 × 8, S = 32", random::overlapping(32)),
         ("overlapping: 64 × 8, S = 2", random::overlapping(2)),
     ]
@@ -181,6 +185,7 @@ impl Work for Check {
 mod tests {
     use super::*;
     use reference::random::Shape;
+    use reference::verdict;
 
     /// Each side is what the reference says, so that all sides of a race do the same work.
     #[test]
@@ -188,8 +193,12 @@ mod tests {
         let mut random = Random::new(7);
         let mut refused = 0;
         let mut differing = 0;
-        for case in 0..600 {
-            let set = Shape::ALL[case % Shape::ALL.len()].rule_set(&mut random);
+        for case in 0..1_200 {
+            let shape = Shape::ALL[case % Shape::ALL.len()];
+            let set = match case % 2 {
+                0 => shape.rule_set(&mut random),
+                _ => shape.with_marks(&mut random),
+            };
             let mut image = reference::encode(&set);
             compare(&image, random.below(3));
 
@@ -203,11 +212,31 @@ mod tests {
             refused += usize::from(reference::parse(&image).is_err());
             compare(&image, 0);
         }
-        assert!((200..550).contains(&refused), "{refused} refused");
-        assert!(differing > 200, "{differing} tables differed");
+        assert!((400..1_100).contains(&refused), "{refused} refused");
+        assert!(differing > 400, "{differing} tables differed");
         for (_, set) in rule_sets() {
             for Tables { image, .. } in variants(&set).iter().take(16) {
                 compare(image, 0);
+            }
+        }
+    }
+
+    /// Bodies around the longest of small images, with as many nodes as they can have.
+    #[test]
+    fn small_and_large() {
+        for length in 56..=72 {
+            for has_mark in [false, true] {
+                let symbols: Vec<Symbol> = (0..length).map(|place| place / 8).collect();
+                let mut set = RuleSet {
+                    symbols: 9,
+                    events: 9,
+                    verdicts: 2,
+                    rules: symbols.chunks(8).map(|left| verdict(left, 0)).collect(),
+                };
+                set.rules[3].marked = has_mark;
+                let states = usize::from(length) + 1 + usize::from(has_mark);
+                assert_eq!(reference::states(&set).len(), states);
+                compare(&reference::encode(&set), 0);
             }
         }
     }
@@ -223,7 +252,7 @@ mod tests {
             let mut images: Vec<_> = tables.into_iter().map(|tables| tables.image).collect();
             images.sort();
             images.dedup();
-            assert!(images.len() > 14, "{name}: {}", images.len());
+            assert!(images.len() >= 14, "{name}: {}", images.len());
         }
     }
 

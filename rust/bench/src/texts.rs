@@ -248,11 +248,14 @@ mod tests {
         let mut seen = [0; 7];
         let mut count = |refusal: u32| seen[refusal as usize] += 1;
         for round in 0..3_000 {
-            let set = match round % 3 {
+            let mut set = match round % 3 {
                 0 => Shape::ALL[random.below(Shape::ALL.len())].rule_set(&mut random),
                 1 => Habit::ALL[random.below(Habit::ALL.len())].rule_set(&mut random),
                 _ => reference::random::full(&mut random, 32, 32),
             };
+            if random.once_in(2) {
+                set = reference::random::with_marks(&mut random, set);
+            }
             let naming = Naming::ALL[random.below(Naming::ALL.len())];
             let spacing = Spacing::ALL[random.below(Spacing::ALL.len())];
             let mut text = texts::write(&mut random, &set, naming, spacing).text;
@@ -262,7 +265,7 @@ mod tests {
             count(compare(&text, [IMAGE_AREA, NAME_AREA - 1]));
             for _ in 0..10 {
                 let place = random.below(text.len());
-                let byte = b" \n.->#abyzAZ09_@[`{/:\0\x0b\xff"[random.below(23)];
+                let byte = b" \n.->#^abyzAZ09_@[`{/:\0\x0b\xff"[random.below(24)];
                 let before = text.clone();
                 match random.below(4) {
                     0 => text[place] = byte,
@@ -303,8 +306,14 @@ mod tests {
             for text in [
                 format!("events {} .", names("n").join(" ")),
                 format!("events a . {} -> a .", "a ".repeat(count)),
+                format!("events a . ^ {} -> a .", "a ".repeat(count)),
+                format!("events a . {} ^ -> a .", "a ".repeat(count)),
                 format!("events a . a -> {} .", "a ".repeat(count)),
                 format!("events a . {}", "a -> a . ".repeat(count)),
+                format!("events a . {}", "^ a -> a . ".repeat(count)),
+                format!("events a . {} ^", "a -> a . ".repeat(count)),
+                format!("events a . {} ^ ^", "a -> a . ".repeat(count)),
+                format!("events a . {} ^ ->", "a -> a . ".repeat(count)),
                 format!("events a . {} .", words.join(" . ")),
                 format!("events {} .", "n".repeat(count)),
                 format!("events a . a -> #{} .", "n".repeat(count)),

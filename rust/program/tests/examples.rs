@@ -7,14 +7,23 @@ use std::path::PathBuf;
 
 use pages::{blocks, expect_printed, read, root, shown};
 
-/// The rules that document 01 and 001 have, in their order, with 001's digits as names. `^` is not there.
-const PUBLISHED: [(&str, &[&str]); 9] = [
+/// The rules that document 01 and 001 have, in their order, with 001's digits as names and `^` as a token of
+/// its own; and those of document 01 with the rule of document 02, No. 1.
+const PUBLISHED: [(&str, &[&str]); 10] = [
     (
         "swap",
         &[
             "lock take -> held .",
             "held free -> #epsilon .",
             "take -> #fail .",
+        ],
+    ),
+    (
+        "swap-start",
+        &[
+            "lock take -> held .",
+            "held free -> #epsilon .",
+            "^ take -> #fail .",
         ],
     ),
     (
@@ -26,7 +35,7 @@ const PUBLISHED: [(&str, &[&str]); 9] = [
         &[
             "hasnexttrue next -> #epsilon .",
             "hasnexttrue hasnexttrue -> hasnexttrue .",
-            "next -> #fail .",
+            "^ next -> #fail .",
         ],
     ),
     (
@@ -197,7 +206,7 @@ fn each_page_shows_what_is_there() {
             inputs += 1;
         }
     }
-    assert!(inputs >= 7, "{inputs} other inputs");
+    assert!(inputs >= 10, "{inputs} other inputs");
 }
 
 /// n of each digit: the rules of `counting-here` leave nothing, those of `counting` do for one of each alone.

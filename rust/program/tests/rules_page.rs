@@ -11,9 +11,9 @@ use reference::rewriter::{first_occurrence, Rewriter};
 use reference::{Right, Symbol};
 
 /// The page has at least as many inputs.
-const INPUTS: usize = 21;
+const INPUTS: usize = 31;
 /// The page has at least as many worked days, each with its rewrites.
-const DAYS: usize = 5;
+const DAYS: usize = 6;
 
 fn page() -> PathBuf {
     root().join("docs/RULES.md")
@@ -37,7 +37,7 @@ fn names<'a>(reading: &'a Reading, string: &[Symbol]) -> Vec<&'a str> {
 }
 
 /// The string with the symbols from `begin` to before `end` in brackets.
-fn marked(reading: &Reading, string: &[Symbol], begin: usize, end: usize) -> String {
+fn bracketed(reading: &Reading, string: &[Symbol], begin: usize, end: usize) -> String {
     let bracket = format!("[{}]", names(reading, &string[begin..end]).join(" "));
     let mut parts = names(reading, &string[..begin]);
     parts.push(&bracket);
@@ -48,13 +48,13 @@ fn marked(reading: &Reading, string: &[Symbol], begin: usize, end: usize) -> Str
 /// The rewriter's next rewrite as a line of `rewrites`, without the event; none if it rests.
 fn rewrite(reading: &Reading, rewriter: &mut Rewriter) -> Option<String> {
     let found = first_occurrence(&reading.set, &rewriter.string)?;
-    let before = marked(reading, &rewriter.string, found.begin, found.end);
+    let before = bracketed(reading, &rewriter.string, found.begin, found.end);
     assert_eq!(rewriter.rewrite(&reading.set), Some(found.rule));
     let end = match &reading.set.rules[found.rule].right {
         Right::Symbols(right) => found.begin + right.len(),
         Right::Verdict(_) => found.begin,
     };
-    let after = marked(reading, &rewriter.string, found.begin, end);
+    let after = bracketed(reading, &rewriter.string, found.begin, end);
     let verdict = match rewriter.verdict {
         Some(verdict) => {
             let word = name(&reading.verdicts[usize::from(verdict)]);

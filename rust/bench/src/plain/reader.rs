@@ -1,6 +1,6 @@
 /*!
 The reader of rule texts, written plainly: the library's algorithm, as it stood before the tuned one
-was written.
+was written, and the mark.
 
 One pass over the text. Names and image are built in local arrays and copied out when the whole text
 is good. A name is looked up among the slots from the first to the last.
@@ -17,6 +17,7 @@ enum Token<'a> {
     Word(&'a [u8]),
     Arrow,
     Stop,
+    Mark,
     End,
 }
 
@@ -45,6 +46,7 @@ impl<'a> Tokens<'a> {
         let (token, length) = match first {
             b'.' => (Token::Stop, 1),
             b'-' if rest.get(1) == Some(&b'>') => (Token::Arrow, 2),
+            b'^' => (Token::Mark, 1),
             b'#' => {
                 let name = name(&rest[1..])?;
                 (Token::Word(name), 1 + name.len())
@@ -173,14 +175,18 @@ impl Reading {
         loop {
             match tokens.next()? {
                 Token::End => return Ok(()),
-                Token::Name(name) => self.rule(tokens, name)?,
+                Token::Name(name) => self.rule(tokens, 0, name)?,
+                Token::Mark => match tokens.next()? {
+                    Token::Name(name) => self.rule(tokens, 1, name)?,
+                    _ => return Err(MISPLACED),
+                },
                 _ => return Err(MISPLACED),
             }
         }
     }
 
-    /// Reads the rule that begins with this name.
-    fn rule(&mut self, tokens: &mut Tokens, first: &[u8]) -> Result<(), u32> {
+    /// Reads the rule that begins with this name, behind a mark if `mark` is 1.
+    fn rule(&mut self, tokens: &mut Tokens, mark: u8, first: &[u8]) -> Result<(), u32> {
         if self.rules == MAX_RULES {
             return Err(TOO_MANY);
         }
@@ -205,7 +211,7 @@ impl Reading {
             }
             _ => return Err(MISPLACED),
         };
-        self.contents[self.rules] = [left, kind, right, 0];
+        self.contents[self.rules] = [left, kind, right, mark];
         self.rules += 1;
         Ok(())
     }

@@ -16,13 +16,17 @@ const SMALL_TRIE: usize = FEW_NODES * NODE;
 
 /// Builds the trie of a valid image's left sides, in a trie of zeros, and returns the number of
 /// nodes.
-fn build<const W: usize>(image: &[u8], trie: &mut [u16; W]) -> usize {
+fn build<const W: usize, const ROOT: usize>(image: &[u8], trie: &mut [u16; W]) -> usize {
     let rules = usize::from(image[1]);
     let (contents, mut bodies) = image[4..].split_at(4 * rules);
-    let mut n = 1;
+    let mut n = ROOT + 1;
+    if ROOT == MARKED {
+        trie[MARK * NODE + DEPTH] = 1;
+        trie[MARK * NODE + FAILURE] = ROOT as u16;
+    }
     for (rule, entry) in contents.chunks_exact(4).enumerate() {
         let (left, rest) = bodies.split_at(entry[0].into());
-        let mut q = 0;
+        let mut q = if entry[3] == 1 { MARK } else { ROOT };
         for &a in left {
             let mut child = usize::from(trie[q * NODE + YOUNGEST_CHILD]);
             while child != 0 && trie[child * NODE + SYMBOL] != a.into() {
@@ -52,9 +56,14 @@ fn build<const W: usize>(image: &[u8], trie: &mut [u16; W]) -> usize {
 }
 
 /// The failure state of node `q`, by the rows and its parent's failure state.
-fn failure<const W: usize>(trie: &[u16; W], rows: &[u16], s: usize, q: usize) -> u16 {
+fn failure<const W: usize, const ROOT: usize>(
+    trie: &[u16; W],
+    rows: &[u16],
+    s: usize,
+    q: usize,
+) -> u16 {
     match usize::from(trie[q * NODE + PARENT]) {
-        0 => 0,
+        parent if parent == ROOT => ROOT as u16,
         parent => {
             let f = usize::from(trie[parent * NODE + FAILURE]);
             rows[f * s + usize::from(trie[q * NODE + SYMBOL])]
@@ -70,31 +79,44 @@ pub fn compile(image: &[u8], table: &mut [u16], out: &mut [u64; 1]) -> u32 {
     *out = [0];
     match size(image) {
         Size::Bad => BAD_IMAGE,
-        Size::Small => compile_with::<SMALL_TRIE>(image, table, out),
-        Size::Large => compile_with::<TRIE>(image, table, out),
+        Size::Small => compile_with::<SMALL_TRIE, UNMARKED>(image, table, out),
+        Size::Large => compile_with::<TRIE, UNMARKED>(image, table, out),
+        Size::SmallMarked => compile_with::<SMALL_TRIE, MARKED>(image, table, out),
+        Size::LargeMarked => compile_with::<TRIE, MARKED>(image, table, out),
     }
 }
 
-/// The same of a valid image, with so many words for the trie.
-fn compile_with<const W: usize>(image: &[u8], table: &mut [u16], out: &mut [u64; 1]) -> u32 {
+/// The same of a valid image, with so many words for the trie, and with this root.
+#[inline(never)]
+fn compile_with<const W: usize, const ROOT: usize>(
+    image: &[u8],
+    table: &mut [u16],
+    out: &mut [u64; 1],
+) -> u32 {
     let mut trie = [0; W];
-    let n = build(image, &mut trie);
+    let n = build::<W, ROOT>(image, &mut trie);
     let s = usize::from(image[0]);
     let Some(parts) = begin(table, n, s) else {
         return SHORT_AREA;
     };
     let rows = parts.rows;
     rows.fill(0);
-    for c in 1..n {
+    for c in ROOT + 1..n {
         let parent = usize::from(trie[c * NODE + PARENT]);
         rows[parent * s + usize::from(trie[c * NODE + SYMBOL])] = c as u16;
     }
-    for d in 1..=MAX_SIDE {
-        for q in 1..n {
+    if ROOT == MARKED {
+        // Until here a 0 in a row is no child. It stays so in the other rows: the mark is no child.
+        let (mark, root) = rows[..2 * s].split_at_mut(s);
+        merge(root, &[ROOT as u16; 32]);
+        merge(mark, root);
+    }
+    for d in 1..=MAX_SIDE + ROOT {
+        for q in ROOT + 1..n {
             if usize::from(trie[q * NODE + DEPTH]) != d {
                 continue;
             }
-            let f = failure(&trie, rows, s, q);
+            let f = failure::<W, ROOT>(&trie, rows, s, q);
             trie[q * NODE + FAILURE] = f;
             let f = usize::from(f);
             if trie[q * NODE + MATCH] == 0 {
@@ -126,17 +148,19 @@ fn merge(row: &mut [u16], from: &[u16]) {
 pub fn check_table(image: &[u8], table: &[u16]) -> u32 {
     match size(image) {
         Size::Bad => BAD_IMAGE,
-        Size::Small => check_with::<SMALL_TRIE>(image, table),
-        Size::Large => check_with::<TRIE>(image, table),
+        Size::Small => check_with::<SMALL_TRIE, UNMARKED>(image, table),
+        Size::Large => check_with::<TRIE, UNMARKED>(image, table),
+        Size::SmallMarked => check_with::<SMALL_TRIE, MARKED>(image, table),
+        Size::LargeMarked => check_with::<TRIE, MARKED>(image, table),
     }
 }
 
-/// The same of a valid image, with so many words for the trie.
-fn check_with<const W: usize>(image: &[u8], table: &[u16]) -> u32 {
+/// The same of a valid image, with so many words for the trie, and with this root.
+fn check_with<const W: usize, const ROOT: usize>(image: &[u8], table: &[u16]) -> u32 {
     let mut trie = [0; W];
-    let n = build(image, &mut trie);
+    let n = build::<W, ROOT>(image, &mut trie);
     let s = usize::from(image[0]);
-    if is_table_of(&mut trie, n, s, table) {
+    if is_table_of::<W, ROOT>(&mut trie, n, s, table) {
         0
     } else {
         OTHER_TABLE
@@ -144,17 +168,27 @@ fn check_with<const W: usize>(image: &[u8], table: &[u16]) -> u32 {
 }
 
 /// Whether the table begins with that of a trie of `n` nodes over `s` symbols.
-fn is_table_of<const W: usize>(trie: &mut [u16; W], n: usize, s: usize, table: &[u16]) -> bool {
-    let Some((matches, rows)) = parts(table, n, s, trie[CHILDREN]) else {
+fn is_table_of<const W: usize, const ROOT: usize>(
+    trie: &mut [u16; W],
+    n: usize,
+    s: usize,
+    table: &[u16],
+) -> bool {
+    let Some((matches, rows)) = parts(table, n, s, ROOT, trie[ROOT * NODE + CHILDREN]) else {
         return false;
     };
-    for q in 1..n {
+    if ROOT == MARKED
+        && (matches[MARK] != 0 || differing(rows, s, MARK, ROOT) != trie[MARK * NODE + CHILDREN])
+    {
+        return false;
+    }
+    for q in ROOT + 1..n {
         let parent = usize::from(trie[q * NODE + PARENT]);
         let symbol = usize::from(trie[q * NODE + SYMBOL]);
         if usize::from(rows[parent * s + symbol]) != q {
             return false;
         }
-        let f = failure(trie, rows, s, q);
+        let f = failure::<W, ROOT>(trie, rows, s, q);
         trie[q * NODE + FAILURE] = f;
         let f = usize::from(f);
         if f >= n {

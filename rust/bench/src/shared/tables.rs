@@ -1,5 +1,8 @@
 /*!
 What both ways to make and check a table share: the checks of an image, and parts of tables.
+
+Of an image with a marked rule the trie has one node more, the mark, before the root. What differs
+there is written with the root's number as a constant, so that other images do not pay for it.
 */
 
 /// Refusal 7: the image breaks the layout or a range.
@@ -14,10 +17,17 @@ pub const MAX_SIDE: usize = 8;
 
 /// The words of a node of the trie.
 pub const NODE: usize = 8;
-/// The nodes of the largest trie: the root and 64 left sides of 8 symbols.
-pub const NODES: usize = 513;
+/// The nodes of the largest trie: the mark, the root and 64 left sides of 8 symbols.
+pub const NODES: usize = 514;
 /// The nodes of the trie of a small image.
 pub const FEW_NODES: usize = 64;
+
+/// The node of the mark in the trie of an image with a marked rule. No node has it as a child.
+pub const MARK: usize = 0;
+/// The root, which is the empty string, in the trie of such an image.
+pub const MARKED: usize = 1;
+/// The root in the trie of another image.
+pub const UNMARKED: usize = 0;
 
 // Where the words of a node are.
 pub const PARENT: usize = 0;
@@ -33,55 +43,68 @@ pub const FAILURE: usize = 7;
 pub enum Size {
     /// Not valid.
     Bad,
-    /// Its bodies have less than 64 symbols, so that its trie has at most [`FEW_NODES`].
+    /// It has no marked rule, and its bodies have less than 64 symbols: its trie has at most
+    /// [`FEW_NODES`].
     Small,
-    /// Its trie has at most [`NODES`].
+    /// It has no marked rule. Its trie has at most [`NODES`].
     Large,
+    /// It has a marked rule, and its bodies have less than 63 symbols: its trie has at most
+    /// [`FEW_NODES`].
+    SmallMarked,
+    /// It has a marked rule. Its trie has at most [`NODES`].
+    LargeMarked,
 }
 
 /// Checks an image.
 #[inline]
 pub fn size(image: &[u8]) -> Size {
-    if !is_valid(image) {
-        Size::Bad
-    } else if image.len() - (4 + 4 * usize::from(image[1])) < 64 {
-        Size::Small
-    } else {
-        Size::Large
+    let Some(marks) = marks(image) else {
+        return Size::Bad;
+    };
+    let bodies_len = image.len() - (4 + 4 * usize::from(image[1]));
+    match marks {
+        0 if bodies_len < FEW_NODES => Size::Small,
+        0 => Size::Large,
+        _ if bodies_len < FEW_NODES - 1 => Size::SmallMarked,
+        _ => Size::LargeMarked,
     }
 }
 
-/// Whether the image keeps the layout and the ranges.
+/// Whether the image keeps the layout and the ranges: then 1 if it has a marked rule, and 0 if it has
+/// none.
 #[inline]
-fn is_valid(image: &[u8]) -> bool {
+fn marks(image: &[u8]) -> Option<u8> {
     let [s, r, v, e, rest @ ..] = image else {
-        return false;
+        return None;
     };
     if !((1..=32).contains(s) && *r <= 64 && (2..=16).contains(v) && (1..=*s).contains(e)) {
-        return false;
+        return None;
     }
     let contents_len = 4 * usize::from(*r);
     if rest.len() < contents_len {
-        return false;
+        return None;
     }
     let (contents, bodies) = rest.split_at(contents_len);
     let mut bodies_len = 0;
+    let mut marks = 0;
     for entry in contents.chunks_exact(4) {
-        let (left, kind, right, zero) = (entry[0], entry[1], entry[2], entry[3]);
-        if !(1..=8).contains(&left) || zero != 0 {
-            return false;
+        let (left, kind, right, mark) = (entry[0], entry[1], entry[2], entry[3]);
+        if !(1..=8).contains(&left) || mark > 1 {
+            return None;
         }
+        marks |= mark;
         bodies_len += usize::from(left);
         match kind {
             0 if right <= 8 => bodies_len += usize::from(right),
             1 if right < *v => {}
-            _ => return false,
+            _ => return None,
         }
     }
     if bodies.len() != bodies_len {
-        return false;
+        return None;
     }
-    bodies.iter().fold(0, |most, &symbol| symbol.max(most)) < *s
+    let most = bodies.iter().fold(0, |most, &symbol| symbol.max(most));
+    (most < *s).then_some(marks)
 }
 
 /// A table that is to be written: its length, its match words and its rows.
@@ -107,16 +130,23 @@ pub fn begin(table: &mut [u16], n: usize, s: usize) -> Option<Parts<'_>> {
 }
 
 /// The match words and the rows of a table that begins like that of a trie with `n` nodes over `s`
-/// symbols, whose root has so many children.
+/// symbols. Its root is this node, and has so many children.
 #[inline(always)]
-pub fn parts(table: &[u16], n: usize, s: usize, children: u16) -> Option<(&[u16], &[u16])> {
+pub fn parts(
+    table: &[u16],
+    n: usize,
+    s: usize,
+    root: usize,
+    children: u16,
+) -> Option<(&[u16], &[u16])> {
     let words = 2 + n + n * s;
     if table.len() < words || usize::from(table[0]) != n || usize::from(table[1]) != s {
         return None;
     }
     let (matches, rows) = table[2..words].split_at(n);
-    let leaving: u16 = rows[..s].iter().map(|&word| u16::from(word != 0)).sum();
-    (matches[0] == 0 && leaving == children).then_some((matches, rows))
+    let leaves = |&word: &u16| u16::from(word != root as u16);
+    let leaving: u16 = rows[root * s..][..s].iter().map(leaves).sum();
+    (matches[root] == 0 && leaving == children).then_some((matches, rows))
 }
 
 /// Rows `q` and `f`, which differ, the first of them to be written.

@@ -114,6 +114,7 @@ enum Token {
     Word(Words),
     Arrow,
     Stop,
+    Mark,
     End,
 }
 
@@ -147,10 +148,12 @@ impl Tokens<'_> {
                 let (name, length) = Words::first(&rest[1..])?;
                 (Token::Word(name), 1 + length)
             }
-            _ => {
-                let (name, length) = Words::first(rest)?;
-                (Token::Name(name), length)
-            }
+            _ => match Words::first(rest) {
+                Ok((name, length)) => (Token::Name(name), length),
+                // Last, so that names do not wait for it.
+                Err(_) if first == b'^' => (Token::Mark, 1),
+                Err(refusal) => return Err(refusal),
+            },
         };
         match rest.get(length) {
             Some(&byte) if class(byte) != SEPARATOR => Err(NO_TOKEN),
@@ -267,14 +270,18 @@ impl Reading {
         loop {
             match tokens.next()? {
                 Token::End => return Ok(()),
-                Token::Name(name) => self.rule(tokens, &name)?,
+                Token::Name(name) => self.rule(tokens, 0, &name)?,
+                Token::Mark => match tokens.next()? {
+                    Token::Name(name) => self.rule(tokens, 1, &name)?,
+                    _ => return Err(MISPLACED),
+                },
                 _ => return Err(MISPLACED),
             }
         }
     }
 
-    /// Reads the rule that begins with this name.
-    fn rule(&mut self, tokens: &mut Tokens, first: &Words) -> Result<(), u32> {
+    /// Reads the rule that begins with this name, behind a mark if `mark` is 1.
+    fn rule(&mut self, tokens: &mut Tokens, mark: u8, first: &Words) -> Result<(), u32> {
         if self.rules == MAX_RULES {
             return Err(TOO_MANY);
         }
@@ -300,7 +307,7 @@ impl Reading {
             }
             _ => return Err(MISPLACED),
         };
-        self.contents[self.rules] = [left, kind, right, 0];
+        self.contents[self.rules] = [left, kind, right, mark];
         self.rules += 1;
         Ok(())
     }

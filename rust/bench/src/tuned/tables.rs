@@ -12,25 +12,40 @@ use crate::shared::tables::*;
 /// The most symbols that there are.
 const MAX_SYMBOLS: usize = 32;
 
+/// More than the largest depth, which is that of eight symbols behind the mark. It is a power of two,
+/// so that a remainder needs no division.
+const DEPTHS: usize = 16;
+
 /// A node of the trie.
 type Node = [u16; NODE];
 
 /// Builds the trie of a valid image's left sides, in a trie of zeros, and returns the number of
-/// nodes. The root may have many children, so these are found by their symbol; those of other nodes
-/// are looked for from the youngest to the oldest.
-fn build<const N: usize>(image: &[u8], trie: &mut [Node; N]) -> usize {
+/// nodes. The root and the mark may have many children, so these are found by their symbol; those of
+/// other nodes are looked for from the youngest to the oldest.
+fn build<const N: usize, const ROOT: usize>(image: &[u8], trie: &mut [Node; N]) -> usize {
     let rules = usize::from(image[1]);
     let (contents, mut bodies) = image[4..].split_at(4 * rules);
     let (contents, _) = contents.as_chunks();
     let mut of_root = [0; MAX_SYMBOLS];
-    let mut n = 1;
-    for (rule, &[left, kind, right, _]) in contents.iter().enumerate() {
+    let mut of_mark = [0; MAX_SYMBOLS];
+    let mut n = ROOT + 1;
+    if ROOT == MARKED {
+        trie[MARK][PARENT] = ROOT as u16;
+        trie[MARK][DEPTH] = 1;
+        trie[MARK][FAILURE] = ROOT as u16;
+    }
+    for (rule, &[left, kind, right, mark]) in contents.iter().enumerate() {
         let (left, rest) = bodies.split_at(left.into());
-        let first = usize::from(left[0]) % MAX_SYMBOLS;
-        let mut q = usize::from(of_root[first]);
+        let (start, children) = if ROOT == MARKED && mark == 1 {
+            (MARK, &mut of_mark)
+        } else {
+            (ROOT, &mut of_root)
+        };
+        let first = &mut children[usize::from(left[0]) % MAX_SYMBOLS];
+        let mut q = usize::from(*first);
         if q == 0 {
-            of_root[first] = n as u16;
-            q = add(trie, n, 0, left[0]);
+            *first = n as u16;
+            q = add(trie, n, start, left[0]);
             n += 1;
         }
         for &a in &left[1..] {
@@ -73,10 +88,10 @@ fn add<const N: usize>(trie: &mut [Node; N], n: usize, q: usize, a: u8) -> usize
 
 /// The failure state of node `q`, by the rows and its parent's failure state.
 #[inline(always)]
-fn failure(trie: &[Node], rows: &[u16], s: usize, q: usize) -> usize {
+fn failure<const ROOT: usize>(trie: &[Node], rows: &[u16], s: usize, q: usize) -> usize {
     let node = &trie[q];
     match usize::from(node[PARENT]) {
-        0 => 0,
+        parent if parent == ROOT => ROOT,
         parent => {
             let f = usize::from(trie[parent][FAILURE]);
             usize::from(rows[f * s + usize::from(node[SYMBOL])])
@@ -92,17 +107,23 @@ pub fn compile(image: &[u8], table: &mut [u16], out: &mut [u64; 1]) -> u32 {
     *out = [0];
     match size(image) {
         Size::Bad => BAD_IMAGE,
-        Size::Small => compile_with::<FEW_NODES>(image, table, out),
-        Size::Large => compile_with::<NODES>(image, table, out),
+        Size::Small => compile_with::<FEW_NODES, UNMARKED>(image, table, out),
+        Size::Large => compile_with::<NODES, UNMARKED>(image, table, out),
+        Size::SmallMarked => compile_with::<FEW_NODES, MARKED>(image, table, out),
+        Size::LargeMarked => compile_with::<NODES, MARKED>(image, table, out),
     }
 }
 
-/// The same of a valid image, with room for so many nodes. Not inlined, so that few nodes need a
-/// small frame only.
+/// The same of a valid image, with room for so many nodes, and with this root. Not inlined, so that
+/// few nodes need a small frame only.
 #[inline(never)]
-fn compile_with<const N: usize>(image: &[u8], table: &mut [u16], out: &mut [u64; 1]) -> u32 {
+fn compile_with<const N: usize, const ROOT: usize>(
+    image: &[u8],
+    table: &mut [u16],
+    out: &mut [u64; 1],
+) -> u32 {
     let mut trie = [[0; NODE]; N];
-    let n = build(image, &mut trie);
+    let n = build::<N, ROOT>(image, &mut trie);
     let s = usize::from(image[0]);
     let Some(parts) = begin(table, n, s) else {
         return SHORT_AREA;
@@ -111,11 +132,12 @@ fn compile_with<const N: usize>(image: &[u8], table: &mut [u16], out: &mut [u64;
     let trie = &mut trie[..n];
     let mut by_depth = [0; N];
     sort_by_depth(trie, &mut by_depth);
-    rows[..s].fill(0);
-    write_children(trie, rows, s, 0);
+    rows[ROOT * s..][..s].fill(ROOT as u16);
+    write_children(trie, rows, s, ROOT);
+    // The first is the root, and in an image with a marked rule the second is the mark.
     for &q in &by_depth[1..n] {
         let q = usize::from(q);
-        let f = failure(trie, rows, s, q);
+        let f = failure::<ROOT>(trie, rows, s, q);
         let match_word = trie[f][MATCH];
         let node = &mut trie[q];
         node[FAILURE] = f as u16;
@@ -136,15 +158,15 @@ fn compile_with<const N: usize>(image: &[u8], table: &mut [u16], out: &mut [u64;
 /// The nodes in the order of their depths.
 fn sort_by_depth(trie: &[Node], by_depth: &mut [u16]) {
     // Where the nodes of each depth begin; those of depth `d` are counted at `d + 1`.
-    let mut begin = [0; MAX_SIDE + 2];
+    let mut begin = [0; DEPTHS + 1];
     for node in trie {
-        begin[usize::from(node[DEPTH]) % (MAX_SIDE + 1) + 1] += 1;
+        begin[usize::from(node[DEPTH]) % DEPTHS + 1] += 1;
     }
     for depth in 1..begin.len() {
         begin[depth] += begin[depth - 1];
     }
     for (q, node) in trie.iter().enumerate() {
-        let place = &mut begin[usize::from(node[DEPTH]) % (MAX_SIDE + 1)];
+        let place = &mut begin[usize::from(node[DEPTH]) % DEPTHS];
         by_depth[*place] = q as u16;
         *place += 1;
     }
@@ -181,17 +203,19 @@ fn copy(row: &mut [u16], from: &[u16]) {
 pub fn check_table(image: &[u8], table: &[u16]) -> u32 {
     match size(image) {
         Size::Bad => BAD_IMAGE,
-        Size::Small => check_with::<FEW_NODES>(image, table),
-        Size::Large => check_with::<NODES>(image, table),
+        Size::Small => check_with::<FEW_NODES, UNMARKED>(image, table),
+        Size::Large => check_with::<NODES, UNMARKED>(image, table),
+        Size::SmallMarked => check_with::<FEW_NODES, MARKED>(image, table),
+        Size::LargeMarked => check_with::<NODES, MARKED>(image, table),
     }
 }
 
-/// The same of a valid image, with room for so many nodes.
-fn check_with<const N: usize>(image: &[u8], table: &[u16]) -> u32 {
+/// The same of a valid image, with room for so many nodes, and with this root.
+fn check_with<const N: usize, const ROOT: usize>(image: &[u8], table: &[u16]) -> u32 {
     let mut trie = [[0; NODE]; N];
-    let n = build(image, &mut trie);
+    let n = build::<N, ROOT>(image, &mut trie);
     let s = usize::from(image[0]);
-    if is_table_of(&mut trie[..n], s, table) {
+    if is_table_of::<ROOT>(&mut trie[..n], s, table) {
         0
     } else {
         OTHER_TABLE
@@ -199,18 +223,23 @@ fn check_with<const N: usize>(image: &[u8], table: &[u16]) -> u32 {
 }
 
 /// Whether the table begins with that of a trie over `s` symbols.
-fn is_table_of(trie: &mut [Node], s: usize, table: &[u16]) -> bool {
+fn is_table_of<const ROOT: usize>(trie: &mut [Node], s: usize, table: &[u16]) -> bool {
     let n = trie.len();
-    let Some((matches, rows)) = parts(table, n, s, trie[0][CHILDREN]) else {
+    let Some((matches, rows)) = parts(table, n, s, ROOT, trie[ROOT][CHILDREN]) else {
         return false;
     };
-    for q in 1..n {
+    if ROOT == MARKED
+        && (matches[MARK] != 0 || differing(rows, s, MARK, ROOT) != trie[MARK][CHILDREN])
+    {
+        return false;
+    }
+    for q in ROOT + 1..n {
         let node = &trie[q];
         let parent = usize::from(node[PARENT]);
         if usize::from(rows[parent * s + usize::from(node[SYMBOL])]) != q {
             return false;
         }
-        let f = failure(trie, rows, s, q);
+        let f = failure::<ROOT>(trie, rows, s, q);
         if f >= n {
             return false;
         }
