@@ -10,6 +10,7 @@ pub mod ImageComputed
 pub mod Matching
 pub mod Marks
 pub mod States
+pub mod Unmarked
 pub mod RowPlaces
 pub mod Table
 pub mod Compilation

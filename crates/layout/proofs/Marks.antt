@@ -27,7 +27,7 @@ mark-prefix (r ∷ rules) e = go (r .marked) refl e (mark-prefix rules)
     go false m h ih = or-right (prefix (mark ∷ []) (pattern r)) (isPrefix rules (mark ∷ [])) (ih h)
 
 -- the beginning of a plain string is plain
-plain-beginning : (u v : List ℕ) → prefix u v ≡ true → Plain v → Plain u
+pub plain-beginning : (u v : List ℕ) → prefix u v ≡ true → Plain v → Plain u
 plain-beginning u v e h = all-left (λ x. ltb x mark) u (drop (length u) v) (rw (prefix-rest u v e) at h)
 
 module _ (set : RuleSet) (few : set .symbols ≤ 32) where

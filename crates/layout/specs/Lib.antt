@@ -4,6 +4,7 @@ pub mod Refusals
 pub mod Image
 pub mod States
 pub mod Table
+pub mod Unmarked
 pub mod Compile
 pub mod TableCheck
 pub mod Places
