@@ -1,7 +1,7 @@
 -- `trie::rows::fill` meets its contract. The loop's invariant: the states of depth below `d` are done.
 -- Assumes nothing.
 use Prim.Native.Nat.{ℕ, _*_, _≤_, _<_, _-_}
-use mathlib.Core.Path.{_≡_, refl, sym, ap, _∙_}
+use mathlib.Core.Path.{_≡_, refl, sym, ap, subst, _∙_}
 use native.Mathlib.Omega.{arith}
 use lib.ListN.{length, replicate}
 use borrow.Author.Needs.{needs}
@@ -10,7 +10,7 @@ use Rattle.layout.proofs.Image.{valid-in-range}
 use Rattle.layout.proofs.States.{root-below, root-small}
 use Rattle.layout.proofs.RowPlaces.{row-end}
 use Rattle.layout.specs.States.{states}
-use Rattle.trie.specs.Rows.{FillingAt}
+use Rattle.trie.specs.Rows.{Rooted, FillingAt}
 use Rattle.trie.proofs.Filled.{filling-start, filling-end}
 use Rattle.trie.proofs.rows.fill.Statement.{statement}
 use Rattle.trie.proofs.rows.fill.Tie as tie
@@ -65,13 +65,17 @@ loop-holds c =
     let fill-root = c .before .before in
     let symbols = fill-root .before in
     let lay-children = symbols .before .before .before .before in
-    let start = lay-children .before .before .before .before .before .before .before .before .before .before in (
+    let start = lay-children .before .before .before .before .before .before .before .before .before .before in
+    let laid = lay-children .lay-children .last .1 .1 .1 .1 .0 in
+    let filled = fill-root .fill-root .last .0 in (
       omega arith,
       omega arith,
       refl,
-      filling-start (read (start .args .image .now)) (start .args .trie .now) (lay-children .lay-children .last .1 .1 .1 .1 .0) (fill-root .fill-root .last .0)
+      filling-start (read (start .args .image .now)) (start .args .trie .now) laid filled
           (valid-in-range (start .args .image .now) (start .pre .0)) (start .pre .1 .1 .0 .trie) (start .pre .1 .1 .0 .owned)
-          (lay-children .lay-children .ensures) (rw (symbols .symbols .ensures, start .pre .1 .0) at (fill-root .fill-root .ensures)),
+          (lay-children .lay-children .ensures)
+          (subst (λ (k : ℕ). Rooted laid filled (read (start .args .image .now) .symbols) k (read (start .args .image .now) .symbols)) (start .pre .1 .0)
+          (subst (λ (k : ℕ). Rooted laid filled k (start .args .root) k) (symbols .symbols .ensures) (fill-root .fill-root .ensures))),
     )
 
 fill-depth-requires : tie.Need-fill-depth-requires Inv-loop μ-loop
