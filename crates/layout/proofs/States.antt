@@ -452,39 +452,46 @@ few-states set e =
     let few = few-numbered (set .rules) (firstStates (set .rules)) (first-known (set .rules)) in
     omega (arith, first-few (set .rules), few-left set (set .rules) (h .all-rules), h .few-rules)
 
--- a left side with its mark has at most 9 places
-short-pattern : (r : Rule) → length (pattern r) ≤ 1 + length (r .left)
+-- a left side has at most 8 symbols, and the mark where it has one
+short-pattern : (r : Rule) (k : ℕ) → (r .marked ≡ true → 1 ≤ k) → length (pattern r) ≤ length (r .left) + k
 unfolding pattern
-short-pattern r = go (r .marked)
+short-pattern r k room = go (r .marked) refl
   where
-    go : (b : Bool) → length (cond b (mark ∷ r .left) (r .left)) ≤ 1 + length (r .left)
-    go true = omega arith
-    go false = omega arith
+    go : (b : Bool) → r .marked ≡ b → length (cond b (mark ∷ r .left) (r .left)) ≤ length (r .left) + k
+    go true m = omega (arith, room m)
+    go false m = omega arith
 
 -- and so has each prefix of one, and each state
-prefix-short : (set : RuleSet) (rules : List Rule) → all (ruleInRange set) rules ≡ true
-    → (v : List ℕ) → isPrefix rules v ≡ true → length v ≤ 9
-unfolding isPrefix
-prefix-short set [] e v p = let z : _≡_ {A = ℕ} 0 1 = cc in absurd (omega arith)
-prefix-short set (r ∷ rules) e v p =
+prefix-short : (set : RuleSet) (k : ℕ) (rules : List Rule) → all (ruleInRange set) rules ≡ true → (hasMark rules ≡ true → 1 ≤ k)
+    → (v : List ℕ) → isPrefix rules v ≡ true → length v ≤ 8 + k
+unfolding isPrefix hasMark
+prefix-short set k [] e room v p = let z : _≡_ {A = ℕ} 0 1 = cc in absurd (omega arith)
+prefix-short set k (r ∷ rules) e room v p =
     go (or-cases (prefix v (pattern r)) (isPrefix rules v) p)
-    (prefix-short set rules (and-right (ruleInRange set r) (all (ruleInRange set) rules) e) v)
+    (prefix-short set k rules (and-right (ruleInRange set r) (all (ruleInRange set) rules) e) (λ m. room (or-right (r .marked) (hasMark rules) m)) v)
   where
-    go : (prefix v (pattern r) ≡ true) ⊎ (isPrefix rules v ≡ true) → (isPrefix rules v ≡ true → length v ≤ 9) → length v ≤ 9
+    go : (prefix v (pattern r) ≡ true) ⊎ (isPrefix rules v ≡ true) → (isPrefix rules v ≡ true → length v ≤ 8 + k) → length v ≤ 8 + k
     go (inl h) ih =
         let own = rule-ranges set r (and-left (ruleInRange set r) (all (ruleInRange set) rules) e) in
         let size : length (pattern r) ≡ length v + length (drop (length v) (pattern r)) =
         ap length (prefix-rest v (pattern r) h) ∙ length-append v (drop (length v) (pattern r))
         in
-        omega (arith, own .short-left, short-pattern r)
+        omega (arith, own .short-left, short-pattern r k (λ m. room (or-left (r .marked) (hasMark rules) m)))
     go (inr h) ih = ih h
 
-pub short-state : (set : RuleSet) → inRange set ≡ true → (c : ℕ) → c < length (states (set .rules)) → length (text (set .rules) c) ≤ 9
+pub root-marked : (rules : List Rule) → hasMark rules ≡ true → 1 ≤ root rules
+unfolding root
+root-marked rules e = rw e (omega arith)
+
+pub short-state : (set : RuleSet) → inRange set ≡ true → (c : ℕ) → c < length (states (set .rules))
+    → length (text (set .rules) c) ≤ 8 + root (set .rules)
 short-state set e c h = go (listed-prefix (set .rules) c h)
   where
-    go : (text (set .rules) c ≡ []) ⊎ (isPrefix (set .rules) (text (set .rules) c) ≡ true) → length (text (set .rules) c) ≤ 9
+    go : (text (set .rules) c ≡ []) ⊎ (isPrefix (set .rules) (text (set .rules) c) ≡ true)
+        → length (text (set .rules) c) ≤ 8 + root (set .rules)
     go (inl p) = let size = ap length p in omega arith
-    go (inr p) = prefix-short set (set .rules) (ranges set e .all-rules) (text (set .rules) c) p
+    go (inr p) =
+        prefix-short set (root (set .rules)) (set .rules) (ranges set e .all-rules) (root-marked (set .rules)) (text (set .rules) c) p
 
 -- behind its first place a state has symbols alone
 pub state-plain : (set : RuleSet) → inRange set ≡ true → (c y : ℕ) (p : List ℕ) → c < length (states (set .rules))

@@ -1,5 +1,5 @@
 -- Where the filling of the rows begins and ends: with the children laid and the root's row filled the empty state is done, and
--- when the states of 9 places are done, the rows and match words are the table's, and are written there.
+-- when the longest states are done, the rows and match words are the table's, and are written there.
 -- Assumes nothing.
 use Prim.Native.Nat.{ℕ, _+_, _*_, _≤_, _<_}
 use mathlib.Core.Path.{_≡_, refl, sym, ap, _∙_}
@@ -101,8 +101,8 @@ filling-start set t rows rows′ e trie owned laid rooted =
         let other = eqb-false c (root rules) p in
         rw (reached-root rules c other h) (apart c a other k ∙ laid .table c a h k)
 
--- When the states of 9 places are done, all are.
-pub filling-end : (set : RuleSet) (t t′ rows : List ℕ) → inRange set ≡ true → length t′ ≡ length t → FillingAt set 10 0 t′ rows
+-- When the states of 8 symbols, and the mark where there is one, are done, all are.
+pub filling-end : (set : RuleSet) (t t′ rows : List ℕ) → inRange set ≡ true → length t′ ≡ length t → FillingAt set (9 + root (set .rules)) 0 t′ rows
     → Filled set t t′ rows
 filling-end set t t′ rows e size filling =
     record {
@@ -113,8 +113,8 @@ filling-end set t t′ rows e size filling =
       matches = λ c h. rw (final c h) at (filling .matches c h);
     }
   where
-    final : (c : ℕ) → c < length (states (set .rules)) → reached (states (set .rules)) 10 0 c ≡ true
-    final c h = let short = short-state set e c h in reached-shorter (states (set .rules)) 10 0 c (omega arith)
+    final : (c : ℕ) → c < length (states (set .rules)) → reached (states (set .rules)) (9 + root (set .rules)) 0 c ≡ true
+    final c h = let short = short-state set e c h in reached-shorter (states (set .rules)) (9 + root (set .rules)) 0 c (omega arith)
 
 -- The match words are written one by one.
 pub written-more : (t words : List ℕ) (q : ℕ) → q < length words → ((k : ℕ) → k < q → getD words k 0 ≡ matched t k)

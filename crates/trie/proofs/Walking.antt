@@ -48,6 +48,7 @@ use Rattle.layout.proofs.States.{
   length-prefixes,
   few-numbered,
   few-left,
+  root-marked,
 }
 use Rattle.trie.proofs.Tally.{tally-most}
 use Rattle.trie.proofs.Growth.{Stepped, stepped}
@@ -157,10 +158,6 @@ mark-taken (r ∷ rules) (suc i) m = go (r .marked) refl m (mark-taken rules i)
         → (r .marked || hasMark rules) ≡ true
     go true e m ih = or-left (r .marked) (hasMark rules) e
     go false e m ih = or-right (r .marked) (hasMark rules) (ih m)
-
-root-marked : (rules : List Rule) → hasMark rules ≡ true → 0 < root rules
-unfolding root
-root-marked rules e = rw e (omega arith)
 
 -- the first node, as the code works it out: the root without the mark
 pub first-node-is : (set : RuleSet) (i top m : ℕ) → top ≡ root (set .rules) → m ≡ markByte (rule (set .rules) i .marked)

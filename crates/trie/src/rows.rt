@@ -123,7 +123,8 @@ fn fill_depth(image: &[u8], root: usize, trie: &mut [u16], rows: &mut [u16], n: 
     }
 }
 
-// The rows of the table, and its match words in the nodes: short states before long, as a failure state is shorter.
+// The rows of the table, and its match words in the nodes: short states before long, as a failure state is shorter. A state has at
+// most eight symbols, and the mark where there is one.
 pub fn fill(image: &[u8], root: usize, trie: &mut [u16], n: usize, rows: &mut [u16])
     requires { ⌜ valid (now image) ≡ true ⌝ }
     requires root { ⌜ root ≡ Words.root (read (now image) .rules) ⌝ }
@@ -134,7 +135,7 @@ pub fn fill(image: &[u8], root: usize, trie: &mut [u16], n: usize, rows: &mut [u
     clear(rows);
     lay_children(image, root, trie, n, rows);
     fill_root(rows, image::symbols(image), root);
-    for d in 1..10 {
+    for d in 1..9 + root as u16 {
         fill_depth(image, root, trie, rows, n, d);
     }
 }

@@ -1,11 +1,12 @@
 -- `trie::rows::fill` meets its contract. The loop's invariant: the states of depth below `d` are done.
 -- Assumes nothing.
-use Prim.Native.Nat.{ℕ, _*_, _≤_, _<_, _-_}
+use Prim.Native.Nat.{ℕ, _+_, _*_, _≤_, _<_, _-_}
 use mathlib.Core.Path.{_≡_, refl, sym, ap, subst, _∙_}
 use native.Mathlib.Omega.{arith}
 use lib.ListN.{length, replicate}
 use borrow.Author.Needs.{needs}
 use Rattle.layout.specs.Image.{read}
+use Rattle.layout.specs.Words.{root}
 use Rattle.layout.proofs.Image.{valid-in-range}
 use Rattle.layout.proofs.States.{root-below, root-small}
 use Rattle.layout.proofs.RowPlaces.{row-end}
@@ -16,11 +17,11 @@ use Rattle.trie.proofs.rows.fill.Statement.{statement}
 use Rattle.trie.proofs.rows.fill.Tie as tie
 
 abbrev Inv-loop : tie.InvT-loop
-Inv-loop image root trie₀ n rows₀ d₀ trie rows d =
-    (0 < d) × (d ≤ 10) × (length trie ≡ length trie₀) × FillingAt (read image) d 0 trie rows
+Inv-loop image top trie₀ n rows₀ d₀ d-end trie rows d =
+    (0 < d) × (d ≤ 9 + top) × (length trie ≡ length trie₀) × FillingAt (read image) d 0 trie rows
 
 abbrev μ-loop : tie.MeasureT-loop
-μ-loop image root trie₀ n rows₀ d₀ trie rows d = 10 - d
+μ-loop image top trie₀ n rows₀ d₀ d-end trie rows d = d-end - d
 
 clear-requires : tie.Need-clear-requires Inv-loop μ-loop
 clear-requires c κs = search needs
@@ -60,6 +61,16 @@ fill-root-requires c κs =
       omega (arith, start .pre .1 .0, root-small (read image .rules)),
     )
 
+cast-d-end : tie.Need-cast-d-end Inv-loop μ-loop
+cast-d-end c =
+    let start = c .before .before .before .before .before .before .before .before .before .before .before .before .before .before .before .before .before in
+    omega (arith, start .pre .1 .0, root-small (read (start .args .image .now) .rules))
+
+add-d-end : tie.Need-add-d-end Inv-loop μ-loop
+add-d-end c =
+    let start = c .before .before .before .before .before .before .before .before .before .before .before .before .before .before .before .before .before in
+    omega (arith, start .pre .1 .0, root-small (read (start .args .image .now) .rules))
+
 loop-holds : tie.Need-loop-holds Inv-loop μ-loop
 loop-holds c =
     let fill-root = c .before .before in
@@ -86,7 +97,9 @@ fill-depth-requires c κs =
 
 add-d : tie.Need-add-d Inv-loop μ-loop
 add-d c =
-    omega arith
+    let loop = c .before .before .before .before .before .before .before .before in
+    let start = loop .before .before .before .before .before .before .before .before .before .before .before .before .before .before .before .before .before .before in
+    omega (arith, loop .loop .inv .1, start .pre .1 .0, root-small (read (start .args .image .now) .rules))
 
 loop-less : tie.Need-loop-less Inv-loop μ-loop
 loop-less c =
@@ -116,7 +129,7 @@ returns c =
     let loop = c .before in
     let start = loop .before .before .before .before .before .before .before .before .before .before .before .before .before .before .before .before .before .before in
     let turn = loop .loop in
-    let all : turn .d ≡ 10 = omega arith in
+    let all : turn .d ≡ 9 + root (read (start .args .image .now) .rules) = omega (arith, start .pre .1 .0) in
     filling-end (read (start .args .image .now)) (start .args .trie .now) (turn .trie) (turn .rows)
     (valid-in-range (start .args .image .now) (start .pre .0)) (turn .inv .2) (rw all at (turn .inv .3))
 
@@ -130,6 +143,8 @@ fill-spec =
     lay-children-requires
     symbols-requires
     fill-root-requires
+    cast-d-end
+    add-d-end
     loop-holds
     fill-depth-requires
     add-d
