@@ -2,7 +2,7 @@
 -- Assumes nothing.
 use Prim.Native.Nat.{ℕ, _+_, _*_, _≤_, _<_}
 use mathlib.Core.Path.{_≡_, refl, _∙_}
-use mathlib.Core.Bool.{Bool, true, false}
+use mathlib.Core.Bool.{Bool, true, false, cond}
 use mathlib.Core.Logic.{⊎-elim}
 use mathlib.Core.List.{List}
 use native.Mathlib.Omega.{arith}
@@ -78,6 +78,18 @@ rooted-more rows rows′ s root a fits h m v e =
     own b k false p =
         let differs = eqb-false b a p in
         getD-set-other rows′ (root * s + a) (root * s + b) v 0 (λ x. differs (omega arith)) ∙ m .own b (omega arith)
+
+-- where the root is state 0 its row is right as it is
+pub rooted-zero : (rows : List ℕ) (s root : ℕ) → root ≡ 0 → Rooted rows rows s root s
+rooted-zero rows s root e =
+    record { size = refl; own = λ a h. go (transition rows s root a); before = λ k h. refl; behind = λ k h. refl }
+  where
+    go : (x : ℕ) → x ≡ ownOr x root
+    go x = rw e (by-zero (eqb x 0) refl)
+      where
+        by-zero : (b : Bool) → eqb x 0 ≡ b → x ≡ cond b 0 x
+        by-zero true p = eqb-true x 0 p
+        by-zero false p = refl
 
 -- the failure state and the match word of a node are stored
 pub noted : (t : List ℕ) (q f m : ℕ) → 8 * q + 7 < length t → m ≡ ownOr (matched t q) (matched t f)

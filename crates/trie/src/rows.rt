@@ -55,7 +55,7 @@ fn chosen(own: u16, other: u16) -> u16
     if own == 0 { other } else { own }
 }
 
-// Each 0 in the row of the root becomes the root's number.
+// Each 0 in the row of the root becomes the root's number. Where that is 0 there is nothing to do.
 fn fill_root(rows: &mut [u16], s: usize, root: usize)
     requires own { ⌜ root * s + s ≤ length (now rows) ⌝ }
     requires low { ⌜ root ≤ 1 ⌝ }
@@ -134,7 +134,9 @@ pub fn fill(image: &[u8], root: usize, trie: &mut [u16], n: usize, rows: &mut [u
 {
     clear(rows);
     lay_children(image, root, trie, n, rows);
-    fill_root(rows, image::symbols(image), root);
+    if 0 < root {
+        fill_root(rows, image::symbols(image), root);
+    }
     for d in 1..9 + root as u16 {
         fill_depth(image, root, trie, rows, n, d);
     }

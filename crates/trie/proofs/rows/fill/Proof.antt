@@ -2,6 +2,8 @@
 -- Assumes nothing.
 use Prim.Native.Nat.{ℕ, _+_, _*_, _≤_, _<_, _-_}
 use mathlib.Core.Path.{_≡_, refl, sym, ap, subst, _∙_}
+use mathlib.Core.Logic.{⊎-elim}
+use mathlib.Core.List.{List}
 use native.Mathlib.Omega.{arith}
 use lib.ListN.{length, replicate}
 use borrow.Author.Needs.{needs}
@@ -12,6 +14,7 @@ use Rattle.layout.proofs.States.{root-below, root-small}
 use Rattle.layout.proofs.RowPlaces.{row-end}
 use Rattle.layout.specs.States.{states}
 use Rattle.trie.specs.Rows.{Rooted, FillingAt}
+use Rattle.trie.proofs.RowWords.{rooted-zero}
 use Rattle.trie.proofs.Filled.{filling-start, filling-end}
 use Rattle.trie.proofs.rows.fill.Statement.{statement}
 use Rattle.trie.proofs.rows.fill.Tie as tie
@@ -50,7 +53,7 @@ symbols-requires c κs = search needs
 
 fill-root-requires : tie.Need-fill-root-requires Inv-loop μ-loop
 fill-root-requires c κs =
-    let lay-children = c .before .before .before .before in
+    let lay-children = c .before .before .before .before .before in
     let clear = lay-children .before .before .before .before .before in
     let start = clear .before .before .before .before .before in
     let image = start .args .image .now in
@@ -63,42 +66,48 @@ fill-root-requires c κs =
 
 cast-d-end : tie.Need-cast-d-end Inv-loop μ-loop
 cast-d-end c =
-    let start = c .before .before .before .before .before .before .before .before .before .before .before .before .before .before .before .before .before in
+    let start = c .before .before .before .before .before .before .before .before .before .before .before .before .before in
     omega (arith, start .pre .1 .0, root-small (read (start .args .image .now) .rules))
 
 add-d-end : tie.Need-add-d-end Inv-loop μ-loop
 add-d-end c =
-    let start = c .before .before .before .before .before .before .before .before .before .before .before .before .before .before .before .before .before in
+    let start = c .before .before .before .before .before .before .before .before .before .before .before .before .before in
     omega (arith, start .pre .1 .0, root-small (read (start .args .image .now) .rules))
 
 loop-holds : tie.Need-loop-holds Inv-loop μ-loop
 loop-holds c =
-    let fill-root = c .before .before in
-    let symbols = fill-root .before in
-    let lay-children = symbols .before .before .before .before in
+    let lay-children = c .before .before .before in
     let start = lay-children .before .before .before .before .before .before .before .before .before .before in
+    let set = read (start .args .image .now) in
     let laid = lay-children .lay-children .last .1 .1 .1 .1 .0 in
-    let filled = fill-root .fill-root .last .0 in (
+    let rooted : Rooted laid (c .if1 .rows) (set .symbols) (root (set .rules)) (set .symbols) =
+    ⊎-elim
+    (λ w.
+    subst (λ (l : List ℕ). Rooted laid l (set .symbols) (root (set .rules)) (set .symbols)) (sym (w .6))
+    (subst (λ (k : ℕ). Rooted laid (w .3 .last .0) (set .symbols) k (set .symbols)) (start .pre .1 .0)
+    (subst (λ (k : ℕ). Rooted laid (w .3 .last .0) k (start .args .root) k) (w .2 .ensures) (w .3 .ensures))))
+    (λ w.
+    subst (λ (l : List ℕ). Rooted laid l (set .symbols) (root (set .rules)) (set .symbols)) (sym (w .1))
+    (rooted-zero laid (set .symbols) (root (set .rules)) (omega (arith, w .0 .left, start .pre .1 .0))))
+    (c .if1 .came)
+    in (
       omega arith,
       omega arith,
       refl,
-      filling-start (read (start .args .image .now)) (start .args .trie .now) laid filled
-          (valid-in-range (start .args .image .now) (start .pre .0)) (start .pre .1 .1 .0 .trie) (start .pre .1 .1 .0 .owned)
-          (lay-children .lay-children .ensures)
-          (subst (λ (k : ℕ). Rooted laid filled (read (start .args .image .now) .symbols) k (read (start .args .image .now) .symbols)) (start .pre .1 .0)
-          (subst (λ (k : ℕ). Rooted laid filled k (start .args .root) k) (symbols .symbols .ensures) (fill-root .fill-root .ensures))),
+      filling-start set (start .args .trie .now) laid (c .if1 .rows) (valid-in-range (start .args .image .now) (start .pre .0))
+          (start .pre .1 .1 .0 .trie) (start .pre .1 .1 .0 .owned) (lay-children .lay-children .ensures) rooted,
     )
 
 fill-depth-requires : tie.Need-fill-depth-requires Inv-loop μ-loop
 fill-depth-requires c κs =
     let loop = c .before .before .before in
-    let start = loop .before .before .before .before .before .before .before .before .before .before .before .before .before .before .before .before .before .before in
+    let start = loop .before .before .before .before .before .before .before .before .before .before .before .before .before .before in
     (start .pre .0, (start .pre .1 .0, (start .pre .1 .1 .0 .nodes, (loop .loop .inv .0, loop .loop .inv .3))))
 
 add-d : tie.Need-add-d Inv-loop μ-loop
 add-d c =
     let loop = c .before .before .before .before .before .before .before .before in
-    let start = loop .before .before .before .before .before .before .before .before .before .before .before .before .before .before .before .before .before .before in
+    let start = loop .before .before .before .before .before .before .before .before .before .before .before .before .before .before in
     omega (arith, loop .loop .inv .1, start .pre .1 .0, root-small (read (start .args .image .now) .rules))
 
 loop-less : tie.Need-loop-less Inv-loop μ-loop
@@ -121,13 +130,13 @@ same-length c =
 same-length-2 : tie.Need-same-length-2 Inv-loop μ-loop
 same-length-2 c =
     let loop = c .before in
-    let start = loop .before .before .before .before .before .before .before .before .before .before .before .before .before .before .before .before .before .before in
+    let start = loop .before .before .before .before .before .before .before .before .before .before .before .before .before .before in
     loop .loop .inv .3 .size ∙ sym (start .pre .1 .1 .1)
 
 returns : tie.Need-returns Inv-loop μ-loop
 returns c =
     let loop = c .before in
-    let start = loop .before .before .before .before .before .before .before .before .before .before .before .before .before .before .before .before .before .before in
+    let start = loop .before .before .before .before .before .before .before .before .before .before .before .before .before .before in
     let turn = loop .loop in
     let all : turn .d ≡ 9 + root (read (start .args .image .now) .rules) = omega (arith, start .pre .1 .0) in
     filling-end (read (start .args .image .now)) (start .args .trie .now) (turn .trie) (turn .rows)
