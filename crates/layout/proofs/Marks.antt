@@ -2,13 +2,13 @@
 -- Assumes nothing.
 use Prim.Native.Nat.{ℕ, _≤_}
 use mathlib.Core.Path.{_≡_, refl}
-use mathlib.Core.Bool.{Bool, true, false, cond, _||_}
+use mathlib.Core.Bool.{Bool, true, false, _||_}
 use mathlib.Core.Logic.{_⊎_, inl, inr}
 use mathlib.Core.List.{List, [], _∷_}
 use native.Mathlib.Omega.{arith}
 use lib.Dec.{eqb, ltb}
 use lib.ListN.{length, drop}
-use Rattle.rewriting.specs.Lists.{all, below, prefix}
+use Rattle.rewriting.specs.Lists.{all, prefix}
 use Rattle.rewriting.specs.Rules.{Rule, RuleSet, ruleInRange}
 use Rattle.rewriting.proofs.Lists.{and-left, and-right, or-cases, or-right, all-left, below-weaken, prefix-rest}
 use Rattle.rewriting.proofs.Ranges.{rule-ranges}

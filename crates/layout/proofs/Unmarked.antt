@@ -1,19 +1,18 @@
 -- Without a marked rule the mark changes nothing: "Other images keep their table", word for word.
 -- Assumes nothing.
-use Prim.Native.Nat.{ℕ, zero, suc, _<_}
-use mathlib.Core.Path.{_≡_, refl, sym, ap, _∙_}
-use mathlib.Core.Bool.{Bool, true, false, cond, _&&_, _||_}
+use Prim.Native.Nat.{ℕ, suc, _<_}
+use mathlib.Core.Path.{_≡_, refl, sym, ap, subst, _∙_}
+use mathlib.Core.Bool.{Bool, true, false, _||_}
 use mathlib.Core.Logic.{_⊎_, inl, inr}
 use mathlib.Core.List.{List, [], _∷_, _++_, map, flatMap}
 use native.Mathlib.Omega.{arith}
-use native.Mathlib.Nat.{le-of-suc-le-suc}
 use lib.ListN.{length, getD}
 use Rattle.rewriting.specs.Lists.{all, upTo, prefix}
 use Rattle.rewriting.specs.Rules.{Rule, RuleSet, ruleInRange, inRange}
 use Rattle.rewriting.specs.Occurrences.{lowest, spanning, ending}
 use Rattle.rewriting.specs.Sample.{sample}
 use Rattle.rewriting.proofs.Lists.{and-left, and-right, or-cases}
-use Rattle.rewriting.proofs.Ranges.{Ranges, ranges}
+use Rattle.rewriting.proofs.Ranges.{ranges}
 use Rattle.layout.specs.States.{
   mark,
   pattern,
@@ -30,8 +29,11 @@ use Rattle.layout.specs.States.{
   states,
   number,
 }
+use Rattle.layout.specs.Image.{imageOf}
 use Rattle.layout.specs.Table.{matchWord, row, tableOf}
 use Rattle.layout.specs.Unmarked.{isLeftPrefix, leftState, lowestLeft, longestLeft, leftStates, leftRow, document01Table}
+use Rattle.layout.proofs.Image.{valid-in-range, read-image}
+use Rattle.layout.proofs.ImageComputed.{sample-valid}
 use Rattle.layout.proofs.Matching.{Plain, plain-first, state-drop}
 use Rattle.layout.proofs.Marks.{plain-beginning, plain-left, no-mark-prefix}
 use Rattle.layout.proofs.States.{allPrefixes, listed-prefix}
@@ -153,6 +155,11 @@ module _ (set : RuleSet) (in-range : inRange set ≡ true) (none : hasMark (set 
       rw (words, flatMap-same (row set) (leftRow set) (states (set .rules)) same-row, same-states)
 
 -- the sample is such a rule set
-pub sample-unmarked : hasMark (sample .rules) ≡ false
+sample-unmarked : hasMark (sample .rules) ≡ false
 unfolding hasMark sample
 sample-unmarked = refl
+
+pub sample-keeps : tableOf sample ≡ document01Table sample
+sample-keeps =
+    unmarked-table sample (subst (λ (x : RuleSet). inRange x ≡ true) (read-image sample) (valid-in-range (imageOf sample) sample-valid))
+    sample-unmarked

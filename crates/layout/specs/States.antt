@@ -45,7 +45,8 @@ symbolsIn [] = []
 symbolsIn (x ∷ v) = cond (eqb x mark) v (x ∷ v)
 
 -- the rule that state q matches: "the rule with the longest left side that is a suffix of q's string, the lowest rule
--- among equals". That is the choice among occurrences that end together (`ending-longest`, rewriting/proofs/Redex.antt).
+-- among equals", a marked one before an unmarked one. That is the choice among occurrences that end together (`ending-longest`,
+-- rewriting/proofs/Redex.antt).
 unfoldable pub matching : List Rule → List ℕ → Option ℕ
 matching rules q = ending rules (starts q) (symbolsIn q)
 

@@ -84,7 +84,7 @@ redex-marked-later : redex (atStart (0 ∷ [] ⇒ Close 1) ∷ (0 ∷ [] ⇒ Clo
 unfolding redex scan endingAt ending tie spanning lowest orElse rule
 redex-marked-later = refl
 
--- the one that begins first wins over a mark, which has no width
+-- behind another symbol a marked left side does not occur: one without a mark that ends there is taken
 redex-marked-short : redex (atStart (1 ∷ [] ⇒ Close 1) ∷ (0 ∷ 1 ∷ [] ⇒ Close 0) ∷ []) (0 ∷ 1 ∷ [])
     ≡ some (record { before = []; rule = 1; after = [] })
 unfolding redex scan endingAt ending tie spanning lowest orElse rule

@@ -9,7 +9,7 @@ use mathlib.Core.List.{List, [], _∷_}
 use native.Mathlib.Omega.{arith}
 use lib.ListN.{length}
 use Rattle.rewriting.specs.Rules.{Rule}
-use Rattle.rewriting.specs.Occurrences.{lowest, spanning, tie, ending}
+use Rattle.rewriting.specs.Occurrences.{lowest, spanning, ending}
 use Rattle.rewriting.proofs.Choice.{tie-or-else}
 use Rattle.rewriting.proofs.Scan.{lowest-left}
 use Rattle.rewriting.proofs.Redex.{NonEmpty}

@@ -8,7 +8,7 @@ use mathlib.Core.Logic.{_≢_, ⊎-elim}
 use mathlib.Core.List.{List}
 use native.Mathlib.Omega.{arith}
 use native.Mathlib.Nat.{not-suc-le-zero}
-use lib.ListN.{length, getD}
+use lib.ListN.{length}
 use Rattle.rewriting.specs.Rules.{RuleSet, inRange}
 use Rattle.rewriting.specs.Occurrences.{ending}
 use Rattle.rewriting.proofs.Redex.{non-empty}

@@ -1,17 +1,17 @@
 -- A state's row beside its failure state's: in the rules' table the two differ just where the state has a child, and a row
 -- that has each child in its place and differs in as many words as there are children is right.
 -- Assumes nothing.
-use Prim.Native.Nat.{ℕ, _+_, _*_, _≤_, _<_}
+use Prim.Native.Nat.{ℕ, _+_, _≤_, _<_}
 use mathlib.Core.Path.{_≡_, refl, sym, ap, _∙_}
 use mathlib.Core.Bool.{Bool, true, false, not}
 use mathlib.Core.List.{List, [], _∷_, _++_}
 use native.Mathlib.Omega.{arith}
 use lib.Dec.{eqb}
-use lib.ListN.{length, getD, length-append}
+use lib.ListN.{length, length-append}
 use borrow.Author.Tests.{eqb-true, eq-eqb, ne-eqb}
 use Rattle.rewriting.specs.Rules.{Rule}
 use Rattle.layout.specs.States.{next, known, states, number}
-use Rattle.layout.specs.Words.{failureState, transition}
+use Rattle.layout.specs.Words.{failureState}
 use Rattle.trie.specs.Nodes.{tally}
 use Rattle.layout.proofs.States.{known-nil, next-known, next-listed, number-at}
 use Rattle.trie.proofs.Tally.{tally-agree, tally-same}

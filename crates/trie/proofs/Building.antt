@@ -21,7 +21,7 @@ use Rattle.layout.specs.Image.{body}
 use Rattle.layout.specs.Places.{leftAt}
 use Rattle.layout.proofs.Places.{left-first, left-next}
 use Rattle.trie.specs.declared.Walked.{Walked}
-use Rattle.layout.specs.States.{mark, pattern, starts, symbolsIn, known, number, numbered, hasMark, firstStates, states}
+use Rattle.layout.specs.States.{mark, pattern, starts, symbolsIn, known, numbered, hasMark, firstStates, states}
 use Rattle.layout.specs.Table.{matchWord}
 use Rattle.layout.specs.Words.{root, own}
 use Rattle.layout.proofs.Matching.{Plain, pattern-own, own-pattern}

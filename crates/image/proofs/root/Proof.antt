@@ -34,8 +34,9 @@ returns : tie.Need-returns Inv-loop μ-loop
 returns c =
     let loop = c .before .before .before in
     let start = loop .before .before .before in
-    sym
-    (root-found (read (start .args .image .now) .rules) (loop .loop .i) (mark-some (rule (read (start .args .image .now) .rules) (loop .loop .i) .marked) (rw (c .before .mark .ensures) at (c .if1 .taken))))
+    let rules = read (start .args .image .now) .rules in
+    let some = mark-some (rule rules (loop .loop .i) .marked) (rw (c .before .mark .ensures) at (c .if1 .taken)) in
+    sym (root-found rules (loop .loop .i) some)
 
 add-i : tie.Need-add-i Inv-loop μ-loop
 add-i c = omega arith
@@ -48,7 +49,8 @@ loop-again c =
     let loop = c .before .before .before in
     let start = loop .before .before .before in
     let rules = read (start .args .image .now) .rules in
-    (omega arith, no-mark-yet rules (loop .loop .i) (loop .loop .inv .1) (mark-none (rule rules (loop .loop .i) .marked) (rw (c .before .mark .ensures) at (c .if1 .left))))
+    let none = mark-none (rule rules (loop .loop .i) .marked) (rw (c .before .mark .ensures) at (c .if1 .left)) in
+    (omega arith, no-mark-yet rules (loop .loop .i) (loop .loop .inv .1) none)
 
 returns-2 : tie.Need-returns-2 Inv-loop μ-loop
 returns-2 c =

@@ -1,11 +1,10 @@
 -- `trie::build` meets its contract. After i rules it has the trie of the first i.
 -- Assumes nothing.
 use Prim.Native.Nat.{_-_}
-use mathlib.Core.Path.{refl, sym, ap, _∙_}
+use mathlib.Core.Path.{refl, _∙_}
 use native.Mathlib.Omega.{arith}
 use native.Mathlib.Numerals.{add-one}
 use lib.ListN.{length}
-use borrow.Author.Needs.{needs}
 use Rattle.rewriting.proofs.Ranges.{ranges}
 use Rattle.layout.specs.Image.{read}
 use Rattle.layout.proofs.Image.{valid-in-range}

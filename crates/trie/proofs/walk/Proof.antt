@@ -1,7 +1,7 @@
 -- `trie::walk` meets its contract. After j symbols it stands at the node of the first j, and their prefixes have nodes.
 -- Assumes nothing.
 use Prim.Native.Nat.{_-_}
-use mathlib.Core.Path.{refl, sym, _∙_}
+use mathlib.Core.Path.{refl, _∙_}
 use native.Mathlib.Omega.{arith}
 use native.Mathlib.Numerals.{add-one}
 use lib.ListN.{length}
