@@ -53,7 +53,9 @@ sampleTable =
     ∷ []
 
 pub sample-table : tableOf sample ≡ sampleTable
-unfolding sample tableOf matchWord row states firstStates hasMark numbered pattern prefixes known number next matching starts symbolsIn state isPrefix lowest spanning tie ending orElse flatMap
+unfolding
+    sample tableOf matchWord row states firstStates hasMark numbered pattern prefixes known number next matching starts
+    symbolsIn state isPrefix lowest spanning tie ending orElse flatMap
 sample-table = refl
 
 pub sample-words : length (tableOf sample) ≡ 32

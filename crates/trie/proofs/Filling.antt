@@ -112,7 +112,8 @@ module _ (set : RuleSet) (done : ℕ → Bool) (t rows : List ℕ) (filling : Fi
             go : (b : Bool) → eqb q 0 ≡ b → failure t′ 0 ≡ root rules
             go true e =
                 let first : q ≡ 0 = eqb-true q 0 e in
-                rw first at (noted .own-failure) ∙ is ∙ by-root t rows (set .symbols) (root rules) q (ap (λ (c : ℕ). parent t c) first ∙ filling .trie .mark-parent)
+                rw first at (noted .own-failure) ∙ is ∙ by-root t rows (set .symbols) (root rules) q (ap (λ
+                (c : ℕ). parent t c) first ∙ filling .trie .mark-parent)
             go false e =
                 let differs = eqb-false q 0 e in
                 noted .rest 7 (λ p. omega arith) (λ p. differs (omega arith)) ∙ filling .trie .mark-failure

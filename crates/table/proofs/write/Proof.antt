@@ -91,7 +91,8 @@ write-matches-requires c κs =
         trie .nodes,
         (
           omega (arith, filled .fill .ensures .size, trie .trie .linked .size, trie .nodes),
-          matches-room (read (start .args .image .now)) (start .args .table .now) (start .pre .1 .1 .0 .nodes) (read-symbols .symbols .ensures) (start .pre .1 .1 .1)
+          matches-room (read (start .args .image .now)) (start .args .table .now) (start .pre .1 .1 .0 .nodes)
+              (read-symbols .symbols .ensures) (start .pre .1 .1 .1)
               (filled .fill .last .1 .1 .1 .1 .0) (filled .fill .ensures .table),
         ),
       ),

@@ -87,7 +87,8 @@ states-hold-requires c κs =
     let sized = c .before .before .before .before .before .before .before .before .before in
     let symbols = sized .before in
     let start = symbols .before .before .before .before in
-    let parts = part-lengths (read (start .args .image .now)) (start .args .table .now) (start .pre .1 .1 .nodes) (symbols .symbols .ensures) (sized .if1 .left) in
+    let parts = part-lengths (read (start .args .image .now)) (start .args .table .now) (start .pre .1 .1 .nodes)
+    (symbols .symbols .ensures) (sized .if1 .left) in
     (start .pre .0, (start .pre .1 .0, (start .pre .1 .1, parts)))
 
 same-length : tie.Need-same-length
