@@ -165,10 +165,8 @@ fn rule_sets_of_every_shape() {
     assert!(seen.rewrites > 300, "{seen:?}");
 }
 
-/// Every rule set of up to two rules whose sides have one or two symbols out of two (right sides none
-/// too, or a verdict), with every string of four events.
-#[test]
-fn all_small_rule_sets() {
+/// Every rule whose sides have one or two symbols out of two (right sides none too, or a verdict).
+fn small_rules() -> Vec<Rule> {
     let mut strings: Vec<Vec<u8>> = Vec::new();
     for length in 0..=2 {
         for bits in 0..1u8 << length {
@@ -180,6 +178,13 @@ fn all_small_rule_sets() {
         rules.extend(strings.iter().map(|right| string(left, right)));
         rules.push(verdict(left, 1));
     }
+    rules
+}
+
+/// Every rule set of up to two such rules, with every string of four events.
+#[test]
+fn all_small_rule_sets() {
+    let rules = small_rules();
     assert_eq!(rules.len(), 6 * 8);
     let mut sets = vec![vec![]];
     for first in &rules {
@@ -221,17 +226,7 @@ fn all_small_rule_sets() {
 /// The same pairs of rules with the one marked, the other, or both, and some of these strings of events.
 #[test]
 fn all_small_rule_sets_with_marks() {
-    let mut strings: Vec<Vec<u8>> = Vec::new();
-    for length in 0..=2 {
-        for bits in 0..1u8 << length {
-            strings.push((0..length).map(|place| bits >> place & 1).collect());
-        }
-    }
-    let mut rules: Vec<Rule> = Vec::new();
-    for left in &strings[1..] {
-        rules.extend(strings.iter().map(|right| string(left, right)));
-        rules.push(verdict(left, 1));
-    }
+    let rules = small_rules();
     let mut seen = Seen::default();
     let mut number = 0;
     for first in &rules {
