@@ -1,5 +1,6 @@
 -- The code's checks together are `valid`: an image is valid exactly when its header is in range, its contents are within
--- it and in range, they announce as many symbols as follow them, and these are all below S.
+-- it and in range, they announce as many symbols as follow them, and these are all below S. The pass over the contents
+-- also finds the mark, and so the number that the code's check answers, `validity`.
 -- Assumes nothing.
 use Prim.Native.Nat.{ℕ, zero, suc, _+_, _*_, _-_, _≤_, _<_}
 use mathlib.Core.Path.{_≡_, refl, sym, ap, _∙_}
@@ -592,32 +593,16 @@ module _ (b : List ℕ) where
   unfolding validity
   validity-none e = rw (← e)
 
-  pub validity-root : valid b ≡ true → validity b ≡ suc (root (read b .rules))
+  validity-some : valid b ≡ true → validity b ≡ suc (root (read b .rules))
   unfolding validity
-  validity-root e = rw e
-
-  pub validity-some : 0 < validity b → valid b ≡ true
-  unfolding validity
-  validity-some h = go (valid b) h
-    where
-      go : (t : Bool) → 0 < cond t (suc (root (read b .rules))) 0 → t ≡ true
-      go true h = refl
-      go false h = absurd (omega arith)
-
-  pub validity-zero : validity b ≤ 0 → valid b ≡ false
-  unfolding validity
-  validity-zero h = go (valid b) h
-    where
-      go : (t : Bool) → cond t (suc (root (read b .rules))) 0 ≤ 0 → t ≡ false
-      go true h = absurd (omega arith)
-      go false h = refl
+  validity-some e = rw e
 
   -- with n rules, as many as the image says: what the pass over the contents finds, where the bytes are an image
   pub found-validity : (n : ℕ) → n ≡ getD b 1 0 → valid b ≡ true → foundIn b n ≡ validity b
   unfolding read root
   found-validity n e v =
       let marks = marks-read (getD b 1 0) (drop 4 b) (drop (4 + 4 * getD b 1 0) b) in
-      rw (e, valid-announces b v, validity-root v, marks) (go (marksIn (getD b 1 0) (drop 4 b)))
+      rw (e, valid-announces b v, validity-some v, marks) (go (marksIn (getD b 1 0) (drop 4 b)))
     where
       go : (t : Bool) → _≡_ {A = ℕ} (cond t 2 1) (suc (cond t 1 0))
       go true = refl
@@ -645,3 +630,24 @@ module _ (b : List ℕ) (n : ℕ) where
       go true true h = absurd (omega arith)
       go true false h = absurd (omega arith)
       go false m h = refl
+
+-- What a number r says that is an image's validity, and the root's number k below it.
+module _ (b : List ℕ) (r : ℕ) (e : r ≡ validity b) where
+  pub validity-refused : r ≤ 0 → valid b ≡ false
+  unfolding validity
+  validity-refused h = go (valid b) (omega arith)
+    where
+      go : (t : Bool) → cond t (suc (root (read b .rules))) 0 ≤ 0 → t ≡ false
+      go true h = absurd (omega arith)
+      go false h = refl
+
+  pub validity-valid : 0 < r → valid b ≡ true
+  unfolding validity
+  validity-valid h = go (valid b) (omega arith)
+    where
+      go : (t : Bool) → 0 < cond t (suc (root (read b .rules))) 0 → t ≡ true
+      go true h = refl
+      go false h = absurd (omega arith)
+
+  pub validity-root : 0 < r → (k : ℕ) → k ≡ r - 1 → k ≡ root (read b .rules)
+  validity-root h k below = omega (arith, validity-some b (validity-valid h))

@@ -1,6 +1,6 @@
 -- What the code checks of an image: the header, then the contents, which announce how many symbols follow them.
 -- The contracts of the code's parts cite these; that together with the symbols' range they are `valid` is proved
--- (`checked`, proofs/ImageCheck.antt).
+-- (`checked`, proofs/ImageCheck.antt). The pass over the contents also looks for the mark (`found-validity`, there).
 use Prim.Native.Nat.{ℕ, zero, suc, _+_, _*_, _-_, _≤_}
 use mathlib.Core.Bool.{Bool, true, false, cond, _&&_, _||_}
 use mathlib.Core.List.{List}
