@@ -6,10 +6,10 @@ ghost use mathlib.Core.List.{flatMap};
 ghost use lib.ListN.{length, drop};
 ghost use Rattle.rewriting.specs.Lists.{below};
 ghost use Rattle.rewriting.specs.Rules.{rule};
-ghost use Rattle.layout.specs.ImageCheck.{Decides, Header, bodySize, firstSize, announced};
+ghost use Rattle.layout.specs.ImageCheck.{Decides, Header, bodySize, firstSize, foundIn};
 ghost use Rattle.layout.specs.Image.{markByte, body, read, valid};
 ghost use Rattle.layout.specs.Places.{rightSideOf};
-ghost use Rattle.layout.specs.Words.{root};
+ghost use Rattle.layout.specs.Words.{validity};
 use layout::RightSide;
 
 pub mod wide;
@@ -84,24 +84,32 @@ fn size_at(image: &[u8], at: usize, verdicts: u8) -> usize
     ))
 }
 
-// Whether the contents of so many rules are in range and announce as many symbols as follow them.
-fn contents_in_range(image: &[u8], rules: usize) -> bool
+// Whether the contents of so many rules are in range and announce as many symbols as follow them: 0 where not, else 1, and 2
+// where a rule has the mark.
+fn contents_in_range(image: &[u8], rules: usize) -> u8
     requires { ⌜ 4 + 4 * rules ≤ length (now image) ⌝ }
-    ensures { λ r. ⌜ r ≡ announced (now (image .entry)) rules ⌝ }
+    ensures { λ r. ⌜ r ≡ foundIn (now (image .entry)) rules ⌝ }
 {
     let verdicts = image[2];
     let mut left = image.len() - (4 + 4 * rules);
+    let mut found: u8 = 1;
     for i in 0..rules {
         let size = size_at(image, 4 + 4 * i, verdicts);
         if size < 1 {
-            return false;
+            return 0;
         }
         if left < size {
-            return false;
+            return 0;
         }
         left -= size;
+        if image[7 + 4 * i] == 1 {
+            found = 2;
+        }
     }
-    left == 0
+    if left == 0 {
+        return found;
+    }
+    0
 }
 
 // Whether each symbol is below s. The largest is kept and tested once: a loop with no other way out becomes vector code. It
@@ -120,27 +128,31 @@ pub fn all_below(symbols: &[u8], s: u8) -> bool
     most < s
 }
 
-// Whether the bytes are a rule image: refusal 7 is that they are not.
-pub fn is_valid(image: &[u8]) -> bool
-    ensures { λ r. ⌜ r ≡ valid (now (image .entry)) ⌝ }
+// Whether the bytes are a rule image, and whether a rule has the mark: 0 where they are not (refusal 7), else 1 more than the
+// number of the empty string's state.
+pub fn validity(image: &[u8]) -> u8
+    ensures { λ r. ⌜ r ≡ validity (now (image .entry)) ⌝ }
 {
     if image.len() < 4 {
-        return false;
+        return 0;
     }
     if header_in_range(image[0], image[1], image[2], image[3]) {
         let rules = wide::byte(image[1]);
         let bodies = 4 + 4 * rules;
         if image.len() < bodies {
-            return false;
+            return 0;
         }
-        if contents_in_range(image, rules) {
-            return all_below(&image[bodies..], image[0]);
+        let found = contents_in_range(image, rules);
+        if 0 < found {
+            if all_below(&image[bodies..], image[0]) {
+                return found;
+            }
         }
     }
-    false
+    0
 }
 
-// What follows looks into an image that is_valid has passed, and asks its callers for that: the check costs more than a
+// What follows looks into an image that validity has passed, and asks its callers for that: the check costs more than a
 // look, and is made once.
 
 // S, the number of symbols.
@@ -183,19 +195,6 @@ pub fn mark(image: &[u8], i: usize) -> usize
     ensures { λ r. ⌜ r ≡ markByte (rule (read (now (image .entry)) .rules) i .marked) ⌝ }
 {
     wide::byte(image[7 + 4 * i])
-}
-
-// The number of the empty string's state: 1 where a rule has the mark, else 0.
-pub fn root(image: &[u8]) -> usize
-    requires { ⌜ valid (now image) ≡ true ⌝ }
-    ensures { λ r. ⌜ r ≡ root (read (now (image .entry)) .rules) ⌝ }
-{
-    for i in 0..rules(image) {
-        if 0 < mark(image, i) {
-            return 1;
-        }
-    }
-    0
 }
 
 // The right side of rule i.

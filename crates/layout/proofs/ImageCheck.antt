@@ -1,9 +1,10 @@
 -- The code's checks together are `valid`: an image is valid exactly when its header is in range, its contents are within
--- it and in range, they announce as many symbols as follow them, and these are all below S.
+-- it and in range, they announce as many symbols as follow them, and these are all below S. The pass over the contents
+-- also finds the mark, and so the number that the code's check answers, `validity`.
 -- Assumes nothing.
 use Prim.Native.Nat.{ℕ, zero, suc, _+_, _*_, _-_, _≤_, _<_}
 use mathlib.Core.Path.{_≡_, refl, sym, ap, _∙_}
-use mathlib.Core.Bool.{Bool, true, false, cond, _&&_}
+use mathlib.Core.Bool.{Bool, true, false, cond, _&&_, _||_}
 use mathlib.Core.Logic.{_⊎_, inl, inr, ⊎-elim}
 use mathlib.Core.List.{List, [], _∷_, _++_, append-nil, append-assoc, flatMap}
 use native.Mathlib.Numerals.{add-one}
@@ -39,7 +40,9 @@ use Rattle.layout.specs.Image.{
   read,
   valid,
 }
-use Rattle.layout.specs.ImageCheck.{Decides, Header, bodySize, firstSize, announces, announced}
+use Rattle.layout.specs.ImageCheck.{Decides, Header, bodySize, firstSize, announces, announced, marksIn, markFound, foundIn}
+use Rattle.layout.specs.States.{hasMark}
+use Rattle.layout.specs.Words.{root, validity}
 use Rattle.layout.proofs.Image.{
   mark-small,
   mark-back,
@@ -145,6 +148,54 @@ module _ (v n : ℕ) (b : List ℕ) (m i : ℕ) (more : i < n) where
       let behind : 4 + 4 * (i + 1) ≡ 4 + 4 * i + 4 = omega arith in
       let next : drop (4 + 4 * (i + 1)) b ≡ drop 4 (drop (4 + 4 * i) b) = rw behind (sym (drop-drop 4 (4 + 4 * i) b)) in
       rw (turns, next) (sym (announces-on v (n - (i + 1)) (drop (4 + 4 * i) b) m some fits))
+
+-- One rule of the contents more, from the end: it has the mark, or it does not.
+marks-next :
+    (i : ℕ) (c : List ℕ) → marksIn (suc i) c ≡ (marksIn i c || eqb (getD c (3 + 4 * i) 0) 1)
+unfolding marksIn
+marks-next zero c = go (eqb (getD c 3 0) 1)
+  where
+    go : (t : Bool) → (t || false) ≡ t
+    go true = refl
+    go false = refl
+marks-next (suc i) c =
+    let behind : 3 + 4 * suc i ≡ 4 + (3 + 4 * i) = omega arith in
+    let there : getD (drop 4 c) (3 + 4 * i) 0 ≡ getD c (3 + 4 * suc i) 0 = rw (getD-drop 4 c (3 + 4 * i), behind) in
+    go (eqb (getD c 3 0) 1) (rw there at (marks-next i (drop 4 c)))
+  where
+    go :
+        (t : Bool)
+        → marksIn (suc i) (drop 4 c) ≡ (marksIn i (drop 4 c) || eqb (getD c (3 + 4 * suc i) 0) 1)
+        → (t || marksIn (suc i) (drop 4 c)) ≡ ((t || marksIn i (drop 4 c)) || eqb (getD c (3 + 4 * suc i) 0) 1)
+    go true e = refl
+    go false e = e
+
+-- What the loop has found before any rule, and after rule i of the bytes b.
+pub found-first : (c : List ℕ) → 1 ≡ markFound 0 c
+unfolding marksIn
+found-first c = refl
+
+module _ (b : List ℕ) (i : ℕ) where
+  marks-turn : marksIn (i + 1) (drop 4 b) ≡ (marksIn i (drop 4 b) || eqb (getD b (7 + 4 * i) 0) 1)
+  marks-turn =
+      let behind : 4 + (3 + 4 * i) ≡ 7 + 4 * i = omega arith in
+      let there : getD (drop 4 b) (3 + 4 * i) 0 ≡ getD b (7 + 4 * i) 0 = rw (getD-drop 4 b (3 + 4 * i), behind) in
+      rw add-one (rw there at (marks-next i (drop 4 b)))
+
+  pub found-mark : getD b (7 + 4 * i) 0 ≡ 1 → 2 ≡ markFound (i + 1) (drop 4 b)
+  found-mark e = rw (marks-turn, eq-eqb (getD b (7 + 4 * i) 0) 1 e) (go (marksIn i (drop 4 b)))
+    where
+      go : (t : Bool) → _≡_ {A = ℕ} 2 (cond (t || true) 2 1)
+      go true = refl
+      go false = refl
+
+  pub found-same :
+      (getD b (7 + 4 * i) 0 ≡ 1 → ⊥) → markFound i (drop 4 b) ≡ markFound (i + 1) (drop 4 b)
+  found-same e = rw (marks-turn, ne-eqb (getD b (7 + 4 * i) 0) 1 e) (go (marksIn i (drop 4 b)))
+    where
+      go : (t : Bool) → _≡_ {A = ℕ} (cond t 2 1) (cond (t || false) 2 1)
+      go true = refl
+      go false = refl
 
 -- the contents of a rule that begin at a place
 pub size-at :
@@ -528,3 +579,75 @@ checked b n e h room told =
     rw e
     (agree (below (getD b 0 0) (drop (4 + 4 * getD b 1 0) b)) (valid b)
     (checked-valid b h (omega arith) (rw e at told)) (valid-symbols b))
+
+-- The rules that are read have a mark where the contents have one.
+marks-read : (n : ℕ) (c b : List ℕ) → hasMark (readRules n c b) ≡ marksIn n c
+unfolding hasMark readRules readRule marksIn
+marks-read zero c b = refl
+marks-read (suc n) c b =
+    ap (λ (t : Bool). eqb (getD c 3 0) 1 || t) (marks-read n (drop 4 c) (drop (length (body (readRule c b))) b))
+
+-- The number that the code's check answers.
+module _ (b : List ℕ) where
+  pub validity-none : false ≡ valid b → 0 ≡ validity b
+  unfolding validity
+  validity-none e = rw (← e)
+
+  validity-some : valid b ≡ true → validity b ≡ suc (root (read b .rules))
+  unfolding validity
+  validity-some e = rw e
+
+  -- with n rules, as many as the image says: what the pass over the contents finds, where the bytes are an image
+  pub found-validity : (n : ℕ) → n ≡ getD b 1 0 → valid b ≡ true → foundIn b n ≡ validity b
+  unfolding read root
+  found-validity n e v =
+      let marks = marks-read (getD b 1 0) (drop 4 b) (drop (4 + 4 * getD b 1 0) b) in
+      rw (e, valid-announces b v, validity-some v, marks) (go (marksIn (getD b 1 0) (drop 4 b)))
+    where
+      go : (t : Bool) → _≡_ {A = ℕ} (cond t 2 1) (suc (cond t 1 0))
+      go true = refl
+      go false = refl
+
+-- What the pass over the contents finds: 0 where they do not announce what follows them, and only there.
+module _ (b : List ℕ) (n : ℕ) where
+  pub found-not : announced b n ≡ false → 0 ≡ foundIn b n
+  found-not e = rw e
+
+  pub found-all : announced b n ≡ true → markFound n (drop 4 b) ≡ foundIn b n
+  found-all e = rw e
+
+  pub found-some : 0 < foundIn b n → announced b n ≡ true
+  found-some h = go (announced b n) h
+    where
+      go : (t : Bool) → 0 < cond t (markFound n (drop 4 b)) 0 → t ≡ true
+      go true h = refl
+      go false h = absurd (omega arith)
+
+  pub found-none : foundIn b n ≤ 0 → announced b n ≡ false
+  found-none h = go (announced b n) (marksIn n (drop 4 b)) h
+    where
+      go : (t m : Bool) → cond t (cond m 2 1) 0 ≤ 0 → t ≡ false
+      go true true h = absurd (omega arith)
+      go true false h = absurd (omega arith)
+      go false m h = refl
+
+-- What a number r says that is an image's validity, and the root's number k below it.
+module _ (b : List ℕ) (r : ℕ) (e : r ≡ validity b) where
+  pub validity-refused : r ≤ 0 → valid b ≡ false
+  unfolding validity
+  validity-refused h = go (valid b) (omega arith)
+    where
+      go : (t : Bool) → cond t (suc (root (read b .rules))) 0 ≤ 0 → t ≡ false
+      go true h = absurd (omega arith)
+      go false h = refl
+
+  pub validity-valid : 0 < r → valid b ≡ true
+  unfolding validity
+  validity-valid h = go (valid b) (omega arith)
+    where
+      go : (t : Bool) → 0 < cond t (suc (root (read b .rules))) 0 → t ≡ true
+      go true h = refl
+      go false h = absurd (omega arith)
+
+  pub validity-root : 0 < r → (k : ℕ) → k ≡ r - 1 → k ≡ root (read b .rules)
+  validity-root h k below = omega (arith, validity-some b (validity-valid h))

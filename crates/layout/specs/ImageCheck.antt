@@ -1,8 +1,8 @@
 -- What the code checks of an image: the header, then the contents, which announce how many symbols follow them.
 -- The contracts of the code's parts cite these; that together with the symbols' range they are `valid` is proved
--- (`checked`, proofs/ImageCheck.antt).
+-- (`checked`, proofs/ImageCheck.antt). The pass over the contents also looks for the mark (`found-validity`, there).
 use Prim.Native.Nat.{ℕ, zero, suc, _+_, _*_, _-_, _≤_}
-use mathlib.Core.Bool.{Bool, true, false, cond, _&&_}
+use mathlib.Core.Bool.{Bool, true, false, cond, _&&_, _||_}
 use mathlib.Core.List.{List}
 use lib.Dec.{eqb, leb, ltb}
 use lib.ListN.{length, getD, drop}
@@ -42,3 +42,16 @@ announces v (suc n) c m = leb 1 (firstSize v c) && leb (firstSize v c) m && anno
 -- the contents of the n rules of the image b are in range, and announce as many symbols as follow them
 abbrev pub announced : List ℕ → ℕ → Bool
 announced b n = announces (getD b 2 0) n (drop 4 b) (length b - (4 + 4 * n))
+
+-- one of the first n rules of the contents c has the mark, 1 as its fourth byte
+unfoldable pub marksIn : ℕ → List ℕ → Bool
+marksIn zero c = false
+marksIn (suc n) c = eqb (getD c 3 0) 1 || marksIn n (drop 4 c)
+
+-- that as a number: 1 without a mark, and 2 with one
+abbrev pub markFound : ℕ → List ℕ → ℕ
+markFound n c = cond (marksIn n c) 2 1
+
+-- what the pass over the contents of the n rules of the image b finds: 0 where `announced` is not so, else 1, and 2 with a mark
+abbrev pub foundIn : List ℕ → ℕ → ℕ
+foundIn b n = cond (announced b n) (markFound n (drop 4 b)) 0

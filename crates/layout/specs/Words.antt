@@ -1,5 +1,5 @@
 -- States by their numbers, and the words of rows and match words, as the code meets them.
-use Prim.Native.Nat.{ℕ, _+_, _*_}
+use Prim.Native.Nat.{ℕ, suc, _+_, _*_}
 use mathlib.Core.Bool.{cond}
 use mathlib.Core.Option.{Option}
 use mathlib.Core.List.{List, []}
@@ -7,11 +7,16 @@ use lib.Dec.{eqb}
 use lib.ListN.{getD, drop}
 use Rattle.rewriting.specs.Rules.{Rule}
 use Rattle.rewriting.specs.Occurrences.{lowest}
+use Rattle.layout.specs.Image.{read, valid}
 use Rattle.layout.specs.States.{state, starts, symbolsIn, hasMark, states}
 
 -- the number of the empty string, the root of the trie: "state 1 the empty string", or "State 0"
 unfoldable pub root : List Rule → ℕ
 root rules = cond (hasMark rules) 1 0
+
+-- 0 where the bytes b are no image, else 1 more than the root's number
+unfoldable pub validity : List ℕ → ℕ
+validity b = cond (valid b) (suc (root (read b .rules))) 0
 
 -- the string of state c
 abbrev pub text : List Rule → ℕ → List ℕ

@@ -193,18 +193,16 @@ fn plant(trie: &mut [u16])
     trie[FAILURE] = 1;
 }
 
-// The nodes before any rule, in words that were 0. Returns the root. Without a mark nothing is written.
-pub fn begin(image: &[u8], trie: &mut [u16]) -> usize
+// The nodes before any rule, in words that were 0. Without a mark nothing is written. The image is named for the contract alone.
+pub fn begin(image: &[u8], root: usize, trie: &mut [u16])
     requires image { ⌜ valid (now image) ≡ true ⌝ }
+    requires root { ⌜ root ≡ Words.root (read (now image) .rules) ⌝ }
     requires trie { ⌜ (now trie ≡ replicate (length (now trie)) 0) × (Roomy (read (now image)) (length (now trie))) ⌝ }
-    ensures root { λ r. ⌜ r ≡ Words.root (read (now (image .entry)) .rules) ⌝ }
-    ensures trie { λ r. ⌜ (Grown (read (now (image .entry))) 0 (now (trie .exit))) × (length (now (trie .exit)) ≡ length (now (trie .entry))) ⌝ }
+    ensures { λ _. ⌜ (Grown (read (now (image .entry))) 0 (now (trie .exit))) × (length (now (trie .exit)) ≡ length (now (trie .entry))) ⌝ }
 {
-    let root = image::root(image);
     if 0 < root {
         plant(trie);
     }
-    root
 }
 
 // The trie of all left sides, from the first nodes on, and the number of its nodes.

@@ -12,7 +12,7 @@ build-requires c κs =
     let begin = c .before .before .before in
     let start = begin .before .before .before .before .before in (
       start .pre .0,
-      (begin .begin .ensures .0, (begin .begin .ensures .1 .0, rw (begin .begin .ensures .1 .1) (start .pre .1 .1))),
+      (start .pre .1 .0, (begin .begin .ensures .0, rw (begin .begin .ensures .1) (start .pre .1 .1 .1))),
     )
 
 holds-requires : tie.Need-holds-requires

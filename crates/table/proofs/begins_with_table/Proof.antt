@@ -15,7 +15,7 @@ slice-aggregate-begins-by c = search needs
 begins-by-requires : tie.Need-begins-by-requires
 begins-by-requires c κs =
     let start = c .before .before .before .before .before in
-    (start .pre, (refl, roomy-small _ (rw (c .before .before .bodies-length .ensures) at (c .before .if1 .taken))))
+    (start .pre .0, (start .pre .1, (refl, roomy-small _ (rw (c .before .before .bodies-length .ensures) at (c .before .if1 .taken)))))
 
 returns : tie.Need-returns
 returns c = search needs
@@ -26,7 +26,7 @@ slice-aggregate-begins-by-2 c = search needs
 begins-by-requires-2 : tie.Need-begins-by-requires-2
 begins-by-requires-2 c κs =
     let start = c .before .before .before .before .before in
-    (start .pre, (refl, roomy-large _ (start .pre)))
+    (start .pre .0, (start .pre .1, (refl, roomy-large _ (start .pre .0))))
 
 returns-2 : tie.Need-returns-2
 returns-2 c = search needs

@@ -17,7 +17,7 @@ build-requires c κs =
     let begin = c .before .before .before in
     let start = begin .before .before .before .before .before in (
       start .pre .0,
-      (begin .begin .ensures .0, (begin .begin .ensures .1 .0, rw (begin .begin .ensures .1 .1) (start .pre .1 .1))),
+      (start .pre .1 .0, (begin .begin .ensures .0, rw (begin .begin .ensures .1) (start .pre .1 .1 .1))),
     )
 
 add-words : tie.Need-add-words
@@ -67,7 +67,7 @@ write-requires c κs =
     let begin = build .before .before .before .before in
     let start = begin .before .before .before .before .before in
     let words = words-built _ (start .pre .0) _ _ (build .build .ensures) _ (symbols .symbols .ensures) in
-    (start .pre .0, (begin .begin .ensures .0, (build .build .ensures, length-take-le _ _ (if1 .if1 .left) ∙ words .0)))
+    (start .pre .0, (start .pre .1 .0, (build .build .ensures, length-take-le _ _ (if1 .if1 .left) ∙ words .0)))
 
 same-length-2 : tie.Need-same-length-2
 same-length-2 c = search needs

@@ -14,13 +14,8 @@ use Rattle.trie.proofs.Building.{grown-first, planted-none}
 use Rattle.trie.proofs.begin.Statement.{statement}
 use Rattle.trie.proofs.begin.Tie as tie
 
-root-requires : tie.Need-root-requires
-root-requires c κs = search needs
-
 plant-requires : tie.Need-plant-requires
-plant-requires c κs =
-    let start = c .before .before .before .before .before in
-    omega (arith, start .pre .1 .1)
+plant-requires c κs = search needs
 
 same-length : tie.Need-same-length
 same-length c = search needs
@@ -29,41 +24,26 @@ returns : tie.Need-returns
 returns c =
     let plant = c .before .before in
     let if1 = plant .before .before in
-    let root = if1 .before in
-    let start = root .before .before .before in
+    let start = if1 .before .before .before in
     let set = read (start .args .image .now) in
     let t = start .args .trie .now in
-    let one : Words.root (set .rules) ≡ 1 = omega (arith, root .root .ensures, if1 .if1 .taken, root-small (set .rules)) in (
-      root .root .ensures,
-      (
-        subst (λ (l : List ℕ). Grown set 0 l) (sym (plant .plant .ensures ∙ ap (λ (k : ℕ). planted k t) (sym one)))
-            (grown-first set (valid-in-range (start .args .image .now) (start .pre .0)) t (start .pre .1 .0) (start .pre .1 .1)),
-        plant .plant .kept .0,
-      ),
+    let one : Words.root (set .rules) ≡ 1 = omega (arith, start .pre .1 .0, if1 .if1 .taken, root-small (set .rules)) in (
+      subst (λ (l : List ℕ). Grown set 0 l) (sym (plant .plant .ensures ∙ ap (λ (k : ℕ). planted k t) (sym one)))
+          (grown-first set (valid-in-range (start .args .image .now) (start .pre .0)) t (start .pre .1 .1 .0) (start .pre .1 .1 .1)),
+      plant .plant .kept .0,
     )
 
 returns-2 : tie.Need-returns-2
 returns-2 c =
-    let root = c .before in
-    let start = root .before .before .before in
+    let start = c .before .before .before in
     let set = read (start .args .image .now) in
     let t = start .args .trie .now in
     let in-range = valid-in-range (start .args .image .now) (start .pre .0) in
-    let none : Words.root (set .rules) ≡ 0 = omega (arith, root .root .ensures, c .if1 .left) in (
-      root .root .ensures,
-      (
-        subst (λ (l : List ℕ). Grown set 0 l) (planted-none set in-range t (start .pre .1 .0) (start .pre .1 .1) none)
-            (grown-first set in-range t (start .pre .1 .0) (start .pre .1 .1)),
-        refl,
-      ),
+    let none : Words.root (set .rules) ≡ 0 = omega (arith, start .pre .1 .0, c .if1 .left) in (
+      subst (λ (l : List ℕ). Grown set 0 l) (planted-none set in-range t (start .pre .1 .1 .0) (start .pre .1 .1 .1) none)
+          (grown-first set in-range t (start .pre .1 .1 .0) (start .pre .1 .1 .1)),
+      refl,
     )
 
 pub begin-spec : {M : Type 1} → statement M
-begin-spec =
-    tie.close
-    (tie.spec
-    root-requires
-    plant-requires
-    same-length
-    returns
-    returns-2)
+begin-spec = tie.close (tie.spec plant-requires same-length returns returns-2)

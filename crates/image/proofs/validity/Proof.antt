@@ -1,12 +1,13 @@
--- `image::is_valid` meets its contract: what fails a check is not valid, and what passes the others is valid exactly when its
--- symbols are below S.
+-- `image::validity` meets its contract: what fails a check is not valid, and what passes the others is valid exactly when its
+-- symbols are below S. Then what the pass over the contents found is the answer.
 -- Assumes nothing.
 use Prim.Native.Nat.{_+_, _*_}
-use mathlib.Core.Path.{sym, ap, _∙_}
+use mathlib.Core.Path.{_≡_, sym, ap, _∙_}
 use native.Mathlib.Omega.{arith}
 use borrow.Author.Needs.{needs}
 use lib.ListN.{getD}
 use Rattle.rewriting.specs.Lists.{below}
+use Rattle.layout.specs.Image.{valid}
 use Rattle.layout.proofs.ImageCheck.{
   HeaderOf,
   all-behind,
@@ -17,9 +18,13 @@ use Rattle.layout.proofs.ImageCheck.{
   refused,
   unannounced,
   checked,
+  validity-none,
+  found-validity,
+  found-some,
+  found-none,
 }
-use Rattle.image.proofs.is_valid.Statement.{statement}
-use Rattle.image.proofs.is_valid.Tie as tie
+use Rattle.image.proofs.validity.Statement.{statement}
+use Rattle.image.proofs.validity.Tie as tie
 
 -- the header is in range
 header :
@@ -29,10 +34,29 @@ header c =
     let h = c .before .before .before .header-in-range in
     decided (h .result) (c .before .before .if2 .taken) (h .ensures)
 
+-- where a place behind the pass over the contents began
+abbrev start-of : tie.After-contents-in-range → tie.Start
+start-of c = c .before .before .before .before .before .before .before .before .before .before .before .before
+
+-- the contents are in range: the symbols' range decides
+symbols-told :
+    (c : tie.After-all-below)
+    → c .all-below .result ≡ valid (start-of (c .before .before .before .before) .args .image .now)
+symbols-told c =
+    let if4 = c .before .before .before in
+    let contents-in-range = if4 .before in
+    let w = contents-in-range .before .before in
+    let b = start-of contents-in-range .args .image .now in
+    let n = w .byte .result in
+    let told = found-some b n (omega (arith, contents-in-range .contents-in-range .ensures, if4 .if4 .taken)) in
+    c .all-below .ensures
+    ∙ ap (below (getD b 0 0)) (all-behind (4 + 4 * n) b)
+    ∙ checked b n (w .byte .ensures) (header w) (omega arith) told
+
 returns : tie.Need-returns
 returns c =
     let b = c .before .before .args .image .now in
-    refused b (λ e. omega (arith, valid-room b e))
+    validity-none b (refused b (λ e. omega (arith, valid-room b e)))
 
 shared-slice-read-header-in-range : tie.Need-shared-slice-read-header-in-range
 shared-slice-read-header-in-range c = search needs
@@ -65,7 +89,7 @@ returns-2 : tie.Need-returns-2
 returns-2 c =
     let start = c .before .before .before .before .before .before .before .before .before .before .before in
     let b = start .args .image .now in
-    refused b (λ e. omega (arith, valid-room b e))
+    validity-none b (refused b (λ e. omega (arith, valid-room b e)))
 
 contents-in-range-requires : tie.Need-contents-in-range-requires
 contents-in-range-requires c κs = search needs
@@ -89,32 +113,33 @@ all-below-requires c κs =
 
 returns-3 : tie.Need-returns-3
 returns-3 c =
-    let contents-in-range = c .before .before .before .before in
+    let contents-in-range = c .before .before .before .before .before in
+    let b = start-of contents-in-range .args .image .now in
     let w = contents-in-range .before .before in
-    let start = w .before .before .before .before .before .before .before .before .before .before in
-    let b = start .args .image .now in
-    let n = w .byte .result in
-    let told = sym (contents-in-range .contents-in-range .ensures) ∙ c .before .before .before .if4 .taken in
-    c .all-below .ensures
-    ∙ ap (below (getD b 0 0)) (all-behind (4 + 4 * n) b)
-    ∙ checked b n (w .byte .ensures) (header w) (omega arith) told
+    contents-in-range .contents-in-range .ensures
+    ∙ found-validity b (w .byte .result) (w .byte .ensures) (sym (symbols-told (c .before)) ∙ c .if5 .taken)
 
 returns-4 : tie.Need-returns-4
 returns-4 c =
-    let w = c .before .before .before in
-    let start = w .before .before .before .before .before .before .before .before .before .before in
-    let b = start .args .image .now in
-    unannounced b (w .byte .result) (w .byte .ensures) (sym (c .before .contents-in-range .ensures) ∙ c .if4 .left)
+    let b = start-of (c .before .before .before .before .before) .args .image .now in
+    validity-none b (sym (c .if5 .left) ∙ symbols-told (c .before))
 
 returns-5 : tie.Need-returns-5
 returns-5 c =
+    let w = c .before .before .before in
+    let b = start-of (c .before) .args .image .now in
+    let none = found-none b (w .byte .result) (omega (arith, c .before .contents-in-range .ensures, c .if4 .left)) in
+    validity-none b (unannounced b (w .byte .result) (w .byte .ensures) none)
+
+returns-6 : tie.Need-returns-6
+returns-6 c =
     let start = c .before .before .before .before .before .before .before .before in
     let h = c .before .header-in-range in
     let b = start .args .image .now in
-    refused b (λ e. denied (h .result) (c .if2 .left) (h .ensures) (valid-header b e))
+    validity-none b (refused b (λ e. denied (h .result) (c .if2 .left) (h .ensures) (valid-header b e)))
 
-pub is-valid-spec : {M : Type 1} → statement M
-is-valid-spec =
+pub validity-spec : {M : Type 1} → statement M
+validity-spec =
     tie.close
     (tie.spec
     returns
@@ -136,4 +161,5 @@ is-valid-spec =
     all-below-requires
     returns-3
     returns-4
-    returns-5)
+    returns-5
+    returns-6)
