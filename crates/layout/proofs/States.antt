@@ -12,7 +12,7 @@ use lib.ListN.{length, getD, drop, length-append, length-map, List·getD-append}
 use lib.Seq.{getD-at}
 use borrow.Author.Tests.{ltb-true, ltb-false, eqb-true, eqb-false, eq-eqb, ne-eqb}
 use Rattle.rewriting.specs.Lists.{all, same, prefix}
-use Rattle.rewriting.specs.Rules.{Rule, RuleSet, ruleInRange, inRange}
+use Rattle.rewriting.specs.Rules.{Rule, RuleSet, rule, ruleInRange, inRange}
 use Rattle.rewriting.proofs.Lists.{and-left, and-right, or-cases, or-left, or-right, same-eq, same-refl, prefix-rest}
 use Rattle.rewriting.proofs.Ranges.{rule-ranges, Ranges, ranges}
 use Rattle.layout.specs.States.{
@@ -31,7 +31,7 @@ use Rattle.layout.specs.States.{
   states,
   number,
 }
-use Rattle.layout.specs.Words.{root, text}
+use Rattle.layout.specs.Words.{root, text, NoLonger}
 use Rattle.layout.proofs.Matching.{Plain, state-is-prefix, next-child}
 use Rattle.layout.proofs.Marks.{mark-prefix, prefix-plain, no-mark-prefix}
 
@@ -452,7 +452,7 @@ few-states set e =
     let few = few-numbered (set .rules) (firstStates (set .rules)) (first-known (set .rules)) in
     omega (arith, first-few (set .rules), few-left set (set .rules) (h .all-rules), h .few-rules)
 
--- a left side has at most 8 symbols, and the mark where it has one
+-- with the mark where it has one, a left side is one symbol longer
 short-pattern : (r : Rule) (k : ℕ) → (r .marked ≡ true → 1 ≤ k) → length (pattern r) ≤ length (r .left) + k
 unfolding pattern
 short-pattern r k room = go (r .marked) refl
@@ -461,37 +461,37 @@ short-pattern r k room = go (r .marked) refl
     go true m = omega (arith, room m)
     go false m = omega arith
 
--- and so has each prefix of one, and each state
-prefix-short : (set : RuleSet) (k : ℕ) (rules : List Rule) → all (ruleInRange set) rules ≡ true → (hasMark rules ≡ true → 1 ≤ k)
-    → (v : List ℕ) → isPrefix rules v ≡ true → length v ≤ 8 + k
-unfolding isPrefix hasMark
-prefix-short set k [] e room v p = let z : _≡_ {A = ℕ} 0 1 = cc in absurd (omega arith)
-prefix-short set k (r ∷ rules) e room v p =
+-- no prefix is longer than the longest left side and its mark, and so no state is
+prefix-short : (n k : ℕ) (rules : List Rule) → NoLonger n rules → (hasMark rules ≡ true → 1 ≤ k)
+    → (v : List ℕ) → isPrefix rules v ≡ true → length v ≤ n + k
+unfolding isPrefix hasMark rule
+prefix-short n k [] e room v p = let z : _≡_ {A = ℕ} 0 1 = cc in absurd (omega arith)
+prefix-short n k (r ∷ rules) e room v p =
     go (or-cases (prefix v (pattern r)) (isPrefix rules v) p)
-    (prefix-short set k rules (and-right (ruleInRange set r) (all (ruleInRange set) rules) e) (λ m. room (or-right (r .marked) (hasMark rules) m)) v)
+    (prefix-short n k rules (λ i h. e (suc i) (omega arith)) (λ m. room (or-right (r .marked) (hasMark rules) m)) v)
   where
-    go : (prefix v (pattern r) ≡ true) ⊎ (isPrefix rules v ≡ true) → (isPrefix rules v ≡ true → length v ≤ 8 + k) → length v ≤ 8 + k
+    own : length (r .left) ≤ n
+    own = e 0 (omega arith)
+
+    go : (prefix v (pattern r) ≡ true) ⊎ (isPrefix rules v ≡ true) → (isPrefix rules v ≡ true → length v ≤ n + k) → length v ≤ n + k
     go (inl h) ih =
-        let own = rule-ranges set r (and-left (ruleInRange set r) (all (ruleInRange set) rules) e) in
         let size : length (pattern r) ≡ length v + length (drop (length v) (pattern r)) =
         ap length (prefix-rest v (pattern r) h) ∙ length-append v (drop (length v) (pattern r))
         in
-        omega (arith, own .short-left, short-pattern r k (λ m. room (or-left (r .marked) (hasMark rules) m)))
+        omega (arith, own, short-pattern r k (λ m. room (or-left (r .marked) (hasMark rules) m)))
     go (inr h) ih = ih h
 
 pub root-marked : (rules : List Rule) → hasMark rules ≡ true → 1 ≤ root rules
 unfolding root
 root-marked rules e = rw e (omega arith)
 
-pub short-state : (set : RuleSet) → inRange set ≡ true → (c : ℕ) → c < length (states (set .rules))
-    → length (text (set .rules) c) ≤ 8 + root (set .rules)
-short-state set e c h = go (listed-prefix (set .rules) c h)
+pub short-state : (n : ℕ) (rules : List Rule) → NoLonger n rules → (c : ℕ) → c < length (states rules)
+    → length (text rules c) ≤ n + root rules
+short-state n rules e c h = go (listed-prefix rules c h)
   where
-    go : (text (set .rules) c ≡ []) ⊎ (isPrefix (set .rules) (text (set .rules) c) ≡ true)
-        → length (text (set .rules) c) ≤ 8 + root (set .rules)
+    go : (text rules c ≡ []) ⊎ (isPrefix rules (text rules c) ≡ true) → length (text rules c) ≤ n + root rules
     go (inl p) = let size = ap length p in omega arith
-    go (inr p) =
-        prefix-short set (root (set .rules)) (set .rules) (ranges set e .all-rules) (root-marked (set .rules)) (text (set .rules) c) p
+    go (inr p) = prefix-short n (root rules) rules e (root-marked rules) (text rules c) p
 
 -- behind its first place a state has symbols alone
 pub state-plain : (set : RuleSet) → inRange set ≡ true → (c y : ℕ) (p : List ℕ) → c < length (states (set .rules))

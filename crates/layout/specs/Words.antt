@@ -1,11 +1,11 @@
 -- States by their numbers, and the words of rows and match words, as the code meets them.
-use Prim.Native.Nat.{ℕ, suc, _+_, _*_}
+use Prim.Native.Nat.{ℕ, suc, _+_, _*_, _≤_, _<_}
 use mathlib.Core.Bool.{cond}
 use mathlib.Core.Option.{Option}
 use mathlib.Core.List.{List, []}
 use lib.Dec.{eqb}
-use lib.ListN.{getD, drop}
-use Rattle.rewriting.specs.Rules.{Rule}
+use lib.ListN.{length, getD, drop}
+use Rattle.rewriting.specs.Rules.{Rule, rule}
 use Rattle.rewriting.specs.Occurrences.{lowest}
 use Rattle.layout.specs.Image.{read, valid}
 use Rattle.layout.specs.States.{state, starts, symbolsIn, hasMark, states}
@@ -21,6 +21,10 @@ validity b = cond (valid b) (suc (root (read b .rules))) 0
 -- the string of state c
 abbrev pub text : List Rule → ℕ → List ℕ
 text rules c = getD (states rules) c []
+
+-- no left side has more than n symbols
+abbrev pub NoLonger : ℕ → List Rule → Type 0
+NoLonger n rules = (i : ℕ) → i < length rules → length (rule rules i .left) ≤ n
 
 -- the lowest rule whose left side is v itself, the mark included
 unfoldable pub own : List Rule → List ℕ → Option ℕ

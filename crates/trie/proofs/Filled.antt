@@ -19,7 +19,7 @@ use Rattle.rewriting.proofs.Redex.{non-empty}
 use Rattle.rewriting.proofs.Ending.{lowest-empty}
 use Rattle.layout.specs.States.{mark, next, starts, symbolsIn, known, matching, states, number}
 use Rattle.layout.specs.Table.{matchWord}
-use Rattle.layout.specs.Words.{root, text, own, transition, ownOr}
+use Rattle.layout.specs.Words.{root, text, own, NoLonger, transition, ownOr}
 use Rattle.trie.specs.Nodes.{matched, TrieOf, Owned}
 use Rattle.trie.specs.Rows.{childNumber, Laid, Rooted, reached, FillingAt, Matched, Filled}
 use Rattle.layout.proofs.States.{next-listed, root-below, root-text, number-root, child-some, state-long, short-state}
@@ -101,10 +101,10 @@ filling-start set t rows rows′ e trie owned laid rooted =
         let other = eqb-false c (root rules) p in
         rw (reached-root rules c other h) (apart c a other k ∙ laid .table c a h k)
 
--- When the states of 8 symbols, and the mark where there is one, are done, all are.
-pub filling-end : (set : RuleSet) (t t′ rows : List ℕ) → inRange set ≡ true → length t′ ≡ length t → FillingAt set (9 + root (set .rules)) 0 t′ rows
-    → Filled set t t′ rows
-filling-end set t t′ rows e size filling =
+-- When the states as long as the longest left side, and the mark where there is one, are done, all are.
+pub filling-end : (set : RuleSet) (n : ℕ) (t t′ rows : List ℕ) → inRange set ≡ true → NoLonger n (set .rules) → length t′ ≡ length t
+    → FillingAt set (n + root (set .rules) + 1) 0 t′ rows → Filled set t t′ rows
+filling-end set n t t′ rows e long size filling =
     record {
       size = size;
       table =
@@ -113,8 +113,10 @@ filling-end set t t′ rows e size filling =
       matches = λ c h. rw (final c h) at (filling .matches c h);
     }
   where
-    final : (c : ℕ) → c < length (states (set .rules)) → reached (states (set .rules)) (9 + root (set .rules)) 0 c ≡ true
-    final c h = let short = short-state set e c h in reached-shorter (states (set .rules)) (9 + root (set .rules)) 0 c (omega arith)
+    final : (c : ℕ) → c < length (states (set .rules)) → reached (states (set .rules)) (n + root (set .rules) + 1) 0 c ≡ true
+    final c h =
+        let short = short-state n (set .rules) long c h in
+        reached-shorter (states (set .rules)) (n + root (set .rules) + 1) 0 c (omega arith)
 
 -- The match words are written one by one.
 pub written-more : (t words : List ℕ) (q : ℕ) → q < length words → ((k : ℕ) → k < q → getD words k 0 ≡ matched t k)

@@ -243,7 +243,7 @@ module _ (root : ℕ) (s : List (List ℕ)) (symbols : ℕ) (t : List ℕ) (h : 
   pub trie-added : Trie root (s ++ (getD s q [] ++ a ∷ []) ∷ []) symbols (added t (length s) q a)
   trie-added =
       record {
-        linked = rw more-length (linked-added root t (length s) q a hq room (h .linked) (h .clear (8 * length s + 3) (omega arith)));
+        linked = rw more-length (linked-added root t (length s) q a (h .some-node) hq room (h .linked) (h .clear (8 * length s + 3) (omega arith)));
         low-root = h .low-root;
         some-node = rw more-length (omega (arith, h .some-node));
         root-empty = more-old root (h .some-node) ∙ h .root-empty;

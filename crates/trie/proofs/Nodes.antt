@@ -17,48 +17,55 @@ use Rattle.trie.specs.Nodes.{
   children,
   matched,
   failure,
+  ChildOf,
   Linked,
   IsChild,
   ChildOr,
   added,
 }
 
--- While a child of q by symbol a is looked for, c is a child of q, or none where it is not behind the root, and no child by a is
--- younger.
+-- While a child of q by symbol a is looked for, c is a child of q, or 0 for none, and no child by a is younger.
 abbrev pub Searching : ℕ → List ℕ → ℕ → ℕ → ℕ → ℕ → Type 0
-Searching root t n q a c = (c < n) × (root < c → parent t c ≡ q) × ((b : ℕ) → IsChild root t n q a b → b ≤ c)
+Searching root t n q a c = (c < n) × (0 < c → ChildOf root t q c) × ((b : ℕ) → IsChild root t n q a b → b ≤ c)
 
 module _ (root : ℕ) (t : List ℕ) (n q a : ℕ) where
   pub search-first : Linked root t n → q < n → (c : ℕ) → c ≡ youngest t q → Searching root t n q a c
   search-first l h c e =
       rw e (l .young q h, l .young-of q h, λ b k. l .young-last q b h (k .behind) (k .node) (k .of))
 
-  pub search-next : Linked root t n → (c : ℕ) → Searching root t n q a c → root < c → (symbol t c ≡ a → ⊥) → (c′ : ℕ) → c′ ≡ older t c
+  pub search-next : Linked root t n → (c : ℕ) → Searching root t n q a c → 0 < c → (symbol t c ≡ a → ⊥) → (c′ : ℕ) → c′ ≡ older t c
       → Searching root t n q a c′
   search-next l c s h other c′ e =
-      rw e (less, λ k. l .old-of c h (s .0) k ∙ s .1 h, λ b k. l .old-next c b h (s .0) (k .behind) (before b k) (k .of ∙ sym (s .1 h)))
+      rw e (
+        less,
+        λ k. (l .old-of c (here .0) (s .0) k .0, l .old-of c (here .0) (s .0) k .1 ∙ here .1),
+        λ b k. l .old-next c b (here .0) (s .0) (k .behind) (before b k) (k .of ∙ sym (here .1)),
+      )
     where
+      here : ChildOf root t q c
+      here = s .1 h
+
       less : older t c < n
-      less = omega (arith, l .old c h (s .0), s .0)
+      less = omega (arith, l .old c (here .0) (s .0), s .0)
 
       before : (b : ℕ) → IsChild root t n q a b → b < c
       before b k =
-          let here : b ≡ c → ⊥ = λ p. other (ap (λ (x : ℕ). symbol t x) (sym p) ∙ k .by) in
-          omega (arith, s .2 b k, here)
+          let differs : b ≡ c → ⊥ = λ p. other (ap (λ (x : ℕ). symbol t x) (sym p) ∙ k .by) in
+          omega (arith, s .2 b k, differs)
 
-  pub search-found : (c : ℕ) → Searching root t n q a c → root < c → symbol t c ≡ a → ChildOr root t n q a c
-  search-found c s h e = inl (record { behind = h; node = s .0; of = s .1 h; by = e })
+  pub search-found : (c : ℕ) → Searching root t n q a c → 0 < c → symbol t c ≡ a → ChildOr root t n q a c
+  search-found c s h e = inl (record { behind = s .1 h .0; node = s .0; of = s .1 h .1; by = e })
 
-  pub search-none : (c : ℕ) → Searching root t n q a c → c ≤ root → ChildOr root t n q a n
+  pub search-none : (c : ℕ) → Searching root t n q a c → c ≤ 0 → ChildOr root t n q a 0
   search-none c s h = inr (refl, λ b k. omega (arith, s .2 b k, k .behind))
 
--- what a search found, by whether it is one of the n nodes
-pub child-there : (root : ℕ) (t : List ℕ) (n q a r : ℕ) → ChildOr root t n q a r → r < n → IsChild root t n q a r
+-- what a search found, by whether it is 0
+pub child-there : (root : ℕ) (t : List ℕ) (n q a r : ℕ) → ChildOr root t n q a r → 0 < r → IsChild root t n q a r
 child-there root t n q a r (inl k) h = k
 child-there root t n q a r (inr k) h = absurd (omega (arith, k .0))
 
-pub child-missing : (root : ℕ) (t : List ℕ) (n q a r : ℕ) → ChildOr root t n q a r → n ≤ r → (c : ℕ) → IsChild root t n q a c → ⊥
-child-missing root t n q a r (inl k) h = absurd (omega (arith, k .node))
+pub child-missing : (root : ℕ) (t : List ℕ) (n q a r : ℕ) → ChildOr root t n q a r → r ≤ 0 → (c : ℕ) → IsChild root t n q a c → ⊥
+child-missing root t n q a r (inl k) h = absurd (omega (arith, k .behind))
 child-missing root t n q a r (inr k) h = k .1
 
 -- Adding node n as a child of q by symbol a: the trie after each store but the last.
@@ -194,7 +201,7 @@ module _ (t : List ℕ) (n q a : ℕ) (lt : q < n) (room : 8 * n + 7 < length t)
       (λ e. other (omega arith))
 
 -- the links hold with the new node
-module _ (root : ℕ) (t : List ℕ) (n q a : ℕ) (lt : q < n) (room : 8 * n + 7 < length t) (l : Linked root t n)
+module _ (root : ℕ) (t : List ℕ) (n q a : ℕ) (low : root < n) (lt : q < n) (room : 8 * n + 7 < length t) (l : Linked root t n)
     (none : youngest t n ≡ 0) where
   up′ : (c : ℕ) → root < c → c < suc n → parent (added t n q a) c < c
   up′ c some h = go (last-or n c h)
@@ -214,15 +221,16 @@ module _ (root : ℕ) (t : List ℕ) (n q a : ℕ) (lt : q < n) (room : 8 * n + 
       go (inl k) (inr other) = rw (youngest-old t n q a lt room p h other) (omega (arith, l .young p k))
       go (inr e) (inr other) = rw (e, young-new) (omega arith)
 
-  young-of′ : (p : ℕ) → p < suc n → root < youngest (added t n q a) p → parent (added t n q a) (youngest (added t n q a) p) ≡ p
+  young-of′ : (p : ℕ) → p < suc n → 0 < youngest (added t n q a) p → ChildOf root (added t n q a) p (youngest (added t n q a) p)
   young-of′ p h = go (last-or n p h) (same-or q p)
     where
-      go : (p < n) ⊎ (p ≡ n) → (p ≡ q) ⊎ (p ≢ q) → root < youngest (added t n q a) p
-          → parent (added t n q a) (youngest (added t n q a) p) ≡ p
-      go k (inl e) some = rw (e, added-youngest t n q a lt room) (added-parent t n q a lt room)
+      go : (p < n) ⊎ (p ≡ n) → (p ≡ q) ⊎ (p ≢ q) → 0 < youngest (added t n q a) p
+          → ChildOf root (added t n q a) p (youngest (added t n q a) p)
+      go k (inl e) some = rw (e, added-youngest t n q a lt room) (low, added-parent t n q a lt room)
       go (inl k) (inr other) some =
           let y = youngest-old t n q a lt room p h other in
-          rw y (parent-old t n q a lt room (youngest t p) (l .young p k) ∙ l .young-of p k (rw y at some))
+          let child = l .young-of p k (rw y at some) in
+          rw y (child .0, parent-old t n q a lt room (youngest t p) (l .young p k) ∙ child .1)
       go (inr e) (inr other) some = absurd (omega (arith, rw (e, young-new) at some))
 
   young-last′ : (p c : ℕ) → p < suc n → root < c → c < suc n → parent (added t n q a) c ≡ p → c ≤ youngest (added t n q a) p
@@ -244,21 +252,22 @@ module _ (root : ℕ) (t : List ℕ) (n q a : ℕ) (lt : q < n) (room : 8 * n + 
       go (inl k) = rw (older-old t n q a lt room c k) (l .old c some k)
       go (inr e) = rw (e, added-older t n q a lt room) (l .young q lt)
 
-  old-of′ : (c : ℕ) → root < c → c < suc n → root < older (added t n q a) c
-      → parent (added t n q a) (older (added t n q a) c) ≡ parent (added t n q a) c
+  old-of′ : (c : ℕ) → root < c → c < suc n → 0 < older (added t n q a) c
+      → ChildOf root (added t n q a) (parent (added t n q a) c) (older (added t n q a) c)
   old-of′ c some h = go (last-or n c h)
     where
-      go : (c < n) ⊎ (c ≡ n) → root < older (added t n q a) c
-          → parent (added t n q a) (older (added t n q a) c) ≡ parent (added t n q a) c
+      go : (c < n) ⊎ (c ≡ n) → 0 < older (added t n q a) c
+          → ChildOf root (added t n q a) (parent (added t n q a) c) (older (added t n q a) c)
       go (inl k) more =
           let o = older-old t n q a lt room c k in
           let less : older t c < n = omega (arith, l .old c some k) in
-          rw (o, parent-old t n q a lt room c k)
-          (parent-old t n q a lt room (older t c) less ∙ l .old-of c some k (rw o at more))
+          let child = l .old-of c some k (rw o at more) in
+          rw (o, parent-old t n q a lt room c k) (child .0, parent-old t n q a lt room (older t c) less ∙ child .1)
       go (inr e) more =
           let o = added-older t n q a lt room in
+          let child = l .young-of q lt (rw (e, o) at more) in
           rw (e, o, added-parent t n q a lt room)
-          (parent-old t n q a lt room (youngest t q) (l .young q lt) ∙ l .young-of q lt (rw (e, o) at more))
+          (child .0, parent-old t n q a lt room (youngest t q) (l .young q lt) ∙ child .1)
 
   old-next′ : (c b : ℕ) → root < c → c < suc n → root < b → b < c → parent (added t n q a) b ≡ parent (added t n q a) c
       → b ≤ older (added t n q a) c

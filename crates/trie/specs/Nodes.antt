@@ -82,16 +82,20 @@ unfoldable pub tally : (ℕ → Bool) → ℕ → ℕ
 tally test zero = 0
 tally test (suc n) = tally test n + cond (test n) 1 0
 
+-- c stands behind the root, and its parent is q
+abbrev pub ChildOf : ℕ → List ℕ → ℕ → ℕ → Type 0
+ChildOf root t q c = (root < c) × (parent t c ≡ q)
+
 -- The links of n nodes, those behind the root being children: a parent comes before its children, and the youngest child and
--- then the next older one, again and again, meet every child of a node.
+-- then the next older one, again and again, meet every child of a node. A link of 0 leads to none.
 pub record Linked (root : ℕ) (t : List ℕ) (n : ℕ) : Type 0 where
   pub size : nodeWords * n ≤ length t
   pub up : (c : ℕ) → root < c → c < n → parent t c < c
   pub young : (q : ℕ) → q < n → youngest t q < n
-  pub young-of : (q : ℕ) → q < n → root < youngest t q → parent t (youngest t q) ≡ q
+  pub young-of : (q : ℕ) → q < n → 0 < youngest t q → ChildOf root t q (youngest t q)
   pub young-last : (q c : ℕ) → q < n → root < c → c < n → parent t c ≡ q → c ≤ youngest t q
   pub old : (c : ℕ) → root < c → c < n → older t c < c
-  pub old-of : (c : ℕ) → root < c → c < n → root < older t c → parent t (older t c) ≡ parent t c
+  pub old-of : (c : ℕ) → root < c → c < n → 0 < older t c → ChildOf root t (parent t c) (older t c)
   pub old-next : (c b : ℕ) → root < c → c < n → root < b → b < c → parent t b ≡ parent t c → b ≤ older t c
 
 -- t holds the trie of the states s, of a rule set with so many symbols. Words behind the last node are 0.
@@ -135,9 +139,9 @@ pub record IsChild (root : ℕ) (t : List ℕ) (n q a c : ℕ) : Type 0 where
   pub of : parent t c ≡ q
   pub by : symbol t c ≡ a
 
--- r is the child of q by symbol a, or n where q has none
+-- r is the child of q by symbol a, or 0 where q has none
 abbrev pub ChildOr : ℕ → List ℕ → ℕ → ℕ → ℕ → ℕ → Type 0
-ChildOr root t n q a r = IsChild root t n q a r ⊎ ((r ≡ n) × ((c : ℕ) → IsChild root t n q a c → ⊥))
+ChildOr root t n q a r = IsChild root t n q a r ⊎ ((r ≡ 0) × ((c : ℕ) → IsChild root t n q a c → ⊥))
 
 -- t with node n as a child of q by symbol a
 unfoldable pub added : List ℕ → ℕ → ℕ → ℕ → List ℕ

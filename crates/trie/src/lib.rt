@@ -86,20 +86,21 @@ pub fn failure_of(trie: &[u16], rows: &[u16], s: usize, root: usize, q: usize) -
     wide::word(rows[f * s + a])
 }
 
-// The child of node q by symbol a, or n, the number of nodes, where it has none.
+// The child of node q by symbol a, or 0 where it has none: no child is node 0. The root and the number of nodes are named for the
+// contract alone.
 fn child(trie: &[u16], root: usize, n: usize, q: usize, a: u16) -> usize
     requires links { ⌜ Linked root (now trie) n ⌝ }
     requires node { ⌜ q < n ⌝ }
     ensures { λ r. ⌜ ChildOr root (now (trie .entry)) n q a r ⌝ }
 {
     let mut c = wide::word(trie[NODE * q + YOUNGEST]);
-    while root < c {
+    while 0 < c {
         if trie[NODE * c + SYMBOL] == a {
             return c;
         }
         c = wide::word(trie[NODE * c + OLDER]);
     }
-    n
+    0
 }
 
 // Node n becomes a child of q by symbol a.
@@ -129,7 +130,7 @@ fn follow(trie: &mut [u16], root: usize, n: usize, q: usize, a: u16) -> Walked
     ensures { λ r. ⌜ Followed root (now (trie .entry)) n q a r (now (trie .exit)) ⌝ }
 {
     let c = child(trie, root, n, q, a);
-    if c < n {
+    if 0 < c {
         return Walked { node: c, nodes: n };
     }
     add(trie, n, q, a);

@@ -10,7 +10,7 @@ ghost use Rattle.layout.specs.Image.{read, valid};
 ghost use Rattle.layout.specs.States.{states, matching};
 ghost use Rattle.layout.specs.Table.{matchWord};
 ghost use Rattle.layout.specs.Words as Words;
-ghost use Rattle.layout.specs.Words.{ownOr};
+ghost use Rattle.layout.specs.Words.{NoLonger, ownOr};
 ghost use Rattle.trie.specs.Nodes.{failureAt, nodeWords, depth, TrieOf, Built};
 ghost use Rattle.trie.specs.Rows.{Laid, Rooted, Merged, Noted, FillingAt, Matched, Filled};
 use crate::DEPTH;
@@ -123,8 +123,23 @@ fn fill_depth(image: &[u8], root: usize, trie: &mut [u16], rows: &mut [u16], n: 
     }
 }
 
+// The number of symbols of the longest left side.
+fn longest(image: &[u8]) -> usize
+    requires { ⌜ valid (now image) ≡ true ⌝ }
+    ensures { λ r. ⌜ (r ≤ 8) × NoLonger r (read (now (image .entry)) .rules) ⌝ }
+{
+    let mut most = 0;
+    for i in 0..image::rules(image) {
+        let long = image::left_length(image, i);
+        if most < long {
+            most = long;
+        }
+    }
+    most
+}
+
 // The rows of the table, and its match words in the nodes: short states before long, as a failure state is shorter. A state has at
-// most eight symbols, and the mark where there is one.
+// most the symbols of the longest left side, and the mark where there is one.
 pub fn fill(image: &[u8], root: usize, trie: &mut [u16], n: usize, rows: &mut [u16])
     requires { ⌜ valid (now image) ≡ true ⌝ }
     requires root { ⌜ root ≡ Words.root (read (now image) .rules) ⌝ }
@@ -137,7 +152,8 @@ pub fn fill(image: &[u8], root: usize, trie: &mut [u16], n: usize, rows: &mut [u
     if 0 < root {
         fill_root(rows, image::symbols(image), root);
     }
-    for d in 1..9 + root as u16 {
+    let end = longest(image) + root + 1;
+    for d in 1..end as u16 {
         fill_depth(image, root, trie, rows, n, d);
     }
 }

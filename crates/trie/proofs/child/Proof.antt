@@ -65,7 +65,7 @@ loop-less c =
     let loop-test = c .before .before .before .before in
     let place = loop-test .before in
     let start = place .before .before .before .before in
-    (let turn = place in omega (arith, c .word2 .ensures, start .pre .0 .old (turn .loop .c) (loop-test .loop-test .taken) (turn .loop .inv .0)))
+    (let turn = place in omega (arith, c .word2 .ensures, start .pre .0 .old (turn .loop .c) (turn .loop .inv .1 (loop-test .loop-test .taken) .0) (turn .loop .inv .0)))
 
 loop-again : tie.Need-loop-again Inv-loop μ-loop
 loop-again c =

@@ -2,9 +2,9 @@
 Tables, plainly: the library's algorithm in safe Rust.
 
 A trie of the left sides is built node by node, in the order of the states' numbers, in one array of
-words. Compile turns it into rows, then goes through all states once for each depth and fills the
-rows of that depth from those of their failure states. The check builds the same trie and then looks
-at each word of the table once or twice.
+words. Compile turns it into rows, then goes through all states once for each depth up to the longest
+left side's and fills the rows of that depth from those of their failure states. The check builds the
+same trie and then looks at each word of the table once or twice.
 */
 
 use crate::shared::tables::*;
@@ -111,7 +111,7 @@ fn compile_with<const W: usize, const ROOT: usize>(
         merge(root, &[ROOT as u16; 32]);
         merge(mark, root);
     }
-    for d in 1..=MAX_SIDE + ROOT {
+    for d in 1..=longest(image) + ROOT {
         for q in ROOT + 1..n {
             if usize::from(trie[q * NODE + DEPTH]) != d {
                 continue;
@@ -131,6 +131,13 @@ fn compile_with<const W: usize, const ROOT: usize>(
     }
     *out = [parts.words as u64];
     0
+}
+
+/// The number of symbols of a valid image's longest left side.
+fn longest(image: &[u8]) -> usize {
+    let contents = &image[4..4 + 4 * usize::from(image[1])];
+    let lengths = contents.chunks_exact(4).map(|entry| entry[0]);
+    lengths.max().unwrap_or(0).into()
 }
 
 /// Each 0 of a row becomes the other row's word. A function of its own, which is not inlined, and a

@@ -12,9 +12,6 @@ pub const SHORT_AREA: u32 = 8;
 /// Refusal 9: the table is not that of the image.
 pub const OTHER_TABLE: u32 = 9;
 
-/// The most symbols that a side has.
-pub const MAX_SIDE: usize = 8;
-
 /// The words of a node of the trie.
 pub const NODE: usize = 8;
 /// The nodes of the largest trie: the mark, the root and 64 left sides of 8 symbols.

@@ -20,11 +20,11 @@ use Rattle.trie.proofs.rows.fill.Statement.{statement}
 use Rattle.trie.proofs.rows.fill.Tie as tie
 
 abbrev Inv-loop : tie.InvT-loop
-Inv-loop image top trie₀ n rows₀ d₀ d-end trie rows d =
-    (0 < d) × (d ≤ 9 + top) × (length trie ≡ length trie₀) × FillingAt (read image) d 0 trie rows
+Inv-loop image top trie₀ n rows₀ end d₀ d-end trie rows d =
+    (0 < d) × (d ≤ d-end) × (length trie ≡ length trie₀) × FillingAt (read image) d 0 trie rows
 
 abbrev μ-loop : tie.MeasureT-loop
-μ-loop image top trie₀ n rows₀ d₀ d-end trie rows d = d-end - d
+μ-loop image top trie₀ n rows₀ end d₀ d-end trie rows d = d-end - d
 
 clear-requires : tie.Need-clear-requires Inv-loop μ-loop
 clear-requires c κs = search needs
@@ -64,23 +64,27 @@ fill-root-requires c κs =
       omega (arith, start .pre .1 .0, root-small (read image .rules)),
     )
 
+longest-requires : tie.Need-longest-requires Inv-loop μ-loop
+longest-requires c κs = search needs
+
+add-end : tie.Need-add-end Inv-loop μ-loop
+add-end c = search needs
+
+add-end-2 : tie.Need-add-end-2 Inv-loop μ-loop
+add-end-2 c = search needs
+
 cast-d-end : tie.Need-cast-d-end Inv-loop μ-loop
 cast-d-end c =
-    let start = c .before .before .before .before .before .before .before .before .before .before .before .before .before in
-    omega (arith, start .pre .1 .0, root-small (read (start .args .image .now) .rules))
-
-add-d-end : tie.Need-add-d-end Inv-loop μ-loop
-add-d-end c =
-    let start = c .before .before .before .before .before .before .before .before .before .before .before .before .before in
+    let start = c .before .before .before .before .before .before .before .before .before .before .before .before .before .before in
     omega (arith, start .pre .1 .0, root-small (read (start .args .image .now) .rules))
 
 loop-holds : tie.Need-loop-holds Inv-loop μ-loop
 loop-holds c =
-    let lay-children = c .before .before .before in
+    let lay-children = c .before .before .before .before in
     let start = lay-children .before .before .before .before .before .before .before .before .before .before in
     let set = read (start .args .image .now) in
     let laid = lay-children .lay-children .last .1 .1 .1 .1 .0 in
-    let rooted : Rooted laid (c .if1 .rows) (set .symbols) (root (set .rules)) (set .symbols) =
+    let rooted : Rooted laid (c .before .if1 .rows) (set .symbols) (root (set .rules)) (set .symbols) =
     ⊎-elim
     (λ w.
     subst (λ (l : List ℕ). Rooted laid l (set .symbols) (root (set .rules)) (set .symbols)) (sym (w .6))
@@ -89,26 +93,24 @@ loop-holds c =
     (λ w.
     subst (λ (l : List ℕ). Rooted laid l (set .symbols) (root (set .rules)) (set .symbols)) (sym (w .1))
     (rooted-zero laid (set .symbols) (root (set .rules)) (omega (arith, w .0 .left, start .pre .1 .0))))
-    (c .if1 .came)
+    (c .before .if1 .came)
     in (
       omega arith,
       omega arith,
       refl,
-      filling-start set (start .args .trie .now) laid (c .if1 .rows) (valid-in-range (start .args .image .now) (start .pre .0))
+      filling-start set (start .args .trie .now) laid (c .before .if1 .rows) (valid-in-range (start .args .image .now) (start .pre .0))
           (start .pre .1 .1 .0 .trie) (start .pre .1 .1 .0 .owned) (lay-children .lay-children .ensures) rooted,
     )
 
 fill-depth-requires : tie.Need-fill-depth-requires Inv-loop μ-loop
 fill-depth-requires c κs =
     let loop = c .before .before .before in
-    let start = loop .before .before .before .before .before .before .before .before .before .before .before .before .before .before in
+    let start = loop .before .before .before .before .before .before .before .before .before .before .before .before .before .before .before in
     (start .pre .0, (start .pre .1 .0, (start .pre .1 .1 .0 .nodes, (loop .loop .inv .0, loop .loop .inv .3))))
 
 add-d : tie.Need-add-d Inv-loop μ-loop
 add-d c =
-    let loop = c .before .before .before .before .before .before .before .before in
-    let start = loop .before .before .before .before .before .before .before .before .before .before .before .before .before .before in
-    omega (arith, loop .loop .inv .1, start .pre .1 .0, root-small (read (start .args .image .now) .rules))
+    omega arith
 
 loop-less : tie.Need-loop-less Inv-loop μ-loop
 loop-less c =
@@ -130,17 +132,19 @@ same-length c =
 same-length-2 : tie.Need-same-length-2 Inv-loop μ-loop
 same-length-2 c =
     let loop = c .before in
-    let start = loop .before .before .before .before .before .before .before .before .before .before .before .before .before .before in
+    let start = loop .before .before .before .before .before .before .before .before .before .before .before .before .before .before .before in
     loop .loop .inv .3 .size ∙ sym (start .pre .1 .1 .1)
 
 returns : tie.Need-returns Inv-loop μ-loop
 returns c =
     let loop = c .before in
-    let start = loop .before .before .before .before .before .before .before .before .before .before .before .before .before .before in
+    let start = loop .before .before .before .before .before .before .before .before .before .before .before .before .before .before .before in
     let turn = loop .loop in
-    let all : turn .d ≡ 9 + root (read (start .args .image .now) .rules) = omega (arith, start .pre .1 .0) in
-    filling-end (read (start .args .image .now)) (start .args .trie .now) (turn .trie) (turn .rows)
-    (valid-in-range (start .args .image .now) (start .pre .0)) (turn .inv .2) (rw all at (turn .inv .3))
+    let set = read (start .args .image .now) in
+    let longest = loop .before .longest in
+    let all : turn .d ≡ longest .result + root (set .rules) + 1 = omega (arith, start .pre .1 .0) in
+    filling-end set (longest .result) (start .args .trie .now) (turn .trie) (turn .rows)
+    (valid-in-range (start .args .image .now) (start .pre .0)) (longest .ensures .1) (turn .inv .2) (rw all at (turn .inv .3))
 
 pub fill-spec : {M : Type 1} → statement M
 fill-spec =
@@ -152,8 +156,10 @@ fill-spec =
     lay-children-requires
     symbols-requires
     fill-root-requires
+    longest-requires
+    add-end
+    add-end-2
     cast-d-end
-    add-d-end
     loop-holds
     fill-depth-requires
     add-d
