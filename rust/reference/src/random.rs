@@ -119,11 +119,8 @@ impl Shape {
 
     /// A rule set of this shape, without marks or with.
     pub fn either(self, random: &mut Random) -> RuleSet {
-        if random.once_in(2) {
-            self.with_marks(random)
-        } else {
-            self.rule_set(random)
-        }
+        let set = self.rule_set(random);
+        either(random, set)
     }
 
     /// A rule set of this shape with marks, if it has rules.
@@ -225,11 +222,8 @@ impl Habit {
 
     /// A rule set with this habit, without marks or with.
     pub fn either(self, random: &mut Random) -> RuleSet {
-        if random.once_in(2) {
-            self.with_marks(random)
-        } else {
-            self.rule_set(random)
-        }
+        let set = self.rule_set(random);
+        either(random, set)
     }
 
     /// A rule set with this habit and with marks.
@@ -345,6 +339,15 @@ fn judge(random: &mut Random, mut set: RuleSet) -> RuleSet {
         set.rules.insert(random.within(0, set.rules.len()), rule);
     }
     set
+}
+
+/// A rule set as it is, or with marks.
+fn either(random: &mut Random, set: RuleSet) -> RuleSet {
+    if random.once_in(2) {
+        with_marks(random, set)
+    } else {
+        set
+    }
 }
 
 /// The rule set with marks on some rules, on most or on all, and with a few rules more: their left sides
