@@ -3,7 +3,7 @@
 use crate::plain::monitor::Plain;
 use crate::rescan::Rescan;
 use crate::shared::monitor::{self, Kind};
-use crate::timing::{Group, Side, Work, BASELINES, LIBRARY};
+use crate::timing::{Group, Side, Work, BASELINES, LIBRARY, SIDES};
 use crate::tuned::monitor::Tuned;
 use reference::monitor::{Lent, Memory, State, ROOM};
 use reference::random::{largest, largest_with_marks, sample, Random};
@@ -44,7 +44,7 @@ type Batch = fn(
 ) -> u32;
 
 /// The monitors, the library's first.
-const MONITORS: [Functions; 3] = [
+const MONITORS: [Functions; SIDES] = [
     Functions {
         offer: raw::offer,
         go_on: raw::go_on,
@@ -52,6 +52,12 @@ const MONITORS: [Functions; 3] = [
     },
     functions::<Plain>(),
     functions::<Tuned>(),
+    #[cfg(feature = "before")]
+    Functions {
+        offer: before::offer,
+        go_on: before::go_on,
+        batch: before::batch,
+    },
 ];
 
 const fn functions<K: Kind>() -> Functions {

@@ -1,6 +1,6 @@
 //! Compile and check_table: the library against [`plain::tables`] and [`tuned::tables`].
 
-use crate::timing::{many, Group, Pool, Side, Work, BASELINES};
+use crate::timing::{many, Group, Pool, Side, Work, BASELINES, SIDES};
 use crate::{plain, tuned};
 use reference::random::{self, Random};
 use reference::{Right, RuleSet, Symbol};
@@ -11,13 +11,21 @@ type Compiler = fn(&[u8], &mut [u16], &mut [u64; 1]) -> u32;
 type Checker = fn(&[u8], &[u16]) -> u32;
 
 /// The ways to compile, the library's first.
-const COMPILERS: [Compiler; 3] = [raw::compile, plain::tables::compile, tuned::tables::compile];
+const COMPILERS: [Compiler; SIDES] = [
+    raw::compile,
+    plain::tables::compile,
+    tuned::tables::compile,
+    #[cfg(feature = "before")]
+    before::compile,
+];
 
 /// The ways to check a table, the library's first.
-const CHECKERS: [Checker; 3] = [
+const CHECKERS: [Checker; SIDES] = [
     raw::check_table,
     plain::tables::check_table,
     tuned::tables::check_table,
+    #[cfg(feature = "before")]
+    before::check_table,
 ];
 
 /// The races of compile and check_table on each kind of rule sets.

@@ -1,6 +1,6 @@
 //! Rule texts: the library's reader against [`plain::reader`] and [`tuned::reader`].
 
-use crate::timing::{many, Group, Pool, Side, Work, BASELINES};
+use crate::timing::{many, Group, Pool, Side, Work, BASELINES, SIDES};
 use crate::{plain, tuned};
 use reference::random::{sample, Random};
 use reference::reader::{self as naive, Name, IMAGE_AREA, MAX_TEXT_BYTES, NAME_AREA};
@@ -166,10 +166,12 @@ fn wanted(text: &[u8], areas: [usize; 2]) -> Given {
 }
 
 /// The readers, the library's first.
-const READERS: [Read; 3] = [
+const READERS: [Read; SIDES] = [
     raw::read_rules,
     plain::reader::read_rules,
     tuned::reader::read_rules,
+    #[cfg(feature = "before")]
+    before::read_rules,
 ];
 
 /// Reads one text of a pool after another into areas that stay the same.

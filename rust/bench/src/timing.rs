@@ -37,8 +37,19 @@ pub type Side = usize;
 /// The library's side.
 pub const LIBRARY: Side = 0;
 
-/// What the library is mostly measured against: sides 1 and 2.
-pub const BASELINES: &[&str] = &["plain", "tuned"];
+/// What the library is mostly measured against: side 1 and those behind it.
+pub const BASELINES: &[&str] = &[
+    "plain",
+    "tuned",
+    #[cfg(feature = "before")]
+    BEFORE,
+];
+
+/// The name of the library as it was before.
+const BEFORE: &str = "before";
+
+/// The library and its baselines.
+pub const SIDES: usize = 1 + BASELINES.len();
 
 /// Work that all sides can do.
 pub trait Work {
@@ -77,7 +88,7 @@ pub fn many<T>(bytes: impl Fn(&T) -> usize, mut thing: impl FnMut() -> T) -> Vec
 pub struct Pool<T> {
     things: Vec<T>,
     /// Where each side is.
-    places: [usize; 1 + BASELINES.len()],
+    places: [usize; SIDES],
     /// The place of the thing given last.
     last: usize,
 }
@@ -87,7 +98,7 @@ impl<T> Pool<T> {
     pub fn new(things: Vec<T>) -> Pool<T> {
         Pool {
             things,
-            places: [0; 1 + BASELINES.len()],
+            places: [0; SIDES],
             last: 0,
         }
     }
@@ -223,9 +234,14 @@ impl Group {
         }
     }
 
-    /// Adds a race, not run yet.
-    pub fn add(&mut self, name: &str, unit: &'static str, work: impl Work + 'static) {
+    /// Adds a race, not run yet, unless the library of before refuses its work.
+    pub fn add(&mut self, name: &str, unit: &'static str, mut work: impl Work + 'static) {
         let sides = 1 + self.others.len();
+        let before = (1..sides).find(|&side| self.others[side - 1] == BEFORE);
+        if before.is_some_and(|side| !work.once(side)) {
+            eprintln!("left out, since before it was refused: {name}");
+            return;
+        }
         let mut race = Race {
             name: name.to_string(),
             unit,
