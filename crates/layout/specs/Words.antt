@@ -26,6 +26,11 @@ text rules c = getD (states rules) c []
 abbrev pub NoLonger : ℕ → List Rule → Type 0
 NoLonger n rules = (i : ℕ) → i < length rules → length (rule rules i .left) ≤ n
 
+-- n is the number of symbols of the longest left side, and 0 where there is no rule
+pub record Longest (n : ℕ) (rules : List Rule) : Type 0 where
+  pub covers : NoLonger n rules
+  pub least : (m : ℕ) → NoLonger m rules → n ≤ m
+
 -- the lowest rule whose left side is v itself, the mark included
 unfoldable pub own : List Rule → List ℕ → Option ℕ
 own rules v = lowest rules (starts v) (symbolsIn v)

@@ -10,7 +10,7 @@ ghost use Rattle.layout.specs.Image.{read, valid};
 ghost use Rattle.layout.specs.States.{states, matching};
 ghost use Rattle.layout.specs.Table.{matchWord};
 ghost use Rattle.layout.specs.Words as Words;
-ghost use Rattle.layout.specs.Words.{NoLonger, ownOr};
+ghost use Rattle.layout.specs.Words.{Longest, ownOr};
 ghost use Rattle.trie.specs.Nodes.{failureAt, nodeWords, depth, TrieOf, Built};
 ghost use Rattle.trie.specs.Rows.{Laid, Rooted, Merged, Noted, FillingAt, Matched, Filled};
 use crate::DEPTH;
@@ -126,7 +126,7 @@ fn fill_depth(image: &[u8], root: usize, trie: &mut [u16], rows: &mut [u16], n: 
 // The number of symbols of the longest left side.
 fn longest(image: &[u8]) -> usize
     requires { ⌜ valid (now image) ≡ true ⌝ }
-    ensures { λ r. ⌜ (r ≤ 8) × NoLonger r (read (now (image .entry)) .rules) ⌝ }
+    ensures { λ r. ⌜ (r ≤ 8) × Longest r (read (now (image .entry)) .rules) ⌝ }
 {
     let mut most = 0;
     for i in 0..image::rules(image) {

@@ -144,7 +144,7 @@ returns c =
     let longest = loop .before .longest in
     let all : turn .d ≡ longest .result + root (set .rules) + 1 = omega (arith, start .pre .1 .0) in
     filling-end set (longest .result) (start .args .trie .now) (turn .trie) (turn .rows)
-    (valid-in-range (start .args .image .now) (start .pre .0)) (longest .ensures .1) (turn .inv .2) (rw all at (turn .inv .3))
+    (valid-in-range (start .args .image .now) (start .pre .0)) (longest .ensures .1 .covers) (turn .inv .2) (rw all at (turn .inv .3))
 
 pub fill-spec : {M : Type 1} → statement M
 fill-spec =
