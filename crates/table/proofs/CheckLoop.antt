@@ -26,12 +26,12 @@ use Rattle.table.proofs.PassesRight.{consistent-right}
 use Rattle.table.proofs.RightPasses.{right-passes, right-inside, right-root, right-mark}
 
 -- state q passes, by what the code of its tests read and counted
-pub passes : (t matches rows : List ℕ) (symbols q : ℕ) {child word f n : ℕ}
-    → child ≡ transition rows symbols (parent t q) (symbol t q) → child ≡ q
+pub passes : (t matches rows : List ℕ) (symbols q : ℕ) {word f n : ℕ}
+    → transition rows symbols (parent t q) (symbol t q) ≡ q
     → word ≡ ownOr (matched t q) (getD matches (failure t q) 0) → word ≡ getD matches q 0
     → f ≡ failure t q → n ≡ differing rows symbols q f → n ≡ children t q → Passes t matches rows symbols q
-passes t matches rows symbols q led here inherits same fails differs count =
-    record { led = sym led ∙ here; inherits = sym same ∙ inherits; differs = rw (← fails) (sym differs ∙ count) }
+passes t matches rows symbols q led inherits same fails differs count =
+    record { led = led; inherits = sym same ∙ inherits; differs = rw (← fails) (sym differs ∙ count) }
 
 -- A check keeps node q's failure state, and what was tested before stays.
 module _ (t : List ℕ) (q f : ℕ) where
@@ -251,6 +251,12 @@ module _ {set : RuleSet} {t matches rows : List ℕ} {n s top q : ℕ} (k : Chec
         rw (p .0, k .checked .trie .mark-failure) (omega (arith, k .all, k .checked .trie .some-node)))
         (node-cases (root (set .rules)) (states (set .rules)) (set .symbols) t (k .checked .trie) c other)
 
+    pub led-asks : (8 * q + 1 < length t) × (parent t q * s + symbol t q < length rows)
+    led-asks = (
+      omega (arith, node-room),
+      rw (← k .lines) (word-within s (parent t q) n (symbol t q) (omega (arith, parent-below)) symbol-below),
+    )
+
     pub failure-asks : (8 * q + 1 < length t) × ((8 * parent t q + 7 < length t)
         × (parent t q ≢ top → failure t (parent t q) * s + symbol t q < length rows))
     failure-asks = (omega (arith, node-room), (omega (arith, node-room, parent-below), row))
@@ -268,6 +274,15 @@ module _ {set : RuleSet} {t matches rows : List ℕ} {n s top q : ℕ} (k : Chec
     no-failure found out right =
         wrong-failure (k .in-range) (k .checked) listed-below (λ h. omega (arith, k .all, by-root found)) right
 
+    -- nor does a right table have a parent that leads elsewhere
+    pub not-led : {child : ℕ} → child ≡ transition rows s (parent t q) (symbol t q) → (child ≡ q → ⊥)
+        → RightTable (set .rules) (set .symbols) matches rows → ⊥
+    not-led {child} read elsewhere right =
+        let f = failureBy t rows (set .symbols) (root (set .rules)) q in
+        let same = failure-kept t q f listed-below in
+        wrong-state (k .in-range) (k .checked) listed-below {f = f} refl
+        (λ p. elsewhere (read ∙ rw (k .width, ← parent-kept same q, ← symbol-kept same q) (p .led))) right
+
     module _ {f : ℕ} (found : f ≡ failureBy t rows s top q) where
       pub no-state : (b : Bool) → not b ≡ true → Decides b (Passes (store t (8 * q + 7) f) matches rows s q)
           → RightTable (set .rules) (set .symbols) matches rows → ⊥
@@ -275,18 +290,18 @@ module _ {set : RuleSet} {t matches rows : List ℕ} {n s top q : ℕ} (k : Chec
           wrong-state (k .in-range) (k .checked) listed-below (by-root found) (denied b (not-true b e) (rw (← k .width) passes)) right
 
       module _ (inside : f < n) where
-        pub state-asks : (s ≤ 32) × ((8 * q + 7 < length (store t (8 * q + 7) f))
-            × ((parent (store t (8 * q + 7) f) q * s + symbol (store t (8 * q + 7) f) q < length rows)
+        pub state-asks : transition rows s (parent t q) (symbol t q) ≡ q
+            → (s ≤ 32) × ((8 * q + 7 < length (store t (8 * q + 7) f))
+            × ((transition rows s (parent (store t (8 * q + 7) f) q) (symbol (store t (8 * q + 7) f) q) ≡ q)
             × (((q < length matches) × (failure (store t (8 * q + 7) f) q < length matches))
             × ((q * s + s ≤ length rows) × (failure (store t (8 * q + 7) f) q * s + s ≤ length rows)))))
-        state-asks =
-            let same = failure-kept t q f listed-below in
-            let up = word-within s (parent t q) n (symbol t q) (omega (arith, parent-below)) symbol-below in (
+        state-asks led =
+            let same = failure-kept t q f listed-below in (
               omega (arith, k .width, ranges set (k .in-range) .few-symbols),
               (
                 rw length-set node-room,
                 (
-                  rw (parent-kept same q, symbol-kept same q, ← k .lines) up,
+                  rw (parent-kept same q, symbol-kept same q) led,
                   (
                     (omega (arith, k .words), rw (failure-set t q f node-room) (omega (arith, k .words))),
                     (rw (← k .lines) (row-end s q n lt), rw (failure-set t q f node-room, ← k .lines) (row-end s f n inside)),

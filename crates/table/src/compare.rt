@@ -119,20 +119,16 @@ fn mark_holds(trie: &[u16], matches: &[u16], rows: &[u16], s: usize, root: usize
     true
 }
 
-// The tests of state q, whose failure state its node holds.
+// The tests of state q, which its parent leads to, and whose failure state its node holds.
 fn state_holds(trie: &[u16], matches: &[u16], rows: &[u16], s: usize, q: usize) -> bool
     requires few { ⌜ s ≤ 32 ⌝ }
     requires node { ⌜ failureAt q < length (now trie) ⌝ }
-    requires up { ⌜ parent (now trie) q * s + symbol (now trie) q < length (now rows) ⌝ }
+    requires led { ⌜ transition (now rows) s (parent (now trie) q) (symbol (now trie) q) ≡ q ⌝ }
     requires words { ⌜ (q < length (now matches)) × (failure (now trie) q < length (now matches)) ⌝ }
     requires own { ⌜ q * s + s ≤ length (now rows) ⌝ }
     requires other { ⌜ failure (now trie) q * s + s ≤ length (now rows) ⌝ }
     ensures { λ r. ⌜ Decides r (Passes (now (trie .entry)) (now (matches .entry)) (now (rows .entry)) s q) ⌝ }
 {
-    let child = led_to(trie, rows, s, q);
-    if child != q {
-        return false;
-    }
     let m = inherited(trie, matches, q);
     if m != matches[q] {
         return false;
@@ -146,7 +142,8 @@ fn state_holds(trie: &[u16], matches: &[u16], rows: &[u16], s: usize, q: usize) 
 }
 
 // Every state's tests, in the order of their numbers, so that its parent and its parent's failure state are known when a
-// state is reached. Keeps each state's failure state in its node.
+// state is reached. Keeps each state's failure state in its node, after both looks at its parent: a word that was read before a
+// store is read again behind it.
 fn states_hold(
     image: &[u8],
     root: usize,
@@ -172,6 +169,10 @@ fn states_hold(
         }
     }
     for q in root + 1..n {
+        let child = led_to(trie, rows, s, q);
+        if child != q {
+            return false;
+        }
         let f = failure_of(trie, rows, s, root, q);
         if f >= n {
             return false;

@@ -6,23 +6,17 @@ use Rattle.table.proofs.CheckLoop.{passes}
 use Rattle.table.proofs.compare.state_holds.Statement.{statement}
 use Rattle.table.proofs.compare.state_holds.Tie as tie
 
-led-to-requires : tie.Need-led-to-requires
-led-to-requires c κs = search needs
-
-returns : tie.Need-returns
-returns c = search needs
-
 inherited-requires : tie.Need-inherited-requires
 inherited-requires c κs = search needs
 
-mul-if2 : tie.Need-mul-if2
-mul-if2 c = search needs
+mul-if1 : tie.Need-mul-if1
+mul-if1 c = search needs
 
-shared-slice-read-if2 : tie.Need-shared-slice-read-if2
-shared-slice-read-if2 c = search needs
+shared-slice-read-if1 : tie.Need-shared-slice-read-if1
+shared-slice-read-if1 c = search needs
 
-returns-2 : tie.Need-returns-2
-returns-2 c = search needs
+returns : tie.Need-returns
+returns c = search needs
 
 mul-word : tie.Need-mul-word
 mul-word c = search needs
@@ -41,57 +35,53 @@ word-requires c κs = search needs
 
 differences-requires : tie.Need-differences-requires
 differences-requires c κs =
-    let start = c .before .before .before .before .before .before .before .before .before .before in
+    let start = c .before .before .before .before .before .before .before .before in
     let pre = start .pre in
     (pre .0, (pre .1 .1 .1 .1 .0, rw (c .word .ensures) (pre .1 .1 .1 .1 .1)))
 
-mul-if3 : tie.Need-mul-if3
-mul-if3 c = search needs
+mul-if2 : tie.Need-mul-if2
+mul-if2 c = search needs
 
-add-if3 : tie.Need-add-if3
-add-if3 c = search needs
+add-if2 : tie.Need-add-if2
+add-if2 c = search needs
 
-mul-if3-2 : tie.Need-mul-if3-2
-mul-if3-2 c = search needs
+mul-if2-2 : tie.Need-mul-if2-2
+mul-if2-2 c = search needs
 
-shared-slice-read-if3 : tie.Need-shared-slice-read-if3
-shared-slice-read-if3 c = search needs
+shared-slice-read-if2 : tie.Need-shared-slice-read-if2
+shared-slice-read-if2 c = search needs
+
+returns-2 : tie.Need-returns-2
+returns-2 c = λ p.
+    c .if2 .taken (c .before .before .differences .ensures ∙ rw (c .before .before .before .word .ensures) (p .differs))
 
 returns-3 : tie.Need-returns-3
-returns-3 c = λ p.
-    c .if3 .taken (c .before .before .differences .ensures ∙ rw (c .before .before .before .word .ensures) (p .differs))
-
-returns-4 : tie.Need-returns-4
-returns-4 c =
-    let if2 = c .before .before .before .before .before in
-    let inherited = if2 .before .before in
-    let led = inherited .before in
-    let led-to = led .before in
-    let start = led-to .before .before .before .before in
+returns-3 c =
+    let if1 = c .before .before .before .before .before in
+    let inherited = if1 .before .before in
+    let start = inherited .before .before .before .before in
     passes (start .args .trie .now) (start .args .matches .now) (start .args .rows .now) (start .args .s) (start .args .q)
-    (led-to .led-to .ensures) (led .if1 .left)
-    (inherited .inherited .ensures) (if2 .if2 .left)
-    (c .before .before .before .word .ensures) (c .before .before .differences .ensures) (c .if3 .left)
+    (start .pre .1 .1 .0)
+    (inherited .inherited .ensures) (if1 .if1 .left)
+    (c .before .before .before .word .ensures) (c .before .before .differences .ensures) (c .if2 .left)
 
 pub state-holds-spec : {M : Type 1} → statement M
 state-holds-spec =
     tie.close
     (tie.spec
-    led-to-requires
-    returns
     inherited-requires
-    mul-if2
-    shared-slice-read-if2
-    returns-2
+    mul-if1
+    shared-slice-read-if1
+    returns
     mul-word
     add-word
     mul-word-2
     shared-slice-read-word
     word-requires
     differences-requires
-    mul-if3
-    add-if3
-    mul-if3-2
-    shared-slice-read-if3
-    returns-3
-    returns-4)
+    mul-if2
+    add-if2
+    mul-if2-2
+    shared-slice-read-if2
+    returns-2
+    returns-3)

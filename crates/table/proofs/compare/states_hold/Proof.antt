@@ -2,7 +2,7 @@
 -- the trie is as it was but for their failure states.
 -- Assumes nothing.
 use Prim.Native.Nat.{ℕ, _+_, _*_, _-_, _<_}
-use mathlib.Core.Path.{_≡_, refl}
+use mathlib.Core.Path.{_≡_, refl, sym, _∙_}
 use mathlib.Core.Logic.{⊎-elim}
 use native.Mathlib.Omega.{arith}
 use lib.ListN.{length, length-set}
@@ -19,6 +19,8 @@ use Rattle.table.proofs.CheckLoop.{
   checking-first,
   checking-end,
   node-room,
+  led-asks,
+  not-led,
   failure-asks,
   no-failure,
   no-state,
@@ -51,11 +53,12 @@ lent c s width =
     }
 
 -- the node's last word stands in the trie
-node-of : (c : tie.Else4 Inv-loop μ-loop)
-    → 8 * (c .before .before .before .before .loop .q) + 7 < length (c .before .before .before .before .loop .trie)
+node-of : (c : tie.Else5 Inv-loop μ-loop)
+    → 8 * (c .before .before .before .before .before .before .before .loop .q) + 7
+    < length (c .before .before .before .before .before .before .before .loop .trie)
 node-of c =
-    let loop = c .before .before .before .before in
-    node-room (loop .loop .inv .1) (c .before .before .before .loop-test .taken)
+    let loop-test = c .before .before .before .before .before .before in
+    node-room (loop-test .before .loop .inv .1) (loop-test .loop-test .taken)
 
 symbols-requires : tie.Need-symbols-requires Inv-loop μ-loop
 symbols-requires c κs =
@@ -115,11 +118,11 @@ loop-holds c =
           (λ pos. ⊎-elim (λ w. (w .2 .result, w .3 .left, w .2 .ensures)) (λ w. absurd (omega (arith, w .left))) (c .if2 .came)) _ refl,
     )
 
-failure-of-requires : tie.Need-failure-of-requires Inv-loop μ-loop
-failure-of-requires c κs =
+led-to-requires : tie.Need-led-to-requires Inv-loop μ-loop
+led-to-requires c κs =
     let loop-test = c .before in
     let loop = loop-test .before in
-    failure-asks (loop .loop .inv .1) (loop-test .loop-test .taken)
+    led-asks (loop .loop .inv .1) (loop-test .loop-test .taken)
 
 same-length-3 : tie.Need-same-length-3 Inv-loop μ-loop
 same-length-3 c =
@@ -128,15 +131,34 @@ same-length-3 c =
 
 returns-3 : tie.Need-returns-3 Inv-loop μ-loop
 returns-3 c =
-    let failure-of = c .before in
-    let loop-test = failure-of .before .before in
+    let led-to = c .before in
+    let loop-test = led-to .before .before in
     let loop = loop-test .before in
-    no-failure (loop .loop .inv .1) (loop-test .loop-test .taken) (failure-of .failure-of .ensures) (c .if4 .taken)
+    not-led (loop .loop .inv .1) (loop-test .loop-test .taken) (led-to .led-to .ensures) (c .if4 .taken)
+
+failure-of-requires : tie.Need-failure-of-requires Inv-loop μ-loop
+failure-of-requires c κs =
+    let loop-test = c .before .before .before .before in
+    let loop = loop-test .before in
+    failure-asks (loop .loop .inv .1) (loop-test .loop-test .taken)
+
+same-length-4 : tie.Need-same-length-4 Inv-loop μ-loop
+same-length-4 c =
+    let loop = c .before .before .before .before .before .before .before in
+    loop .loop .inv .0
+
+returns-4 : tie.Need-returns-4 Inv-loop μ-loop
+returns-4 c =
+    let failure-of = c .before in
+    let led = failure-of .before .before in
+    let loop-test = led .before .before .before in
+    let loop = loop-test .before in
+    no-failure (loop .loop .inv .1) (loop-test .loop-test .taken) (failure-of .failure-of .ensures) (c .if5 .taken)
 
 cast-trie : tie.Need-cast-trie Inv-loop μ-loop
 cast-trie c =
-    let loop = c .before .before .before .before in
-    omega (arith, c .if4 .left, loop .loop .inv .1 .few)
+    let loop = c .before .before .before .before .before .before .before in
+    omega (arith, c .if5 .left, loop .loop .inv .1 .few)
 
 mul-trie : tie.Need-mul-trie Inv-loop μ-loop
 mul-trie c =
@@ -156,25 +178,28 @@ slice-write-trie c =
 
 state-holds-requires : tie.Need-state-holds-requires Inv-loop μ-loop
 state-holds-requires c κs =
-    let if4 = c .before in
-    let failure-of = if4 .before in
-    let loop-test = failure-of .before .before in
+    let if5 = c .before in
+    let failure-of = if5 .before in
+    let led = failure-of .before .before in
+    let loop-test = led .before .before .before in
     let loop = loop-test .before in
-    state-asks (loop .loop .inv .1) (loop-test .loop-test .taken) (failure-of .failure-of .ensures) (if4 .if4 .left)
+    state-asks (loop .loop .inv .1) (loop-test .loop-test .taken) (failure-of .failure-of .ensures) (if5 .if5 .left)
+    (sym (led .before .led-to .ensures) ∙ led .if4 .left)
 
-same-length-4 : tie.Need-same-length-4 Inv-loop μ-loop
-same-length-4 c =
-    let loop = c .before .before .before .before .before .before .before in
+same-length-5 : tie.Need-same-length-5 Inv-loop μ-loop
+same-length-5 c =
+    let loop = c .before .before .before .before .before .before .before .before .before .before in
     rw length-set (loop .loop .inv .0)
 
-returns-4 : tie.Need-returns-4 Inv-loop μ-loop
-returns-4 c =
+returns-5 : tie.Need-returns-5 Inv-loop μ-loop
+returns-5 c =
     let state-holds = c .before in
     let failure-of = state-holds .before .before .before in
-    let loop-test = failure-of .before .before in
+    let led = failure-of .before .before in
+    let loop-test = led .before .before .before in
     let loop = loop-test .before in
     no-state (loop .loop .inv .1) (loop-test .loop-test .taken) (failure-of .failure-of .ensures)
-    (state-holds .state-holds .result) (c .if5 .taken) (state-holds .state-holds .ensures)
+    (state-holds .state-holds .result) (c .if6 .taken) (state-holds .state-holds .ensures)
 
 add-q-2 : tie.Need-add-q-2 Inv-loop μ-loop
 add-q-2 c = search needs
@@ -185,22 +210,23 @@ loop-less c = search needs
 loop-again : tie.Need-loop-again Inv-loop μ-loop
 loop-again c =
     let state-holds = c .before in
-    let if4 = state-holds .before .before in
-    let failure-of = if4 .before in
-    let loop-test = failure-of .before .before in
+    let if5 = state-holds .before .before in
+    let failure-of = if5 .before in
+    let led = failure-of .before .before in
+    let loop-test = led .before .before .before in
     let loop = loop-test .before in (
       rw length-set (loop .loop .inv .0),
-      checking-more (loop .loop .inv .1) (loop-test .loop-test .taken) (failure-of .failure-of .ensures) (if4 .if4 .left)
-          (state-holds .state-holds .result) (c .if5 .left) (state-holds .state-holds .ensures),
+      checking-more (loop .loop .inv .1) (loop-test .loop-test .taken) (failure-of .failure-of .ensures) (if5 .if5 .left)
+          (state-holds .state-holds .result) (c .if6 .left) (state-holds .state-holds .ensures),
     )
 
-same-length-5 : tie.Need-same-length-5 Inv-loop μ-loop
-same-length-5 c =
+same-length-6 : tie.Need-same-length-6 Inv-loop μ-loop
+same-length-6 c =
     let loop = c .before in
     loop .loop .inv .0
 
-returns-5 : tie.Need-returns-5 Inv-loop μ-loop
-returns-5 c =
+returns-6 : tie.Need-returns-6 Inv-loop μ-loop
+returns-6 c =
     let loop = c .before in
     checking-end (loop .loop .inv .1) (c .loop-test .left)
 
@@ -219,19 +245,22 @@ states-hold-spec =
     returns-2
     add-q
     loop-holds
-    failure-of-requires
+    led-to-requires
     same-length-3
     returns-3
+    failure-of-requires
+    same-length-4
+    returns-4
     cast-trie
     mul-trie
     add-trie
     mul-trie-2
     slice-write-trie
     state-holds-requires
-    same-length-4
-    returns-4
+    same-length-5
+    returns-5
     add-q-2
     loop-less
     loop-again
-    same-length-5
-    returns-5)
+    same-length-6
+    returns-6)
