@@ -13,8 +13,12 @@ All sides first do the work once and must agree in every result, and again after
   looks through its string again after every rewrite ([`rescan`]).
 
 ```text
-cargo run --release -p bench [rounds [runs]]
+cargo run --release -p bench [rounds [runs [part]]]
 ```
+
+With a third argument only the rows are run whose group and name have it in them. With the feature
+`before` an earlier library is one more side, the one in the folder that `WATCHER_BEFORE_DIR` names; the
+script `links` compares it with today's in many links.
 */
 
 #![forbid(unsafe_code)]
@@ -55,7 +59,7 @@ const RUNS: usize = 7;
 
 fn main() {
     let [rounds, runs] = arguments().unwrap_or_else(|| {
-        eprintln!("usage: bench [rounds [runs]]");
+        eprintln!("usage: bench [rounds [runs [part]]]");
         std::process::exit(2);
     });
     let mut groups = vec![texts::races(), tables::races()];
@@ -76,7 +80,7 @@ fn main() {
 /// Rounds and runs by the command line.
 fn arguments() -> Option<[usize; 2]> {
     let mut numbers = [ROUNDS, RUNS];
-    for (place, argument) in env::args().skip(1).enumerate() {
+    for (place, argument) in env::args().skip(1).take(2).enumerate() {
         let number = argument.parse().ok().filter(|&number| number > 0);
         *numbers.get_mut(place)? = number?;
     }

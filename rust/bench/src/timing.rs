@@ -18,6 +18,7 @@ A run of all races is made several times. What is shown is the median over the r
 the least and the largest ratio: how far it moves.
 */
 
+use std::env;
 use std::hint::black_box;
 use std::time::{Duration, Instant};
 
@@ -234,8 +235,12 @@ impl Group {
         }
     }
 
-    /// Adds a race, not run yet, unless the library of before refuses its work.
+    /// Adds a race, not run yet, unless the command line asks for other rows or the library of
+    /// before refuses its work.
     pub fn add(&mut self, name: &str, unit: &'static str, mut work: impl Work + 'static) {
+        if !asked_for(&format!("{}: {name}", self.title)) {
+            return;
+        }
         let sides = 1 + self.others.len();
         let before = (1..sides).find(|&side| self.others[side - 1] == BEFORE);
         if before.is_some_and(|side| !work.once(side)) {
@@ -263,8 +268,11 @@ impl Group {
         }
     }
 
-    /// Prints the table of these races.
+    /// Prints the table of these races, if there are any.
     pub fn print(&self) {
+        if self.races.is_empty() {
+            return;
+        }
         let mut head = format!("{:<60} {:<7} {:>8}", self.title, "for one", "library");
         for name in self.others {
             head += &columns(name, name, ["ratio", "least", "most"]);
@@ -274,6 +282,12 @@ impl Group {
             println!("{}", race.row(self.others));
         }
     }
+}
+
+/// Whether the command line asks for the row with this title and name: its third argument is a part of
+/// them, or there is none.
+fn asked_for(row: &str) -> bool {
+    env::args().nth(3).is_none_or(|part| row.contains(&part))
 }
 
 /// The middle one of at least one number.
