@@ -111,7 +111,7 @@ fn settled_right(image: &[u8], table: &[u16], symbols: &[u8], words: &[u16]) -> 
     requires size { ⌜ length (now words) ≡ length (now symbols) ⌝ }
     ensures { λ r. ⌜ Decides r (Settled (read (now (image .entry))) (now (symbols .entry)) (now (words .entry))) ⌝ }
 {
-    if !image::all_below(symbols, image[0]) {
+    if !validity::all_below(symbols, image[0]) {
         return false;
     }
     let rows = 2 + wide::word(table[0]);
@@ -163,7 +163,7 @@ pub fn as_described(
     if !zero_bytes(&bytes[settled..first]) {
         return false;
     }
-    if !image::all_below(&bytes[first..], image[0]) {
+    if !validity::all_below(&bytes[first..], image[0]) {
         return false;
     }
     zero_words(&words[settled..])

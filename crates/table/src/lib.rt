@@ -59,7 +59,7 @@ pub fn compile(image: &[u8], table: &mut [u16]) -> Compiled
     ensures answer { λ r. ⌜ r ≡ compileOf (now (image .entry)) (now (table .entry)) .answer ⌝ }
     ensures area { λ r. ⌜ now (table .exit) ≡ compileOf (now (image .entry)) (now (table .entry)) .area ⌝ }
 {
-    let validity = image::validity(image);
+    let validity = validity::validity(image);
     if 0 < validity {
         let root = wide::byte(validity - 1);
         if image::bodies_length(image) < 63 {
@@ -102,7 +102,7 @@ fn begins_with_table(image: &[u8], root: usize, table: &[u16]) -> bool
 pub fn check(image: &[u8], table: &[u16]) -> Checked
     ensures { λ r. ⌜ r ≡ checkOf (now (image .entry)) (now (table .entry)) ⌝ }
 {
-    let validity = image::validity(image);
+    let validity = validity::validity(image);
     if 0 < validity {
         let root = wide::byte(validity - 1);
         if begins_with_table(image, root, table) {

@@ -1,4 +1,5 @@
--- Laws of the trie that the code builds, in reading order.
+-- Laws of marked rules and of the trie that the code builds, in reading order.
+pub mod Marks
 pub mod Tally
 pub mod Nodes
 pub mod Growth

@@ -18,7 +18,7 @@ use Rattle.layout.specs.Image.{markByte, body, read, valid}
 use Rattle.layout.specs.Places.{leftAt}
 use Rattle.layout.proofs.Image.{valid-in-range}
 use Rattle.layout.proofs.Places.{left-within, left-symbol, body-left}
-use Rattle.image.proofs.Marks.{mark-here, root-found}
+use Rattle.trie.proofs.Marks.{mark-here, root-found}
 use Rattle.trie.specs.declared.Walked.{Walked}
 use Rattle.layout.specs.States.{mark, pattern, isPrefix, prefixes, known, numbered, hasMark, firstStates}
 use Rattle.layout.specs.Words.{root, own}

@@ -3,6 +3,7 @@
 use Prim.Native.Nat.{_+_, _*_}
 use mathlib.Core.Path.{_≡_, sym, ap, _∙_}
 use native.Mathlib.Omega.{arith}
+use mir.Facts.{fits-widen}
 use borrow.Author.Needs.{needs}
 use Rattle.rewriting.specs.Rules.{rule}
 use Rattle.layout.specs.Image.{kind, read}
@@ -42,9 +43,7 @@ shared-slice-read-if1 c =
     omega (arith, contents-inside (start .args .image .now) (start .pre .0) (start .args .i) (start .pre .1))
 
 cast-t11 : tie.Need-cast-t11
-cast-t11 c =
-    let start = c .before .before .before .before in
-    omega (arith, c .before .before .shared-slice-known2 .given (6 + 4 * start .args .i))
+cast-t11 c = fits-widen tt (c .before .before .shared-slice-known2 .given _)
 
 byte-requires : tie.Need-byte-requires
 byte-requires c κs = search needs

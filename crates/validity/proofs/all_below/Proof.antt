@@ -1,4 +1,4 @@
--- `image::all_below` meets its contract. The loop's invariant: `most` is below `s` exactly when each symbol before `i` is.
+-- `validity::all_below` meets its contract. The loop's invariant: `most` is below `s` exactly when each symbol before `i` is.
 -- Assumes nothing.
 use Prim.Native.Nat.{_-_, _≤_, _<_}
 use mathlib.Core.Path.{_≡_}
@@ -10,8 +10,8 @@ use lib.Seq.{take-all}
 use borrow.Author.Tests.{lt-ltb}
 use Rattle.rewriting.specs.Lists.{below}
 use Rattle.layout.proofs.ImageCheck.{most-new, most-kept}
-use Rattle.image.proofs.all_below.Statement.{statement}
-use Rattle.image.proofs.all_below.Tie as tie
+use Rattle.validity.proofs.all_below.Statement.{statement}
+use Rattle.validity.proofs.all_below.Tie as tie
 
 abbrev Inv-loop : tie.InvT-loop
 Inv-loop symbols s most₀ i₀ i-end most i = (i ≤ i-end) × (ltb most s ≡ below s (take i symbols))

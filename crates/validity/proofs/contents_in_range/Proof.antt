@@ -1,4 +1,4 @@
--- `image::contents_in_range` meets its contract. The loop's invariant: what the contents from rule `i` on announce is `left`
+-- `validity::contents_in_range` meets its contract. The loop's invariant: what the contents from rule `i` on announce is `left`
 -- exactly when what all the contents announce is all that follows them, and `found` is 2 where a rule before `i` has the mark,
 -- else 1. The measure is the rules left.
 -- Assumes nothing.
@@ -23,8 +23,8 @@ use Rattle.layout.proofs.ImageCheck.{
   found-not,
   found-all,
 }
-use Rattle.image.proofs.contents_in_range.Statement.{statement}
-use Rattle.image.proofs.contents_in_range.Tie as tie
+use Rattle.validity.proofs.contents_in_range.Statement.{statement}
+use Rattle.validity.proofs.contents_in_range.Tie as tie
 
 abbrev Inv-loop : tie.InvT-loop
 Inv-loop image rules verdicts left₀ found₀ i₀ left found i =

@@ -1,8 +1,8 @@
--- `image::header_in_range` meets its contract: each way out by a number out of range, and the last by all of them in range.
+-- `validity::header_in_range` meets its contract: each way out by a number out of range, and the last by all of them in range.
 -- Assumes nothing.
 use native.Mathlib.Omega.{arith}
-use Rattle.image.proofs.header_in_range.Statement.{statement}
-use Rattle.image.proofs.header_in_range.Tie as tie
+use Rattle.validity.proofs.header_in_range.Statement.{statement}
+use Rattle.validity.proofs.header_in_range.Tie as tie
 
 returns : tie.Need-returns
 returns c = λ h. omega arith

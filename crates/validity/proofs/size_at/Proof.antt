@@ -1,9 +1,9 @@
--- `image::size_at` meets its contract: it hands on the four bytes of contents.
+-- `validity::size_at` meets its contract: it hands on the four bytes of contents.
 -- Assumes nothing.
 use borrow.Author.Needs.{needs}
 use Rattle.layout.proofs.ImageCheck.{size-at}
-use Rattle.image.proofs.size_at.Statement.{statement}
-use Rattle.image.proofs.size_at.Tie as tie
+use Rattle.validity.proofs.size_at.Statement.{statement}
+use Rattle.validity.proofs.size_at.Tie as tie
 
 shared-slice-read-body-size : tie.Need-shared-slice-read-body-size
 shared-slice-read-body-size c = search needs

@@ -1,4 +1,4 @@
--- `image::body_size` meets its contract: each way out has the law for its case, from the tests that led there.
+-- `validity::body_size` meets its contract: each way out has the law for its case, from the tests that led there.
 -- Assumes nothing.
 use mathlib.Core.Path.{sym}
 use native.Mathlib.Omega.{arith}
@@ -13,8 +13,8 @@ use Rattle.layout.proofs.ImageCheck.{
   size-kind,
   size-no-verdict,
 }
-use Rattle.image.proofs.body_size.Statement.{statement}
-use Rattle.image.proofs.body_size.Tie as tie
+use Rattle.validity.proofs.body_size.Statement.{statement}
+use Rattle.validity.proofs.body_size.Tie as tie
 
 returns : tie.Need-returns
 returns c = sym (size-no-left _ _ _ _ _ (omega arith))

@@ -1,4 +1,4 @@
--- `image::validity` meets its contract: what fails a check is not valid, and what passes the others is valid exactly when its
+-- `validity::validity` meets its contract: what fails a check is not valid, and what passes the others is valid exactly when its
 -- symbols are below S. Then what the pass over the contents found is the answer.
 -- Assumes nothing.
 use Prim.Native.Nat.{_+_, _*_}
@@ -23,8 +23,8 @@ use Rattle.layout.proofs.ImageCheck.{
   found-some,
   found-none,
 }
-use Rattle.image.proofs.validity.Statement.{statement}
-use Rattle.image.proofs.validity.Tie as tie
+use Rattle.validity.proofs.validity.Statement.{statement}
+use Rattle.validity.proofs.validity.Tie as tie
 
 -- the header is in range
 header :

@@ -1,2 +1,0 @@
--- Laws, in reading order.
-pub mod Marks
