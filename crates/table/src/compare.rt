@@ -21,16 +21,19 @@ use trie::NODE;
 use trie::SYMBOL;
 use trie::failure_of;
 
-// How many words of the rows of q and f differ. It counts to the end, so that the loop compares many words at once.
+// How many words of the rows of q and f differ. Where a row begins is worked out once, before the loop. The loop counts to the
+// end, so that it compares many words at once.
 fn differences(rows: &[u16], s: usize, q: usize, f: usize) -> u16
     requires few { ⌜ s ≤ 32 ⌝ }
     requires own { ⌜ q * s + s ≤ length (now rows) ⌝ }
     requires other { ⌜ f * s + s ≤ length (now rows) ⌝ }
     ensures { λ r. ⌜ r ≡ differing (now (rows .entry)) s q f ⌝ }
 {
+    let own = q * s;
+    let other = f * s;
     let mut n: u16 = 0;
     for a in 0..s {
-        if rows[q * s + a] != rows[f * s + a] {
+        if rows[own + a] != rows[other + a] {
             n += 1;
         }
     }

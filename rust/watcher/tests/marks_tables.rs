@@ -1,13 +1,12 @@
-//! Tables of rule sets with a start mark: worked ones in words written by hand, all small ones, the largest
-//! there is with every word changed, and tables that come from mistakes about the mark. And the tables of
-//! rule sets without a mark, which are those of before.
+//! Tables of rule sets with a start mark: worked ones in words written by hand, all small ones, and tables
+//! that come from mistakes about the mark. And the tables of rule sets without a mark, which are those of
+//! before.
 
 mod common;
 
 use common::{expect_check, expect_compile, Case};
 use reference::random::{self, Random, Shape};
 use reference::{marked, string, verdict, Rule, RuleSet, Symbol, MARK};
-use watcher::raw;
 
 /// A rule set over these symbols, all of them events.
 fn set(symbols: u8, rules: Vec<Rule>) -> RuleSet {
@@ -306,171 +305,6 @@ fn rule_sets_without_marks_keep_their_tables() {
             let mut image = image.clone();
             image[4 + 4 * random.within(0, last) + 3] = 1;
             expect_check(&image, &table, Err(9));
-        }
-    }
-}
-
-/// The rule sets with the largest table: the two rules that begin with a symbol, one of them marked.
-fn largest() -> Vec<Case> {
-    let first = random::largest_with_marks();
-    let mut sets = vec![first.clone(), first.clone(), first];
-    for symbol in 0..32 {
-        // The second half is marked; or now the one, now the other.
-        sets[1].rules.swap(symbol, symbol + 32);
-        if symbol % 3 == 1 {
-            sets[2].rules.swap(symbol, symbol + 32);
-        }
-    }
-    sets.into_iter().map(Case::new).collect()
-}
-
-/// 514 states and 16,964 words: the largest table.
-#[test]
-fn the_largest_tables() {
-    let mut seen: Vec<Vec<u16>> = Vec::new();
-    for case in largest() {
-        assert_eq!((case.states(), case.table.len()), (514, 16_964));
-        for area in [0, 16_931, 16_932, 16_963, 16_964, 16_965, 65_536 + 16_963] {
-            case.compile_into(area);
-        }
-        assert!(case.check(&case.table));
-        assert!(!case.check(&case.table[..16_963]));
-        assert!(!case.check(&case.table[..16_931]));
-        assert!(!seen.contains(&case.table));
-        seen.push(case.table);
-    }
-    // A mark more or fewer: two rules share their first symbol again.
-    for rule in [0, 31, 32, 63] {
-        let mut set = random::largest_with_marks();
-        set.rules[rule].marked ^= true;
-        let case = Case::new(set);
-        assert_eq!((case.states(), case.table.len()), (513, 16_931));
-        case.compile_into(16_931);
-        case.compile_into(16_930);
-    }
-}
-
-/// Every single word of the largest table changed, each to several values.
-#[test]
-fn each_word_of_the_largest_table_changed() {
-    let case = Case::new(random::largest_with_marks());
-    let mut random = Random::new(1_202);
-    let mut table = case.table.clone();
-    let mut changed = 0;
-    for place in 0..table.len() {
-        let word = table[place];
-        let other = random.below(514) as u16;
-        for value in [word + 1, 0, 65_535, other, word ^ 1] {
-            table[place] = value;
-            assert_eq!(case.check(&table), value == word, "word {place} is {value}");
-            changed += usize::from(value != word);
-        }
-        table[place] = word;
-    }
-    assert_eq!(table, case.table);
-    assert!(changed > 4 * 16_964, "{changed} changed");
-}
-
-/// Every single word of the largest table changed: an offer, a go-on and a batch take turns, refuse it and
-/// change nothing.
-#[test]
-fn calls_with_a_word_of_the_largest_table_changed() {
-    let case = Case::new(random::largest_with_marks());
-    let mut table = case.table.clone();
-    let (mut head, mut bytes, mut words) = ([0, 1, 0, 0], [0; 2_048], [0; 2_048]);
-    bytes[2_047] = 5;
-    let before = (head, bytes, words);
-    let mut call = |table: &[u16], turn: usize| {
-        let (image, head) = (&case.image, &mut head);
-        let refusal = match turn % 3 {
-            0 => raw::offer(
-                image,
-                table,
-                head,
-                &mut bytes,
-                &mut words,
-                3,
-                0,
-                &mut [0; 4],
-            ),
-            1 => raw::go_on(image, table, head, &mut bytes, &mut words, 0, &mut [0; 4]),
-            _ => {
-                let (answers, out) = (&mut [], &mut [0; 5]);
-                raw::batch(
-                    image,
-                    table,
-                    head,
-                    &mut bytes,
-                    &mut words,
-                    &[],
-                    0,
-                    answers,
-                    out,
-                )
-            }
-        };
-        (refusal, (*head, bytes, words) == before)
-    };
-    for place in 0..table.len() {
-        let word = table[place];
-        // One more, another state, or the mark alone, which no next state is.
-        table[place] = match place % 3 {
-            0 => word + 1,
-            1 => (word + 257) % 514,
-            _ if word == 0 => 1,
-            _ => 0,
-        };
-        assert_eq!(call(&table, place), (9, true), "word {place}");
-        table[place] = word;
-    }
-    assert_eq!(call(&table[..16_963], 1), (9, true));
-    assert_eq!(call(&table, 1), (0, true));
-    assert_eq!(call(&table, 2), (0, true));
-    assert_eq!(call(&table, 0), (0, false));
-}
-
-/// Rows of the largest table exchanged: each with the next, and drawn ones. Two match words likewise.
-#[test]
-fn rows_of_the_largest_table_swapped() {
-    let case = Case::new(random::largest_with_marks());
-    let mut random = Random::new(1_203);
-    let mut pairs: Vec<(usize, usize)> = (1..514).map(|q| (q - 1, q)).collect();
-    pairs.extend((0..1_000).map(|_| (random.below(514), random.below(514))));
-    let row = |q: usize| 2 + 514 + 32 * q;
-    let (mut same, mut other) = (0, 0);
-    for (p, q) in pairs {
-        let mut table = case.table.clone();
-        for symbol in 0..32 {
-            table.swap(row(p) + symbol, row(q) + symbol);
-        }
-        match case.check(&table) {
-            true => same += 1,
-            false => other += 1,
-        }
-        let mut table = case.table.clone();
-        table.swap(2 + p, 2 + q);
-        match case.check(&table) {
-            true => same += 1,
-            false => other += 1,
-        }
-    }
-    assert!(
-        same > 100 && other > 1_000,
-        "{same} the same, {other} others"
-    );
-}
-
-/// Words behind the largest table are not read.
-#[test]
-fn words_behind_the_largest_table() {
-    let case = Case::new(random::largest_with_marks());
-    for more in [1, 2, 32, 5_000, 65_536] {
-        for word in [0, 1, 514, 65_535] {
-            let mut longer = case.table.clone();
-            longer.resize(case.table.len() + more, word);
-            assert!(case.check(&longer));
-            longer[16_963] ^= 1;
-            assert!(!case.check(&longer));
         }
     }
 }

@@ -4,6 +4,7 @@
 #![allow(dead_code)]
 
 pub mod calls;
+pub mod edge;
 pub mod list;
 pub mod texts;
 

@@ -15,35 +15,35 @@ use Rattle.table.proofs.compare.differences.Statement.{statement}
 use Rattle.table.proofs.compare.differences.Tie as tie
 
 abbrev Inv-loop : tie.InvT-loop
-Inv-loop rows s q f n₀ a₀ n a = (a ≤ s) × (n ≤ a) × (n ≡ tally (λ k. not (eqb (transition rows s q k) (transition rows s f k))) a)
+Inv-loop rows s q f own other n₀ a₀ n a = (a ≤ s) × (n ≤ a) × (n ≡ tally (λ k. not (eqb (transition rows s q k) (transition rows s f k))) a)
 
 abbrev μ-loop : tie.MeasureT-loop
-μ-loop rows s q f n₀ a₀ n a = s - a
+μ-loop rows s q f own other n₀ a₀ n a = s - a
+
+mul-own : tie.Need-mul-own Inv-loop μ-loop
+mul-own c = search needs
+
+mul-other : tie.Need-mul-other Inv-loop μ-loop
+mul-other c = search needs
 
 loop-holds : tie.Need-loop-holds Inv-loop μ-loop
 unfolding tally
 loop-holds c = (omega arith, omega arith, refl)
 
-mul-if1 : tie.Need-mul-if1 Inv-loop μ-loop
-mul-if1 c = search needs
-
 add-if1 : tie.Need-add-if1 Inv-loop μ-loop
 add-if1 c = search needs
 
-mul-if1-2 : tie.Need-mul-if1-2 Inv-loop μ-loop
-mul-if1-2 c = search needs
+mul-if1 : tie.Need-mul-if1 Inv-loop μ-loop
+mul-if1 c = search needs
 
 shared-slice-read-if1 : tie.Need-shared-slice-read-if1 Inv-loop μ-loop
 shared-slice-read-if1 c = search needs
 
-mul-if1-3 : tie.Need-mul-if1-3 Inv-loop μ-loop
-mul-if1-3 c = search needs
-
 add-if1-2 : tie.Need-add-if1-2 Inv-loop μ-loop
 add-if1-2 c = search needs
 
-mul-if1-4 : tie.Need-mul-if1-4 Inv-loop μ-loop
-mul-if1-4 c = search needs
+mul-if1-2 : tie.Need-mul-if1-2 Inv-loop μ-loop
+mul-if1-2 c = search needs
 
 shared-slice-read-if1-2 : tie.Need-shared-slice-read-if1-2 Inv-loop μ-loop
 shared-slice-read-if1-2 c = search needs
@@ -85,14 +85,14 @@ differences-spec =
     (tie.spec
     Inv-loop
     μ-loop
+    mul-own
+    mul-other
     loop-holds
-    mul-if1
     add-if1
-    mul-if1-2
+    mul-if1
     shared-slice-read-if1
-    mul-if1-3
     add-if1-2
-    mul-if1-4
+    mul-if1-2
     shared-slice-read-if1-2
     add-n
     add-a
