@@ -23,11 +23,13 @@ fn largest() -> Vec<Case> {
     let mut sets = vec![first.clone(), first.clone(), first];
     for symbol in 0..SYMBOLS {
         // The second half is marked; or now the one, now the other.
-        sets[1].rules.swap(symbol, symbol + 32);
+        sets[1].rules.swap(symbol, symbol + SYMBOLS);
         if symbol % 3 == 1 {
-            sets[2].rules.swap(symbol, symbol + 32);
+            sets[2].rules.swap(symbol, symbol + SYMBOLS);
         }
     }
+    // With one event alone, most rows are reached by none.
+    sets[2].events = 1;
     let cases: Vec<Case> = sets.into_iter().map(Case::new).collect();
     for case in &cases {
         assert_eq!((case.states(), case.table.len()), (STATES, WORDS));
@@ -58,61 +60,61 @@ struct Memory {
     words: [u16; 2_048],
 }
 
-/// Calls with one image, each from the same monitor, which has one symbol waiting, and without fuel.
+/// Calls without fuel, with one image, each from the same monitor, in which one symbol waits.
 struct Calls<'a> {
     image: &'a [u8],
     begin: Memory,
+    /// The monitor behind an event that was taken.
+    offered: Memory,
 }
 
 impl Calls<'_> {
-    const EVENT: u8 = 3;
+    const EVENT: u8 = 0;
+    const WAITING: u8 = 5;
+    /// Every call is refused by 9.
+    const REFUSED: [u32; 3] = [9; 3];
+    /// No call is refused.
+    const TAKEN: [u32; 3] = [0; 3];
 
     fn new(case: &Case) -> Calls<'_> {
-        let mut begin = Memory {
-            head: [0, 1, 0, 0],
-            bytes: [0; 2_048],
-            words: [0; 2_048],
+        let holding = |waiting: &[u8]| {
+            let mut bytes = [0; 2_048];
+            bytes[2_048 - waiting.len()..].copy_from_slice(waiting);
+            Memory {
+                head: [0, waiting.len() as u64, 0, 0],
+                bytes,
+                words: [0; 2_048],
+            }
         };
-        begin.bytes[2_047] = 5;
         Calls {
             image: &case.image,
-            begin,
+            begin: holding(&[Self::WAITING]),
+            offered: holding(&[Self::WAITING, Self::EVENT]),
         }
     }
 
-    /// The monitor behind an event that was taken.
-    fn offered(&self) -> Memory {
-        let mut memory = self.begin;
-        memory.head[1] = 2;
-        memory.bytes[2_046..].copy_from_slice(&[5, Self::EVENT]);
-        memory
-    }
-
-    /// Expects that a go-on, an offer and a batch of one event are all refused so by this table, and change
-    /// nothing; or, for 0, that all are taken and answer Spent.
+    /// The refusals of a go-on, an offer and a batch of one event with this table. Expects that one that is
+    /// not refused answers Spent, and that a refusal tells and changes nothing.
     #[track_caller]
-    fn expect(&self, table: &[u16], refusal: u32) {
-        let taken = refusal == 0;
-        let spent = u64::from(taken);
-        let after = if taken { self.offered() } else { self.begin };
-
-        let (mut memory, mut out) = (self.begin, [9; 4]);
+    fn refusals(&self, table: &[u16]) -> [u32; 3] {
+        let mut memory = self.begin;
         let Memory { head, bytes, words } = &mut memory;
-        let found = raw::go_on(self.image, table, head, bytes, words, 0, &mut out);
-        assert_eq!((found, out), (refusal, [spent, 0, 0, 0]), "go on");
+        let mut out = [9; 4];
+        let go_on = raw::go_on(self.image, table, head, bytes, words, 0, &mut out);
+        assert_eq!(out, [u64::from(go_on == 0), 0, 0, 0], "go on");
         assert!(memory == self.begin, "go on");
 
-        let (mut memory, mut out) = (self.begin, [9; 4]);
+        let mut memory = self.begin;
         let Memory { head, bytes, words } = &mut memory;
-        let event = Self::EVENT;
-        let found = raw::offer(self.image, table, head, bytes, words, event, 0, &mut out);
-        assert_eq!((found, out), (refusal, [spent, 0, 0, 0]), "offer");
-        assert!(memory == after, "offer");
+        let (event, mut out) = (Self::EVENT, [9; 4]);
+        let offer = raw::offer(self.image, table, head, bytes, words, event, 0, &mut out);
+        assert_eq!(out, [u64::from(offer == 0), 0, 0, 0], "offer");
+        assert!(memory == *self.behind(offer), "offer");
 
-        let (mut memory, mut out) = (self.begin, [9; 5]);
+        let mut memory = self.begin;
         let Memory { head, bytes, words } = &mut memory;
-        let (events, mut answers) = ([event], [0x77; 2]);
-        let found = raw::batch(
+        let (events, mut answers, mut out) = ([event], [0x77; 2], [9; 5]);
+        let batch = raw::batch(
             self.image,
             table,
             head,
@@ -123,9 +125,19 @@ impl Calls<'_> {
             &mut answers,
             &mut out,
         );
-        assert_eq!((found, out), (refusal, [0, spent, 0, 0, 0]), "batch");
-        assert!(memory == after, "batch");
-        assert_eq!(answers, [if taken { 1 } else { 0x77 }, 0x77], "batch");
+        assert_eq!(out, [0, u64::from(batch == 0), 0, 0, 0], "batch");
+        assert_eq!(answers, [if batch == 0 { 1 } else { 0x77 }, 0x77], "batch");
+        assert!(memory == *self.behind(batch), "batch");
+        [go_on, offer, batch]
+    }
+
+    /// The monitor behind an offer with this refusal or none.
+    fn behind(&self, refusal: u32) -> &Memory {
+        if refusal == 0 {
+            &self.offered
+        } else {
+            &self.begin
+        }
     }
 }
 
@@ -138,7 +150,7 @@ fn the_largest_tables() {
             case.compile_into(area);
         }
         assert!(case.check(&case.table));
-        Calls::new(&case).expect(&case.table, 0);
+        assert_eq!(Calls::new(&case).refusals(&case.table), Calls::TAKEN);
         assert!(!seen.contains(&case.table));
         seen.push(case.table);
     }
@@ -193,11 +205,12 @@ fn calls_with_each_word_changed() {
         };
         for value in [FAR, near] {
             table[place] = value;
-            calls.expect(&table, 9);
+            let refusals = calls.refusals(&table);
+            assert_eq!(refusals, Calls::REFUSED, "word {place} is {value}");
         }
         table[place] = word;
     }
-    calls.expect(&table, 0);
+    assert_eq!(calls.refusals(&table), Calls::TAKEN);
 }
 
 /// Next states of 65,535 in many places at once: in a row, for a symbol, from a state on, up to one.
@@ -215,7 +228,7 @@ fn many_next_states_far_out_of_range() {
             }
         }
         assert!(!case.check(&table));
-        calls.expect(&table, 9);
+        assert_eq!(calls.refusals(&table), Calls::REFUSED);
     };
     for state in 0..STATES {
         expect_refused(&|q, _| q == state);
@@ -244,7 +257,8 @@ fn each_two_rows_exchanged() {
         let same = case.check(&table);
         rows[usize::from(same)] += 1;
         if q == p + 1 {
-            calls.expect(&table, if same { 0 } else { 9 });
+            let refusals = if same { Calls::TAKEN } else { Calls::REFUSED };
+            assert_eq!(calls.refusals(&table), refusals, "rows {p} and {q}");
         }
         exchange_rows(&mut table, p, q);
 
@@ -266,9 +280,9 @@ fn words_missing() {
         assert!(!case.check(&case.table[..length]));
     }
     for length in [0, 1, 2, 516, 16_931, 16_932, 16_962, 16_963] {
-        calls.expect(&case.table[..length], 9);
+        let refusals = calls.refusals(&case.table[..length]);
+        assert_eq!(refusals, Calls::REFUSED, "{length} words");
     }
-    calls.expect(&case.table, 0);
 }
 
 /// Whatever stands behind the table, it is taken, and refused where its last word is another.
@@ -288,10 +302,10 @@ fn words_behind() {
     for behind in behind {
         let mut longer = [&case.table[..], &behind].concat();
         assert!(case.check(&longer));
-        calls.expect(&longer, 0);
+        assert_eq!(calls.refusals(&longer), Calls::TAKEN);
         longer[WORDS - 1] ^= 1;
         assert!(!case.check(&longer));
-        calls.expect(&longer, 9);
+        assert_eq!(calls.refusals(&longer), Calls::REFUSED);
     }
 }
 
@@ -325,7 +339,7 @@ fn words_behind_that_cannot_be_read() {
     // A word too few is known from the length alone, so not a word is read behind it.
     assert_eq!(check(&case.table[..WORDS - 1], WORDS - 1), 9);
 
-    let edge = Edge::new(&case.table);
-    Calls::new(&case).expect(edge.words(), 0);
-    Calls::new(&case).expect(&edge.words()[1..], 9);
+    let (calls, edge) = (Calls::new(&case), Edge::new(&case.table));
+    assert_eq!(calls.refusals(edge.words()), Calls::TAKEN);
+    assert_eq!(calls.refusals(&edge.words()[1..]), Calls::REFUSED);
 }
