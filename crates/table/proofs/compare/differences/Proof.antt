@@ -15,7 +15,8 @@ use Rattle.table.proofs.compare.differences.Statement.{statement}
 use Rattle.table.proofs.compare.differences.Tie as tie
 
 abbrev Inv-loop : tie.InvT-loop
-Inv-loop rows s q f own other n₀ a₀ n a = (a ≤ s) × (n ≤ a) × (n ≡ tally (λ k. not (eqb (transition rows s q k) (transition rows s f k))) a)
+Inv-loop rows s q f own other n₀ a₀ n a =
+    (a ≤ s) × (n ≤ a) × (n ≡ tally (λ k. not (eqb (transition rows s q k) (transition rows s f k))) a)
 
 abbrev μ-loop : tie.MeasureT-loop
 μ-loop rows s q f own other n₀ a₀ n a = s - a
