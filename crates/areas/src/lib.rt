@@ -1,5 +1,7 @@
 // What the monitor does with its two areas: writes, the check that they are as described, and a rewrite. What these functions ask of
 // their caller, the checks of a call have shown; the crate monitor is the only one that calls them.
+#![tactic(auto)]
+
 ghost use Rattle.std.specs.Prelude.{◌≡◌, length};
 ghost use Rattle.std.proofs.Math.Option.{some};
 ghost use Rattle.layout.specs.Image.{read};
@@ -17,7 +19,7 @@ pub mod held;
 
 // A rewrite that was tried: the head's numbers after it, its rewrites (0 or 1) and the symbols that it put back. The answer is 16 + the
 // verdict that it set, 2 (Full) where it does not fit and was not made, else 0. A struct without unused bytes stays in registers.
-#[derive(Drop)]
+#[derive(Clone, Copy)]
 pub struct Rewritten {
     pub settled: usize,
     pub waiting: usize,

@@ -1,5 +1,7 @@
 // A list of calls, given as numbers and made one after another through the monitor's public operations, from a fresh
 // monitor. Two numbers a call: the first is 0 for a go-on and 1 + e for an offer of event e; the second is the fuel.
+#![tactic(auto)]
+
 ghost use Rattle.std.specs.Prelude.{◌≤◌, ◌≡◌, true, length};
 ghost use Rattle.std.proofs.Math.Option.{none};
 ghost use Rattle.layout.specs.declared.Checked.{Checked};
@@ -19,7 +21,7 @@ use monitor::{Head, Returned};
 
 // What play gives back: the head that the calls leave, whether the list was refused, how many events were accepted, and
 // the summed counts.
-#[derive(Drop)]
+#[derive(Clone, Copy)]
 pub struct Played {
     pub head: Head,
     pub refusal: Checked,

@@ -1,1 +1,3 @@
 // The worked cases of specs/, computed in proofs/. It has no code.
+#![tactic(auto)]
+

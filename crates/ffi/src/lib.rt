@@ -1,4 +1,6 @@
 // The C interface of the watcher. Each function calls the library function of its name and spells the answer in numbers.
+#![tactic(auto)]
+
 ghost use Rattle.std.specs.Prelude.{◌≡◌, ◌≤◌, ◌<◌, [], ◌∷◌};
 ghost use Rattle.std.proofs.Math.Option.{none};
 ghost use Rattle.layout.specs.Refusals.{refusal_number};

@@ -609,9 +609,9 @@ complete-between (Ending m l r) e = let z : ◌≡◌ {A = ℕ} 0 1 = cc in absu
 module _
     (P : Reading → Type 0)
     (step : (s : Reading) (t : Token) → P s → NamedToken t → (s' : Reading) → after_token s t ≡ Goes s' → P s') where
-  pub after_run : (s : Reading) (bytes : List ℕ) → P s → (s' : Reading) → after_run s (token_of bytes) ≡ Goes s' → P s'
+  pub after_run_lem : (s : Reading) (bytes : List ℕ) → P s → (s' : Reading) → after_run s (token_of bytes) ≡ Goes s' → P s'
   unfolding after_run
-  after_run s bytes h = go (token_of bytes) (token_named bytes)
+  after_run_lem s bytes h = go (token_of bytes) (token_named bytes)
     where
       go : (o : Option Token) → NamedIn o → (s' : Reading) → after_run s o ≡ Goes s' → P s'
       go none nx s' e = let z : ◌≡◌ {A = ℕ} 0 1 = cc in absurd (omega arith)
@@ -627,7 +627,7 @@ module _
       go true c p = let q : s ≡ s' = cc in rw (← q) (h, complete-between s.place c)
       go false c p = let z : ◌≡◌ {A = ℕ} 0 1 = cc in absurd (omega arith)
   runs_keep size s (r ∷ rest) s' h e =
-      go (after_run s (token_of r.bytes)) (after_run s r.bytes h) (λ s'' h'' p. runs_keep size s'' rest s' h'' p) e
+      go (after_run s (token_of r.bytes)) (after_run_lem s r.bytes h) (λ s'' h'' p. runs_keep size s'' rest s' h'' p) e
     where
       go :
           (t : Taken) → ((s'' : Reading) → t ≡ Goes s'' → P s'')
@@ -642,7 +642,7 @@ module _
 
 -- Each run of bytes keeps a reading sound, and what a text is read as is sound.
 pub sound_run : (s : Reading) (bytes : List ℕ) → Sound s → KeepsSound (after_run s (token_of bytes))
-sound_run s bytes h = after_run Sound sound_after s bytes h
+sound_run s bytes h = after_run_lem Sound sound_after s bytes h
 
 pub read_sound : (text : List ℕ) (s : Reading) → read_text text ≡ Good s → Sound s × (s.place ≡ Between)
 read_sound text s e = text_keeps Sound sound_after sound_begun text s e

@@ -1,4 +1,6 @@
 // The types that the definitions of specs/ share with the code above. It has no functions.
+#![tactic(auto)]
+
 
 // The longest rule text.
 pub const TEXT_BYTES: usize = 16384;
@@ -15,21 +17,21 @@ pub const WORDS_BYTES: usize = 400;
 pub const NAMES_BYTES: usize = 1200;
 
 // What the reader answers: the length of the image, or the number of the refusal and its place in the text.
-#[derive(Drop)]
+#[derive(Clone, Copy)]
 pub enum Read {
     Image(usize),
     Refused(u32, usize),
 }
 
 // The first run of a part of a text: where in that part it begins and ends.
-#[derive(Drop)]
+#[derive(Clone, Copy)]
 pub struct Run {
     pub start: usize,
     pub end: usize,
 }
 
 // What a lookup answers.
-#[derive(Drop)]
+#[derive(Clone, Copy)]
 pub enum Found {
     Symbol(usize),
     None,

@@ -1,5 +1,7 @@
 // What stands where in a rule image that `validity` has passed. Each look asks its callers for that: the check costs more than a
 // look, and is made once.
+#![tactic(auto)]
+
 ghost use Rattle.std.specs.Prelude.{◌<◌, ◌≡◌, true, length};
 ghost use mathlib.Core.List.{flat_map};
 ghost use Rattle.rewriting.specs.Rules.{rule};

@@ -31,10 +31,10 @@ use Rattle.layout.specs.Image.{
 }
 
 -- a right side is read back from its kind, its length or verdict and its symbols, whatever follows them
-pub read_right : (x : Right) (b : List ℕ) → read_right (kind x) (length_or_verdict x) (symbols_of x ++ b) ≡ x
+pub read_right_lem : (x : Right) (b : List ℕ) → read_right (kind x) (length_or_verdict x) (symbols_of x ++ b) ≡ x
 unfolding read_right kind length_or_verdict symbols_of
-read_right (Put v) b = rw take-append_seam
-read_right (Close v) b = refl
+read_right_lem (Put v) b = rw take-append_seam
+read_right_lem (Close v) b = refl
 
 -- a mark is read back from its byte, which is 0 or 1; and a byte of 0 or 1 is that of the mark read from it
 pub read-mark : (m : Bool) → eqb (mark_byte m) 1 ≡ m
@@ -70,7 +70,7 @@ read-rule r c b = λ i. record { marked = read-mark r.marked i; left = first i; 
     rest = rw (append_assoc, drop-append_seam)
 
     second : read_right (kind r.right) (length_or_verdict r.right) (drop (length r.left) bytes) ≡ r.right
-    second = rw rest (read_right r.right b)
+    second = rw rest (read_right_lem r.right b)
 
 -- a rule has 4 bytes of contents
 pub drop-contents : (r : Rule) (c : List ℕ) → drop 4 (contents r ++ c) ≡ c

@@ -1,5 +1,7 @@
 // The parts of a line, written one behind the other into a lent buffer. Each function answers where its part ends.
 // What they ask, that there is room above all, the crate report shows: it is the only one that calls them.
+#![tactic(auto)]
+
 ghost use Rattle.std.specs.Prelude.{◌+◌, ◌*◌, ◌≤◌, ◌<◌, ◌≡◌, true, length};
 ghost use Rattle.std.proofs.Math.Option.{none};
 ghost use mathlib.Core.List.{[], ◌∷◌, ◌++◌, flat_map};

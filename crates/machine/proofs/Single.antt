@@ -25,6 +25,7 @@ use Rattle.machine.proofs.ByNumber.{answer_back}
 
 -- refusals have numbers above 0
 positive : (n : ℕ) (l : List ℕ) → all (λ x. ltb 0 x) l ≡ true → Memᴰ n l → 0 < n
+positive n [] h t = elim t [ ]
 positive n (x ∷ l) h (Memᴰ.head e) = let k : 0 < x = ltb-true 0 x (and_left (ltb 0 x) (all (λ y. ltb 0 y) l) h) in omega (arith, e)
 positive n (x ∷ l) h (Memᴰ.tail t) = positive n l (and_right (ltb 0 x) (all (λ y. ltb 0 y) l) h) t
 

@@ -1,5 +1,7 @@
 // The types that the definitions of specs/ share with the code. It has no functions: the head has methods, so it stands with
 // them, in the crate monitor.
+#![tactic(auto)]
+
 
 // Document 01's 2,048: the number of bytes and of words of a monitor.
 pub const CAPACITY: usize = 2048;
@@ -10,14 +12,14 @@ pub const FUEL_MOST: u32 = 65535;
 pub const EVENTS_MOST: usize = 65535;
 
 // Whether a verdict stands, and which.
-#[derive(Drop)]
+#[derive(Clone, Copy)]
 pub enum Standing {
     None,
     Verdict(u64),
 }
 
 // What a call answers. A refusal has document 01's number.
-#[derive(Drop)]
+#[derive(Clone, Copy)]
 pub enum Answer {
     Quiet,
     Spent,
@@ -36,7 +38,7 @@ pub const FULL: u64 = 2;
 pub const VERDICT: u64 = 16;
 
 // Steps, rewrites and symbols put back, of a call or summed over several.
-#[derive(Drop)]
+#[derive(Clone, Copy)]
 pub struct Counts {
     pub steps: u64,
     pub rewrites: u64,

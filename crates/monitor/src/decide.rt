@@ -19,7 +19,7 @@ use layout::Checked;
 use machine::{FUEL_MOST, VERDICT};
 
 // What a list of calls leads to, up to the first that is refused. The stop is 0, or that refusal.
-#[derive(Drop)]
+#[derive(Clone, Copy)]
 pub struct Series {
     pub head: Flat,
     pub stop: u32,

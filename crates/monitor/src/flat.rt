@@ -10,7 +10,7 @@ use crate::Head;
 use machine::{Answer, Counts, FULL, SPENT, Standing, VERDICT};
 
 // The head's numbers, the number of the last call's answer (16 + the verdict where one stands), and the counts of all calls so far.
-#[derive(Drop)]
+#[derive(Clone, Copy)]
 pub struct Flat {
     pub settled: usize,
     pub waiting: usize,

@@ -1,5 +1,7 @@
 // The monitor: fresh, offer, go on and batch. Each is what the crate machine defines, for everything that may be lent
 // to it; the promise about every list of calls is proved of those definitions in machine/proofs/ListTheorem.antt.
+#![tactic(auto)]
+
 ghost use Rattle.std.specs.Prelude.{◌≡◌};
 ghost use Rattle.layout.specs.Refusals.{refusal, answered};
 ghost use Rattle.machine.specs.declared.Answer.{Answer};
@@ -21,7 +23,7 @@ mod flat;
 mod steps;
 
 // The monitor's head: how many symbols are settled, how many wait, the verdict or none, and that verdict's rule (0 with none).
-#[derive(Drop)]
+#[derive(Clone, Copy)]
 pub struct Head {
     pub settled: usize,
     pub waiting: usize,
@@ -30,14 +32,14 @@ pub struct Head {
 }
 
 // What fresh gives back.
-#[derive(Drop)]
+#[derive(Clone, Copy)]
 pub struct Begun {
     pub head: Head,
     pub refusal: Checked,
 }
 
 // What offer and go on give back: the new head beside the answer.
-#[derive(Drop)]
+#[derive(Clone, Copy)]
 pub struct Returned {
     pub head: Head,
     pub answer: Answer,
@@ -45,7 +47,7 @@ pub struct Returned {
 }
 
 // What batch gives back. The stop is 0, or the refusal of the first offer that was refused.
-#[derive(Drop)]
+#[derive(Clone, Copy)]
 pub struct BatchReturned {
     pub head: Head,
     pub refusal: Checked,

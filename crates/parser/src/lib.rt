@@ -1,5 +1,7 @@
 // The tokens of a rule text, and what each makes of what has been read. What its functions ask, the crate text has shown: it is the
 // only one that calls them.
+#![tactic(auto)]
+
 ghost use Rattle.std.specs.Prelude.{ℕ, ◌+◌, ◌≡◌, List, length, replicate};
 ghost use Rattle.grammar.specs.Names.{symbols_size, words_size, slots};
 ghost use Rattle.grammar.specs.Grammar.{Between, Reading, begun};
@@ -18,7 +20,7 @@ pub const CONTENTS_BYTES: usize = 256;
 pub const BODIES_BYTES: usize = 1024;
 
 // Where in the grammar a token stands.
-#[derive(Drop)]
+#[derive(Clone, Copy)]
 pub enum Place {
     First,
     Events,
@@ -32,7 +34,7 @@ pub enum Place {
 // What has been read: the place, how many symbols, words, events and rules there are, how many bytes their bodies have, and
 // of the rule begun the length of its left side, that of the side that is open or the verdict, and the kind, with 2 more where
 // it has the mark: a field of its own costs a fifth.
-#[derive(Drop)]
+#[derive(Clone, Copy)]
 pub struct Reader {
     pub place: Place,
     pub symbols: usize,
@@ -46,14 +48,14 @@ pub struct Reader {
 }
 
 // What a token makes of what has been read: it goes on, or the text breaks here, by this refusal.
-#[derive(Drop)]
+#[derive(Clone, Copy)]
 pub enum Taken {
     Goes(Reader),
     Breaks(u32),
 }
 
 // How the reading of a text ends: what has been read, or the refusal and its place.
-#[derive(Drop)]
+#[derive(Clone, Copy)]
 pub enum Finished {
     Good(Reader),
     Bad(u32, usize),

@@ -1,4 +1,6 @@
 // What `watch` prints: lines, written one at a time into a lent buffer.
+#![tactic(auto)]
+
 ghost use Rattle.std.specs.Prelude.{◌≤◌, ◌<◌, min, ◌≡◌, true, length};
 ghost use Rattle.rewriting.specs.Lists.{over};
 ghost use Rattle.layout.specs.Image.{read, valid};
@@ -22,7 +24,7 @@ pub const LINE_BYTES: usize = 51261;
 
 // The walk over the event names: the monitor's head, where in the input the next name is looked for, and how long the image and
 // the table are.
-#[derive(Drop)]
+#[derive(Clone, Copy)]
 pub struct Walk {
     pub head: Head,
     pub at: usize,
@@ -31,14 +33,14 @@ pub struct Walk {
 }
 
 // How an input begins: with a message of so many bytes and nothing else, or with events to offer.
-#[derive(Drop)]
+#[derive(Clone, Copy)]
 pub enum Begun {
     Message(usize),
     Events(Walk),
 }
 
 // A line of so many bytes, 0 where no name is left, and the walk behind it.
-#[derive(Drop)]
+#[derive(Clone, Copy)]
 pub struct Line {
     pub walk: Walk,
     pub length: usize,

@@ -1,4 +1,6 @@
 // The matching table: compile, and the check that a lent table is the one that compile gives.
+#![tactic(auto)]
+
 ghost use Rattle.std.specs.Prelude.{◌≡◌, true, length, replicate};
 ghost use Rattle.rewriting.specs.Lists.{prefix};
 ghost use Rattle.layout.specs.Image.{read, valid};

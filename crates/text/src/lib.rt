@@ -1,4 +1,6 @@
 // The reader of rule texts.
+#![tactic(auto)]
+
 ghost use Rattle.std.specs.Prelude.{ℕ, ◌+◌, ◌≤◌, ◌≡◌, List, ◌++◌, length};
 ghost use Rattle.std.proofs.Math.Seq.{paste};
 ghost use Rattle.rewriting.specs.Lists.{over};

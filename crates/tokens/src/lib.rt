@@ -1,4 +1,6 @@
 // Bytes, runs and name slots: what the reader of rule texts and the program look for in bytes.
+#![tactic(auto)]
+
 ghost use Rattle.std.specs.Prelude.{◌≡◌};
 ghost use Rattle.grammar.specs.FirstRun.{first_run};
 ghost use Rattle.grammar.specs.Lookup.{symbol_named, found_as};
@@ -9,7 +11,7 @@ pub mod bytes;
 pub mod names;
 
 // What a run of bytes is; None where it is no token.
-#[derive(Drop)]
+#[derive(Clone, Copy)]
 pub enum Kind {
     Name,
     Word,
@@ -20,7 +22,7 @@ pub enum Kind {
 }
 
 // The number of a name, and how many names there are then.
-#[derive(Drop)]
+#[derive(Clone, Copy)]
 pub struct Numbered {
     pub number: usize,
     pub count: usize,

@@ -1,5 +1,7 @@
 // The trie of the left sides, one node of eight words for each state. specs/Nodes.antt has the layout.
 // What its functions ask, compile and check of the crate table have shown: it is the only one that calls them.
+#![tactic(auto)]
+
 ghost use Rattle.std.specs.Prelude.{◌+◌, ◌*◌, ◌<◌, ◌≤◌, ◌≡◌, true, ◌≢◌, length, replicate};
 ghost use Rattle.layout.specs.Image.{read, valid};
 ghost use Rattle.layout.specs.Places.{left_at};
@@ -55,7 +57,7 @@ pub const WORDS: usize = 4112;
 pub const FEW_WORDS: usize = 512;
 
 // Where a walk has come to, and the number of nodes.
-#[derive(Drop)]
+#[derive(Clone, Copy)]
 pub struct Walked {
     pub node: usize,
     pub nodes: usize,

@@ -1,4 +1,6 @@
 // The check of a rule image behind refusal 7.
+#![tactic(auto)]
+
 ghost use Rattle.std.specs.Prelude.{◌+◌, ◌*◌, ◌≤◌, ◌≡◌, length, drop};
 ghost use Rattle.rewriting.specs.Lists.{below};
 ghost use Rattle.layout.specs.ImageCheck.{Decides, Header, body_size, first_size, found_in};

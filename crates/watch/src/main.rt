@@ -1,5 +1,7 @@
 // The program `watch`: it reads a rule text and event names from standard input and writes a line for each name. All that it
 // writes comes from `report`; reading and writing are left here.
+#![tactic(auto)]
+
 ghost use Rattle.std.specs.Prelude.{◌≤◌};
 ghost use Rattle.printing.specs.Turns.{line_most};
 

@@ -1,0 +1,11 @@
+use Prim.Native.Nat.{◌+◌, ◌-◌, ◌≤◌}
+use mathlib.Core.Path.{◌≡◌}
+use lib.ListN.{length, drop}
+use Rattle.grammar.specs.Tokens.{unbroken}
+use Rattle.tokens.proofs.bytes.unbroken_length.Given as goal
+
+abbrev pub invariant-loop-i : goal.invariant-loop-i
+invariant-loop-i l = (l.i ≤ length l.part) × (length (unbroken l.part) ≡ l.i + length (unbroken (drop l.i l.part)))
+
+abbrev pub decreases-loop-i : goal.decreases-loop-i
+decreases-loop-i l = length l.part - l.i
