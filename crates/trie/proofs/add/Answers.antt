@@ -24,11 +24,6 @@ pub bounds-trie-q-5 : goal.bounds-trie-q-5
 bounds-trie-q-5 c =
     children_within c.args.trie.now c.args.n c.args.q c.args.a c.requires.node.0 c.requires.room
 
--- NO GOAL same-length
--- same_length c =
---     let start = c.before.before.before in
---     added_size start.args.trie.now start.args.n start.args.q start.args.a start.requires.0.0 start.requires.1.0
-
 pub returns : goal.returns
 unfolding added
 returns c = refl

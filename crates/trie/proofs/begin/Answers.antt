@@ -3,8 +3,8 @@ use Prim.Native.Nat.{ℕ}
 use mathlib.Core.Path.{◌≡◌, refl, sym, ap, subst, ◌∙◌}
 use mathlib.Core.List.{List}
 use native.Mathlib.Omega.{arith}
-use borrow.Author.Rules.{rules}
 use Rattle.layout.specs.Image.{read}
+use Rattle.layout.specs.Words
 use Rattle.layout.proofs.Image.{valid-in_range}
 use Rattle.layout.proofs.States.{root_small}
 use Rattle.trie.specs.Nodes.{planted, Grown}

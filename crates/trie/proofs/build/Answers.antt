@@ -81,11 +81,6 @@ loop-i-preserved c =
     (build_next _ (valid-in_range _ c.requires.image) _ _ _ _ _ turn more _ _ walked.0 (rw (walked.1 ∙ turn.size) room.0) _
     c.claim.ensures (c.claim.auto.trie ∙ walked.1 ∙ turn.size) _ c.body_length-at.ensures)
 
--- NO GOAL same-length
--- same_length c =
---     let loop = c.before in
---     loop.loop.invariant.size
-
 pub returns : goal.returns
 returns c =
     build_last _ _ _ _ _ _ c.loop-i.invariant (rw c.rules-rules.ensures at c.loop-i-test.false)

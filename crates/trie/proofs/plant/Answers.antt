@@ -13,10 +13,6 @@ pub bounds-trie-7 : goal.bounds-trie-7
 bounds-trie-7 c =
     simp length-set (omega arith)
 
--- NO GOAL same-length
--- same_length c =
---     simp length-set
-
 pub returns : goal.returns
 unfolding planted
 returns c =

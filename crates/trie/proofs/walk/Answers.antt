@@ -8,16 +8,16 @@ use Rattle.trie.proofs.walk.Goals as goal
 
 pub left_length-long-requires : goal.left_length-long-requires
 left_length-long-requires c = record {
-      image_value = c.requires.image;
-      i_in_bounds = c.requires.rule.0;
-    }
+  image_value = c.requires.image;
+  i_in_bounds = c.requires.rule.0;
+}
 
 pub first_node-q-requires : goal.first_node-q-requires
 first_node-q-requires c = record {
-      image = c.requires.image;
-      rule = c.requires.rule.0;
-      root = c.requires.root;
-    }
+  image = c.requires.image;
+  rule = c.requires.rule.0;
+  root = c.requires.root;
+}
 
 pub loop-j-init : goal.loop-j-init
 loop-j-init c =
@@ -60,11 +60,6 @@ loop-j-preserved c =
     rw add-one
     (walk_next _ _ _ (valid-in_range _ c.requires.image) c.requires.trie.1 c.requires.rule.0 _ _ _ _ c.loop-j.invariant more _
     (c.word.ensures ∙ at) _ _ (rw c.requires.root at c.follow-w.ensures))
-
--- NO GOAL same-length
--- same_length c =
---     let loop = c.before in
---     loop.loop.invariant.size
 
 pub returns : goal.returns
 returns c =

@@ -17,9 +17,6 @@ offset_bounds-rows-k c = omega arith
 pub bounds-rows-k : goal.bounds-rows-k
 bounds-rows-k c = omega arith
 
--- NO GOAL overflow-add-k
--- add-k c = omega arith
-
 pub loop-k-smaller : goal.loop-k-smaller
 loop-k-smaller c = omega arith
 
@@ -31,9 +28,6 @@ loop-k-preserved c =
       simp length-set turn.invariant.2,
       ap (λ (l : List ℕ). set l turn.k 0) turn.invariant.3 ∙ fill_more turn.k 0 _ (omega arith),
     )
-
--- NO GOAL same-length
--- same_length c = c.before.loop.invariant.2
 
 pub returns : goal.returns
 returns c =

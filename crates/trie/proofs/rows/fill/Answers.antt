@@ -4,7 +4,6 @@ use mathlib.Core.Path.{◌≡◌, refl, sym, ap, subst, ◌∙◌}
 use mathlib.Core.List.{List}
 use native.Mathlib.Omega.{arith}
 use lib.ListN.{length, replicate}
-use borrow.Author.Rules.{rules}
 use Rattle.layout.specs.Image.{read}
 use Rattle.layout.specs.Words.{root}
 use Rattle.layout.proofs.Image.{valid-in_range}
@@ -25,7 +24,7 @@ lay_children-requires c =
       trie = c.requires.trie.trie;
       count = c.requires.trie.nodes;
       clear = c.clear.ensures
-                ∙ ap (λ (k : ℕ). replicate k 0) (c.requires.room ∙ ap (λ (k : ℕ). k * symbols) (sym c.requires.trie.nodes));
+          ∙ ap (λ (k : ℕ). replicate k 0) (c.requires.room ∙ ap (λ (k : ℕ). k * symbols) (sym c.requires.trie.nodes));
     }
 
 pub fill_root-requires : goal.fill_root-requires
@@ -34,7 +33,7 @@ fill_root-requires c =
     let end = row_end (read image).symbols c.args.root (length (states (read image).rules))
     (omega (arith, c.requires.root, root_below (read image).rules)) in record {
       own = rw c.symbols.ensures
-          (omega (arith, c.lay_children.auto.1.1.1.1.0, c.clear.auto.bytes, c.requires.room, end));
+          (omega (arith, c.lay_children.auto.rows, c.clear.auto.rows, c.requires.room, end));
       low = omega (arith, c.requires.root, root_small (read image).rules);
     }
 
@@ -45,14 +44,14 @@ overflow_cast-d-end c =
 pub loop-d-init : goal.loop-d-init
 loop-d-init c =
     let set = read c.args.image.now in
-    let laid = c.lay_children.new.1.1.1.1.0 in
+    let laid = c.lay_children.new.rows in
     let rooted : Rooted laid c.if-root-gt0.rows set.symbols (root set.rules) set.symbols =
     elim c.if-root-gt0.branch [
-      then-root-gt0 w ↦ subst (λ (l : List ℕ). Rooted laid l set.symbols (root set.rules) set.symbols) (sym w.6)
-    (subst (λ (k : ℕ). Rooted laid w.3.last.0 set.symbols k set.symbols) c.requires.root
-    (subst (λ (k : ℕ). Rooted laid w.3.last.0 k c.args.root k) w.2.ensures w.3.ensures))
-    | else-root-gt0 w ↦ subst (λ (l : List ℕ). Rooted laid l set.symbols (root set.rules) set.symbols) (sym w.VAR-is)
-    (rooted_zero laid set.symbols (root set.rules) (omega (arith, w.if-root-gt0.false, c.requires.root)))
+      | then-root-gt0 w ↦ subst (λ (l : List ℕ). Rooted laid l set.symbols (root set.rules) set.symbols) (sym w.rows-is)
+          (subst (λ (k : ℕ). Rooted laid w.fill_root.new.rows set.symbols k set.symbols) c.requires.root
+          (subst (λ (k : ℕ). Rooted laid w.fill_root.new.rows k c.args.root k) w.symbols.ensures w.fill_root.ensures))
+      | else-root-gt0 w ↦ subst (λ (l : List ℕ). Rooted laid l set.symbols (root set.rules) set.symbols) (sym w.rows-is)
+          (rooted_zero laid set.symbols (root set.rules) (omega (arith, w.if-root-gt0.false, c.requires.root)))
     ]
     in (
       omega arith,
@@ -64,16 +63,12 @@ loop-d-init c =
 
 pub fill_depth-requires : goal.fill_depth-requires
 fill_depth-requires c = record {
-      image_value = c.requires.image_value;
-      root = c.requires.root;
-      count = c.requires.trie.nodes;
-      some = c.loop-d.invariant.0;
-      filling = c.loop-d.invariant.3;
-    }
-
--- NO GOAL overflow-add-d
--- add-d c =
---     omega arith
+  image_value = c.requires.image_value;
+  root = c.requires.root;
+  count = c.requires.trie.nodes;
+  some = c.loop-d.invariant.0;
+  filling = c.loop-d.invariant.3;
+}
 
 pub loop-d-smaller : goal.loop-d-smaller
 loop-d-smaller c =
@@ -83,18 +78,7 @@ pub loop-d-preserved : goal.loop-d-preserved
 loop-d-preserved c =
     let turn = c.loop-d in
     let call = c.fill_depth in
-    (omega arith, omega arith, call.auto.1.1.0 ∙ turn.invariant.2, call.ensures)
-
--- NO GOAL same-length
--- same_length c =
---     let loop = c.before in
---     loop.loop.invariant.2
-
--- NO GOAL same-length-2
--- same-length-2 c =
---     let loop = c.before in
---     let start = loop.before.before.before.before.before.before.before.before.before.before.before.before.before.before.before in
---     loop.loop.invariant.3.size ∙ sym start.requires.1.1.1
+    (omega arith, omega arith, call.auto.trie ∙ turn.invariant.2, call.ensures)
 
 pub returns : goal.returns
 returns c =

@@ -31,15 +31,12 @@ fill_state-requires c =
       image_value = c.requires.image_value;
       root = c.requires.root;
       state = (
-            filling_other (read c.args.image.now) c.args.d turn.q turn.trie turn.rows c.requires.some deep
-                (omega arith) turn.invariant.3 c.args.root c.requires.root,
-            omega arith,
-          );
+        filling_other (read c.args.image.now) c.args.d turn.q turn.trie turn.rows c.requires.some deep
+            (omega arith) turn.invariant.3 c.args.root c.requires.root,
+        omega arith,
+      );
       filling = rw deep turn.invariant.3;
     }
-
--- NO GOAL overflow-add-q
--- add-q c = omega arith
 
 pub loop-q-smaller : goal.loop-q-smaller
 loop-q-smaller c = omega arith
@@ -48,26 +45,20 @@ pub loop-q-preserved : goal.loop-q-preserved
 loop-q-preserved c =
     let turn = c.loop-q in
     elim c.if-trie-q.branch [
-      then-trie-q w ↦ rw (w.8, w.9) (
-      omega arith,
-      w.3.kept.1.1.0 ∙ turn.invariant.1,
-      w.3.kept.1.1.1.0 ∙ turn.invariant.2,
-      rw w.if-trie-q.true at w.3.ensures,
-    )
-    | else-trie-q w ↦ rw (w.VAR-is, w.2) (
-      omega arith,
-      turn.invariant.1,
-      turn.invariant.2,
-      filling_skip (read c.args.image.now) c.args.d turn.q turn.trie turn.rows w.if-trie-q.false (omega arith)
-          turn.invariant.3,
-    )
+      | then-trie-q w ↦ rw (w.trie-is, w.rows-is) (
+        omega arith,
+        w.fill_state.auto.trie ∙ turn.invariant.1,
+        w.fill_state.auto.rows ∙ turn.invariant.2,
+        rw w.if-trie-q.true at w.fill_state.ensures,
+      )
+      | else-trie-q w ↦ rw (w.trie-is, w.rows-is) (
+        omega arith,
+        turn.invariant.1,
+        turn.invariant.2,
+        filling_skip (read c.args.image.now) c.args.d turn.q turn.trie turn.rows w.if-trie-q.false (omega arith)
+            turn.invariant.3,
+      )
     ]
-
--- NO GOAL same-length
--- same_length c = c.before.loop.invariant.1
-
--- NO GOAL same-length-2
--- same-length-2 c = c.before.loop.invariant.2
 
 pub returns : goal.returns
 returns c =

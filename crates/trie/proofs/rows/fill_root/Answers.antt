@@ -29,9 +29,6 @@ offset_bounds-rows-first-in-loop-a c = omega arith
 pub bounds-rows-first-in-loop-a : goal.bounds-rows-first-in-loop-a
 bounds-rows-first-in-loop-a c = omega arith
 
--- NO GOAL overflow-add-a
--- add_a c = omega arith
-
 pub loop-a-smaller : goal.loop-a-smaller
 loop-a-smaller c = omega arith
 
@@ -42,9 +39,6 @@ loop-a-preserved c =
       simp length-set turn.invariant.1,
       rooted_more _ _ _ _ _ c.requires.own c.loop-a-test.true turn.invariant.2 _ c.chosen.ensures,
     )
-
--- NO GOAL same-length
--- same_length c = c.before.loop.invariant.1
 
 pub returns : goal.returns
 returns c =

@@ -10,7 +10,6 @@ use Rattle.layout.specs.Words.{root}
 use Rattle.layout.proofs.Image.{valid-in_range}
 use Rattle.trie.specs.Nodes.{parent, failure_by}
 use Rattle.trie.proofs.Turns.{nodes_within, failure_place, failure_within, filling_more}
-use borrow.Author.Rules.{rules}
 use Rattle.trie.proofs.rows.fill_state.Goals.{After-failure_of-f, After-shared_slice_known-1}
 use Rattle.trie.proofs.rows.fill_state.Goals as goal
 
@@ -45,13 +44,13 @@ found c =
 
 pub failure_of-f-requires : goal.failure_of-f-requires
 failure_of-f-requires c = record {
-      node = omega (arith, bounds (goal.at.failure_of-f-requires c).After-shared_slice_known-1);
-      up = omega (arith, bounds (goal.at.failure_of-f-requires c).After-shared_slice_known-1);
-      row = λ high.
-            rw c.symbols-s.ensures
-            (failure_place (read c.args.image.now) c.args.q c.args.trie.now c.args.rows.now
-            c.requires.filling (in_range_lem (goal.at.failure_of-f-requires c).After-shared_slice_known-1) (other (goal.at.failure_of-f-requires c).After-shared_slice_known-1) c.requires.state.1 (λ e. high (e ∙ sym c.requires.root)));
-    }
+  node = omega (arith, bounds (goal.at.failure_of-f-requires c).After-shared_slice_known-1);
+  up = omega (arith, bounds (goal.at.failure_of-f-requires c).After-shared_slice_known-1);
+  row = λ high.
+      rw c.symbols-s.ensures
+      (failure_place (read c.args.image.now) c.args.q c.args.trie.now c.args.rows.now
+      c.requires.filling (in_range_lem (goal.at.failure_of-f-requires c).After-shared_slice_known-1) (other (goal.at.failure_of-f-requires c).After-shared_slice_known-1) c.requires.state.1 (λ e. high (e ∙ sym c.requires.root)));
+}
 
 pub note-requires : goal.note-requires
 note-requires c =
@@ -66,7 +65,7 @@ pub merge-requires : goal.merge-requires
 merge-requires c =
     let room = failure_within (read c.args.image.now) c.args.q c.args.trie.now c.args.rows.now
     c.requires.filling (in_range_lem (goal.at.merge-requires c).After-shared_slice_known-1) (other (goal.at.merge-requires c).After-shared_slice_known-1) c.requires.state.1 c.failure_of-f.result (found (goal.at.merge-requires c).After-failure_of-f) in
-    rw c.symbols-s.ensures (room.2, room.3)
+    record { own = rw c.symbols-s.ensures room.2; other = rw c.symbols-s.ensures room.3 }
 
 pub returns : goal.returns
 returns c =

@@ -3,31 +3,28 @@ use Prim.Native.Nat.{ℕ, ◌+◌, ◌*◌}
 use mathlib.Core.Path.{◌≡◌, refl, ap, ◌∙◌}
 use native.Mathlib.Omega.{arith}
 use lib.ListN.{length, replicate, length-set, length-replicate}
-use borrow.Author.Rules.{rules}
+use mathlib.Core.List.{List}
+use Rattle.rewriting.specs.Rules.{RuleSet}
 use Rattle.layout.specs.Image.{read}
 use Rattle.layout.proofs.Image.{valid-in_range}
 use Rattle.layout.specs.States.{states}
 use Rattle.trie.specs.Nodes.{parent, symbol}
 use Rattle.layout.proofs.States.{root_below, root_small}
 use Rattle.trie.proofs.Laying.{laid_none, laid_more, laid_all, Within, within}
-use Rattle.trie.proofs.rows.lay_children.Goals.{After-word-a, At-loop-c, In-loop-c}
+use Rattle.trie.proofs.rows.lay_children.Goals.{After-word-a, In-loop-c}
 use Rattle.trie.proofs.rows.lay_children.Goals as goal
 
 -- the rows have their length at each turn
-sized : (c : At-loop-c)
-    → length c.loop-c.rows
-    ≡ length (states (read c.args.image.now).rules)
-    * (read c.args.image.now).symbols
-sized c =
-    c.loop-c.invariant.2 ∙ ap length c.requires.clear ∙ length-replicate _ 0
-    ∙ ap (λ (n : ℕ). n * (read c.args.image.now).symbols) c.requires.count
+sized : (set : RuleSet) (rows₀ rows : List ℕ) (n : ℕ) → n ≡ length (states set.rules) → rows₀ ≡ replicate (n * set.symbols) 0
+    → length rows ≡ length rows₀ → length rows ≡ length (states set.rules) * set.symbols
+sized set rows₀ rows n count clear same =
+    same ∙ ap length clear ∙ length-replicate _ 0 ∙ ap (λ (k : ℕ). k * set.symbols) count
 
-bounds : (c : In-loop-c)
-    → Within c.args.trie.now c.loop-c.rows
-    (read c.args.image.now).symbols c.loop-c.c
+bounds : (c : In-loop-c) → Within c.args.trie.now c.loop-c.rows (read c.args.image.now).symbols c.loop-c.c
 bounds c =
-    within (read c.args.image.now) c.args.trie.now c.loop-c.rows
-    (valid-in_range c.args.image.now c.requires.image_value) c.requires.trie (sized loop) c.loop-c.c
+    let set = read c.args.image.now in
+    within set c.args.trie.now c.loop-c.rows (valid-in_range c.args.image.now c.requires.image_value) c.requires.trie
+    (sized set c.args.rows.now c.loop-c.rows c.args.n c.requires.count c.requires.clear c.loop-c.invariant.2) c.loop-c.c
     (rw c.requires.root at c.loop-c.invariant.0) (omega arith)
 
 -- the word that is stored is the one of the node in its parent's row
@@ -98,9 +95,6 @@ pub bounds-rows-p : goal.bounds-rows-p
 bounds-rows-p c =
     omega (arith, place c, bounds (goal.at.bounds-rows-p c).In-loop-c)
 
--- NO GOAL overflow-add-c-2
--- add-c-2 c = omega arith
-
 pub loop-c-smaller : goal.loop-c-smaller
 loop-c-smaller c = omega arith
 
@@ -112,14 +106,11 @@ loop-c-preserved c =
       simp length-set turn.invariant.2,
       rw (place c)
           (laid_more (read c.args.image.now) c.args.trie.now turn.rows turn.c c.requires.trie
-          (sized (goal.at.loop-c-preserved c).At-loop-c) (rw c.requires.root at turn.invariant.0) (omega arith) turn.invariant.3),
+          (sized (read c.args.image.now) c.args.rows.now c.loop-c.rows c.args.n c.requires.count c.requires.clear c.loop-c.invariant.2) (rw c.requires.root at turn.invariant.0) (omega arith) turn.invariant.3),
     )
-
--- NO GOAL same-length
--- same_length c = c.before.loop.invariant.2
 
 pub returns : goal.returns
 returns c =
     let turn = c.loop-c in
     let all : turn.c ≡ length (states (read c.args.image.now).rules) = omega arith in
-    laid_all (read c.args.image.now) turn.rows (sized (goal.at.returns c).At-loop-c) (rw all at turn.invariant.3)
+    laid_all (read c.args.image.now) turn.rows (sized (read c.args.image.now) c.args.rows.now c.loop-c.rows c.args.n c.requires.count c.requires.clear c.loop-c.invariant.2) (rw all at turn.invariant.3)

@@ -28,9 +28,6 @@ offset_bounds-words-q c = omega arith
 pub bounds-words-q : goal.bounds-words-q
 bounds-words-q c = omega arith
 
--- NO GOAL overflow-add-q
--- add-q c = omega arith
-
 pub loop-q-smaller : goal.loop-q-smaller
 loop-q-smaller c = omega arith
 
@@ -41,9 +38,6 @@ loop-q-preserved c =
       simp length-set turn.invariant.1,
       written_more c.args.trie.now turn.words turn.q (omega arith) turn.invariant.2,
     )
-
--- NO GOAL same-length
--- same_length c = c.before.loop.invariant.1
 
 pub returns : goal.returns
 returns c =
