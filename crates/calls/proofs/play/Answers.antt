@@ -13,9 +13,9 @@ refused_is p = let z : ◌≡◌ {A = ℕ} 0 1 = cc in absurd (omega arith)
 pub returns-then-not-is_list : goal.returns-then-not-is_list
 unfolding refused_as
 returns-then-not-is_list c = record {
-      outcome = rw c.refused.ensures (not_a_list _ _ _ _ _ _ (sym c.is_list.ensures ∙ c.if-not-is_list.true));
-      promise = λ p. absurd (refused_is (rw c.refused.ensures at p));
-    }
+  outcome = rw c.refused.ensures (not_a_list _ _ _ _ _ _ (sym c.is_list.ensures ∙ c.if-not-is_list.true));
+  promise = λ p. absurd (refused_is (rw c.refused.ensures at p));
+}
 
 pub made_all-requires : goal.made_all-requires
 made_all-requires c =
