@@ -1,0 +1,168 @@
+-- `monitor::flat::Flat::in_turn` meets its contract: the invariant is `Offering` (machine/proofs/Offering.antt), and that the answer byte
+-- written last is the head's answer.
+use Prim.Native.Nat.{ℕ, ◌+◌, ◌≤◌}
+use mathlib.Core.Path.{sym, ap, ◌∙◌}
+use native.Mathlib.Omega.{arith}
+use native.Mathlib.Numerals.{add-one}
+use lib.ListN.{length, get_or}
+use Rattle.layout.specs.Image.{read}
+use Rattle.machine.specs.Areas.{Monitor}
+use Rattle.machine.specs.Lent.{offers_or_goes_on}
+use Rattle.monitor.specs.Lent.{flat, ran_from}
+use Rattle.layout.proofs.Image.{valid-in_range}
+use Rattle.layout.proofs.States.{few_states}
+use Rattle.machine.proofs.ByNumber.{no_refusal}
+use Rattle.machine.proofs.Stepping.{Held, held, passed_valid, passed_table}
+use Rattle.machine.proofs.TableWords.{table_header, states_in}
+use Rattle.machine.proofs.LentRefusal.{answered_passed, answered_refused}
+use Rattle.machine.proofs.Offering.{offering_first, offering_passed, offering-number, offering_sums, offering-next, offering_refused, offering_all, written_last, call_at, fuel_with, calls_length}
+use Rattle.monitor.proofs.flat.Flat.in_turn.Goals.{Start}
+use Rattle.monitor.proofs.flat.Flat.in_turn.Goals as goal
+
+-- what is lent
+
+abbrev given : Start → Monitor
+given s = flat s.args.self s.args.bytes.now s.args.words.now
+
+header : (s : Start) → 2 ≤ length s.args.table.now
+header s =
+    omega (
+      arith,
+      table_header (read s.args.image.now) s.args.table.now
+          (passed_table (length s.args.bytes.now) s.args.image.now s.args.table.now (given s) s.requires.lent),
+    )
+
+-- the number of calls is that of the events
+
+room : (s : Start)
+    → length (offers_or_goes_on s.args.offering s.args.events.now s.args.fuel) ≤ length s.args.answers.now
+room s = rw (calls_length s.args.offering s.args.events.now s.args.fuel) s.requires.room
+
+few : (s : Start) → length (offers_or_goes_on s.args.offering s.args.events.now s.args.fuel) ≤ 65535
+few s = rw (calls_length s.args.offering s.args.events.now s.args.fuel) s.requires.few
+
+pub bounds-table-0 : goal.bounds-table-0
+bounds-table-0 c =
+    let s = (goal.at.bounds-table-0 c).Start in
+    omega (arith, header s)
+
+pub overflow_add-rows : goal.overflow_add-rows
+overflow_add-rows c =
+    let s = (goal.at.overflow_add-rows c).Start in
+    let image = c.args.image.now in
+    let table = c.args.table.now in
+    let capacity = length c.args.bytes.now in
+    omega (
+      arith,
+      c.word-rows.ensures,
+      states_in (read image) table (passed_table capacity image table (given s) c.requires.lent),
+      few_states (read image) (valid-in_range image (passed_valid capacity image table (given s) c.requires.lent)),
+    )
+
+pub bounds-table-1 : goal.bounds-table-1
+bounds-table-1 c =
+    let s = (goal.at.bounds-table-1 c).Start in
+    omega (arith, header s)
+
+pub loop-k-init : goal.loop-k-init
+loop-k-init c =
+    (
+      rw c.requires.counts
+          (offering_first _ _ _ _ (offers_or_goes_on c.args.offering c.args.events.now c.args.fuel) _ c.requires.lent),
+      λ j e. absurd (omega arith),
+    )
+
+pub bounds-events-k : goal.bounds-events-k
+bounds-events-k c =
+    c.loop-k-test.true
+
+pub refusal-requires : goal.refusal-requires
+refusal-requires c =
+    let image = c.args.image.now in
+    let now = flat c.loop-k.head c.loop-k.bytes c.loop-k.words in
+    let ok = offering_passed c.loop-k.invariant.0 in
+    let facts : Held (read image) (length c.loop-k.bytes) now = held (length c.loop-k.bytes) image c.args.table.now now ok in record {
+      image = passed_valid (length c.loop-k.bytes) image c.args.table.now now ok;
+      held = omega (arith, facts);
+    }
+
+pub returns-in-Refused : goal.returns-in-Refused
+returns-in-Refused c =
+    let s = (goal.at.returns-in-Refused c).Start in
+    let events = c.args.events.now in
+    let fuel = c.args.fuel in
+    let offering = c.args.offering in record {
+      calls = offering_refused c.loop-k.invariant.0 (room s) (rw (calls_length offering events fuel) c.loop-k-test.true) _
+          (rw (call_at offering events fuel c.loop-k.k c.loop-k-test.true)
+          (answered_refused _ _ (sym c.refusal.ensures ∙ c.in-Refused.is)));
+      last = c.loop-k.invariant.1;
+    }
+
+pub call-head-requires : goal.call-head-requires
+call-head-requires c =
+    let s = (goal.at.call-head-requires c).Start in
+    let events = c.args.events.now in
+    let fuel = c.args.fuel in
+    let offering = c.args.offering in
+    let more = c.loop-k-test.true in record {
+      lent = offering_passed c.loop-k.invariant.0;
+      starts = c.requires.starts;
+      rows = ap (λ (x : ℕ). 2 + x) c.word-rows.ensures;
+      width = c.word-width.ensures;
+      accepted = answered_passed _ (sym c.refusal.ensures ∙ c.in-Passed.is);
+      sums = offering_sums c.loop-k.invariant.0 (room s) (rw (calls_length offering events fuel) more) fuel (omega (arith, c.ranges.fuel))
+                  (few s);
+    }
+
+pub overflow_cast-answers : goal.overflow_cast-answers
+overflow_cast-answers c =
+    let s = (goal.at.overflow_cast-answers c).Start in
+    let events = c.args.events.now in
+    let fuel = c.args.fuel in
+    let offering = c.args.offering in
+    let more = c.loop-k-test.true in
+    omega (
+      arith,
+      c.call-head.ensures.number,
+      offering-number c.loop-k.invariant.0 (room s) (rw (calls_length offering events fuel) more)
+          {o = (ran_from c.call-head.result c.call-head.new.bytes c.call-head.new.words)}
+          (rw (call_at offering events fuel c.loop-k.k more) c.call-head.ensures.outcome),
+    )
+
+pub bounds-answers-k : goal.bounds-answers-k
+bounds-answers-k c =
+    omega (arith, c.loop-k-test.true, c.loop-k.invariant.0.size, c.requires.room)
+
+pub loop-k-smaller : goal.loop-k-smaller
+loop-k-smaller c =
+    omega (arith, c.loop-k-test.true)
+
+pub loop-k-preserved : goal.loop-k-preserved
+loop-k-preserved c =
+    let s = (goal.at.loop-k-preserved c).Start in
+    let events = c.args.events.now in
+    let fuel = c.args.fuel in
+    let offering = c.args.offering in
+    let more = c.loop-k-test.true in (
+      rw add-one
+          (rw c.call-head.ensures.number at
+          (offering-next c.loop-k.invariant.0 (room s) (rw (calls_length offering events fuel) more)
+          {o = (ran_from c.call-head.result c.call-head.new.bytes c.call-head.new.words)}
+          (rw (call_at offering events fuel c.loop-k.k more) c.call-head.ensures.outcome)
+          (rw (call_at offering events fuel c.loop-k.k more, fuel_with offering (get_or events c.loop-k.k 0) fuel) (omega (arith, c.ranges.fuel)))
+          (no_refusal c.call-head.result.answer))),
+      written_last c.loop-k.answers c.loop-k.k _ (omega (arith, more, c.loop-k.invariant.0.size, c.requires.room)),
+    )
+
+pub returns : goal.returns
+returns c =
+    let s = (goal.at.returns c).Start in
+    let events = c.args.events.now in
+    let fuel = c.args.fuel in
+    let offering = c.args.offering in
+    let all = c.loop-k-test.false in
+    let few-made = rw (calls_length offering events fuel) at c.loop-k.invariant.0.few in record {
+      calls = rw (← calls_length offering events fuel)
+          (offering_all c.loop-k.invariant.0 (room s) (rw (calls_length offering events fuel) all));
+      last = λ j e. c.loop-k.invariant.1 j (omega (arith, all, few-made, e));
+    }
