@@ -3,9 +3,7 @@
 use Prim.Native.Nat.{ℕ}
 use mathlib.Core.Path.{◌≡◌, refl}
 use mathlib.Core.Bool.{Bool, false}
-use mathlib.Core.List.{List, [], ◌∷◌}
-use types.Run.{OneOf, miss}
-use denote.Enum.Declared.{tag_of, declared}
+use mathlib.Core.List.{List}
 use Rattle.rewriting.specs.Rules.{Right}
 use Rattle.parser.specs.declared.Place as code
 use Rattle.parser.specs.declared.Place.TheVariants as places
@@ -27,7 +25,6 @@ use Rattle.grammar.specs.Grammar.{
   complete,
 }
 use Rattle.parser.specs.Held.{place_of}
-use Rattle.parser.specs.contracts.Place.{enum}
 
 -- the places that the code calls so
 abbrev pub At : code.Place → Place → Type 0
@@ -52,9 +49,9 @@ at_own (Ending m l r) = (m, l, r, refl)
 pub place_at : (q : code.Place) (p : Place) → place_of p ≡ q → At q p
 place_at q p e = rw (← e) (at_own p)
 
--- An arm for several variants: `miss` shuts out those of the other arms.
+-- An arm for several variants: the place is none of those that the other arms take.
 
-pub word_elsewhere : (s : Reading) (x : List ℕ) (p : Place) → OneOf (0 ∷ 1 ∷ 2 ∷ 3 ∷ 4 ∷ 6 ∷ []) (tag_of (declared enum) (place_of p))
+pub word_elsewhere : (s : Reading) (x : List ℕ) (p : Place) → (place_of p ≡ places.Right → ⊥)
     → word s x p ≡ Breaks 4
 unfolding word place_of
 word_elsewhere s x First h = refl
@@ -62,47 +59,48 @@ word_elsewhere s x Events h = refl
 word_elsewhere s x Between h = refl
 word_elsewhere s x Marked h = refl
 word_elsewhere s x (InLeft m l) h = refl
-word_elsewhere s x (InRight m l v) h = absurd (miss (0 ∷ 1 ∷ 2 ∷ 3 ∷ 4 ∷ 6 ∷ []) 5 tt h)
+word_elsewhere s x (InRight m l v) h = absurd (h refl)
 word_elsewhere s x (Ending m l r) h = refl
 
-pub arrow_elsewhere : (s : Reading) (p : Place) → OneOf (0 ∷ 1 ∷ 2 ∷ 3 ∷ 5 ∷ 6 ∷ []) (tag_of (declared enum) (place_of p))
+pub arrow_elsewhere : (s : Reading) (p : Place) → (place_of p ≡ places.Left → ⊥)
     → arrow s p ≡ Breaks 4
 unfolding arrow place_of
 arrow_elsewhere s First h = refl
 arrow_elsewhere s Events h = refl
 arrow_elsewhere s Between h = refl
 arrow_elsewhere s Marked h = refl
-arrow_elsewhere s (InLeft m l) h = absurd (miss (0 ∷ 1 ∷ 2 ∷ 3 ∷ 5 ∷ 6 ∷ []) 4 tt h)
+arrow_elsewhere s (InLeft m l) h = absurd (h refl)
 arrow_elsewhere s (InRight m l v) h = refl
 arrow_elsewhere s (Ending m l r) h = refl
 
-pub mark_elsewhere : (s : Reading) (p : Place) → OneOf (0 ∷ 1 ∷ 3 ∷ 4 ∷ 5 ∷ 6 ∷ []) (tag_of (declared enum) (place_of p))
+pub mark_elsewhere : (s : Reading) (p : Place) → (place_of p ≡ places.Between → ⊥)
     → mark s p ≡ Breaks 4
 unfolding mark place_of
 mark_elsewhere s First h = refl
 mark_elsewhere s Events h = refl
-mark_elsewhere s Between h = absurd (miss (0 ∷ 1 ∷ 3 ∷ 4 ∷ 5 ∷ 6 ∷ []) 2 tt h)
+mark_elsewhere s Between h = absurd (h refl)
 mark_elsewhere s Marked h = refl
 mark_elsewhere s (InLeft m l) h = refl
 mark_elsewhere s (InRight m l v) h = refl
 mark_elsewhere s (Ending m l r) h = refl
 
-pub stop_elsewhere : (s : Reading) (p : Place) → OneOf (0 ∷ 2 ∷ 3 ∷ 4 ∷ []) (tag_of (declared enum) (place_of p))
+pub stop_elsewhere : (s : Reading) (p : Place) → (place_of p ≡ places.Events → ⊥) → (place_of p ≡ places.Right → ⊥)
+    → (place_of p ≡ places.Ending → ⊥)
     → stop s p ≡ Breaks 4
 unfolding stop place_of
-stop_elsewhere s First h = refl
-stop_elsewhere s Events h = absurd (miss (0 ∷ 2 ∷ 3 ∷ 4 ∷ []) 1 tt h)
-stop_elsewhere s Between h = refl
-stop_elsewhere s Marked h = refl
-stop_elsewhere s (InLeft m l) h = refl
-stop_elsewhere s (InRight m l v) h = absurd (miss (0 ∷ 2 ∷ 3 ∷ 4 ∷ []) 5 tt h)
-stop_elsewhere s (Ending m l r) h = absurd (miss (0 ∷ 2 ∷ 3 ∷ 4 ∷ []) 6 tt h)
+stop_elsewhere s First he hr hn = refl
+stop_elsewhere s Events he hr hn = absurd (he refl)
+stop_elsewhere s Between he hr hn = refl
+stop_elsewhere s Marked he hr hn = refl
+stop_elsewhere s (InLeft m l) he hr hn = refl
+stop_elsewhere s (InRight m l v) he hr hn = absurd (hr refl)
+stop_elsewhere s (Ending m l r) he hr hn = absurd (hn refl)
 
-pub incomplete : (p : Place) → OneOf (0 ∷ 1 ∷ 3 ∷ 4 ∷ 5 ∷ 6 ∷ []) (tag_of (declared enum) (place_of p)) → complete p ≡ false
+pub incomplete : (p : Place) → (place_of p ≡ places.Between → ⊥) → complete p ≡ false
 unfolding complete place_of
 incomplete First h = refl
 incomplete Events h = refl
-incomplete Between h = absurd (miss (0 ∷ 1 ∷ 3 ∷ 4 ∷ 5 ∷ 6 ∷ []) 2 tt h)
+incomplete Between h = absurd (h refl)
 incomplete Marked h = refl
 incomplete (InLeft m l) h = refl
 incomplete (InRight m l v) h = refl

@@ -25,10 +25,10 @@ slice_bounds-find-end c =
 
 pub find-i-requires : goal.find-i-requires
 find-i-requires c = record {
-      size = ap length c.make_slot.ensures ∙ length-slot _ c.if-x-gt-NAME_BYTES.false;
-      slots = search rules;
-      last = search rules;
-    }
+  size = ap length c.make_slot.ensures ∙ length-slot _ c.if-x-gt-NAME_BYTES.false;
+  slots = search rules;
+  last = search rules;
+}
 
 pub returns-then-i-lt32 : goal.returns-then-i-lt32
 unfolding found_as

@@ -9,10 +9,10 @@ loop-i-init c =
 
 pub is_slot-requires : goal.is_slot-requires
 is_slot-requires c = record {
-      size = c.requires.size;
-      slot = finding_inside c.loop-i.invariant c.loop-i-test.true;
-      last = c.requires.last;
-    }
+  size = c.requires.size;
+  slot = finding_inside c.loop-i.invariant c.loop-i-test.true;
+  last = c.requires.last;
+}
 
 pub returns-then-is_slot : goal.returns-then-is_slot
 returns-then-is_slot c = finding_here c.loop-i.invariant c.loop-i-test.true (sym c.is_slot.ensures ∙ c.if-is_slot.true)

@@ -12,10 +12,10 @@ slice_bounds-find-end c =
 
 pub find-i-requires : goal.find-i-requires
 find-i-requires c = record {
-      size = ap length c.make_slot.ensures ∙ length-slot _ c.requires.short;
-      slots = search rules;
-      last = search rules;
-    }
+  size = ap length c.make_slot.ensures ∙ length-slot _ c.requires.short;
+  slots = search rules;
+  last = search rules;
+}
 
 pub returns-then-i-count : goal.returns-then-i-count
 returns-then-i-count c =
@@ -33,9 +33,9 @@ slice_bounds-keep-end c =
 
 pub keep-requires : goal.keep-requires
 keep-requires c = record {
-      size = ap length c.make_slot.ensures ∙ length-slot _ c.requires.short;
-      slot = search rules;
-    }
+  size = ap length c.make_slot.ensures ∙ length-slot _ c.requires.short;
+  slot = search rules;
+}
 
 pub returns : goal.returns
 returns c =

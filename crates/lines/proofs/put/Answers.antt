@@ -1,0 +1,23 @@
+-- `lines::put` meets its contract. The loop's invariant: `i` bytes are copied.
+use mathlib.Core.Path.{refl}
+use native.Mathlib.Numerals.{add-one}
+use native.Mathlib.Omega.{arith}
+use Rattle.rewriting.proofs.Copying.{copying_first, copying_length, copying_next, copying_last}
+use Rattle.lines.proofs.Writing.{writes_bytes}
+use Rattle.lines.proofs.put.Goals as goal
+
+pub loop-i-init : goal.loop-i-init
+loop-i-init c = copying_first _ _ _ _ c.requires (omega arith)
+
+pub bounds-line-at : goal.bounds-line-at
+bounds-line-at c =
+    omega (arith, c.loop-i.invariant.room, copying_length c.loop-i.invariant, c.loop-i-test.true)
+
+pub loop-i-preserved : goal.loop-i-preserved
+loop-i-preserved c = rw add-one (copying_next _ _ c.loop-i.invariant c.loop-i-test.true refl refl)
+
+-- NO GOAL same-length
+-- same_length c = copying_length c.before.loop.invariant
+
+pub returns : goal.returns
+returns c = writes_bytes _ _ _ _ (copying_last c.loop-i.invariant c.loop-i-test.false)

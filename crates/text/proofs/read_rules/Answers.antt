@@ -1,0 +1,88 @@
+-- `text::read_rules` meets its contract.
+use mathlib.Core.Path.{refl}
+use Rattle.text.proofs.Writing.{small, refused_1, refused_image, refused_names, text_bad, text_good, good_outcome, good_names, parts}
+use Rattle.text.proofs.read_rules.Goals as goal
+
+pub returns-then-text-gt-TEXT_BYTES : goal.returns-then-text-gt-TEXT_BYTES
+returns-then-text-gt-TEXT_BYTES c =
+    let a = c.args in
+    let p = parts _ _ _ _ (refused_1 a.text.now a.image.now a.names.now c.if-text-gt-TEXT_BYTES.true) in record {
+      answer = p.0;
+      image = p.1.0;
+      names = p.1.1;
+    }
+
+pub returns-then-image-lt-IMAGE_BYTES : goal.returns-then-image-lt-IMAGE_BYTES
+returns-then-image-lt-IMAGE_BYTES c =
+    let a = c.args in
+    let p = parts _ _ _ _ (refused_image a.text.now a.image.now a.names.now c.if-text-gt-TEXT_BYTES.false c.if-image-lt-IMAGE_BYTES.true) in record {
+      answer = p.0;
+      image = p.1.0;
+      names = p.1.1;
+    }
+
+pub returns-then-names-lt-NAMES_BYTES : goal.returns-then-names-lt-NAMES_BYTES
+returns-then-names-lt-NAMES_BYTES c =
+    let a = c.args in
+    let p = parts _ _ _ _ (refused_names a.text.now a.image.now a.names.now c.if-text-gt-TEXT_BYTES.false c.if-image-lt-IMAGE_BYTES.false c.if-names-lt-NAMES_BYTES.true) in record {
+      answer = p.0;
+      image = p.1.0;
+      names = p.1.1;
+    }
+
+pub read_tokens-requires : goal.read_tokens-requires
+read_tokens-requires c = record {
+  symbols = refl;
+  words = refl;
+  contents = refl;
+  bodies = refl;
+}
+
+pub write_image-size-requires : goal.write_image-size-requires
+write_image-size-requires c =
+    let a = c.args in
+    let short = c.if-text-gt-TEXT_BYTES.false in
+    let image_room = c.if-image-lt-IMAGE_BYTES.false in
+    let names_room = c.if-names-lt-NAMES_BYTES.false in
+    let g = text_good a.text.now a.image.now a.names.now short image_room names_room _ _ _ _ _ _
+    c.in-Good.is c.read_tokens.ensures in record {
+      small = small g.sound g.complete g.keeps a.image.now image_room;
+      contents = g.keeps.contents_size_lem;
+      bodies = g.keeps.bodies_size_lem;
+      room = image_room;
+    }
+
+pub returns-in-Bad : goal.returns-in-Bad
+returns-in-Bad c =
+    let a = c.args in
+    let short = c.if-text-gt-TEXT_BYTES.false in
+    let image_room = c.if-image-lt-IMAGE_BYTES.false in
+    let names_room = c.if-names-lt-NAMES_BYTES.false in
+    let p = parts _ _ _ _
+    (text_bad a.text.now a.image.now a.names.now short image_room names_room _ _ _ _ _ _ _ c.in-Bad.is
+    c.read_tokens.ensures) in record {
+      answer = p.0;
+      image = p.1.0;
+      names = p.1.1;
+    }
+
+pub returns-in-Good : goal.returns-in-Good
+returns-in-Good c =
+    let a = c.args in
+    let short = c.if-text-gt-TEXT_BYTES.false in
+    let image_room = c.if-image-lt-IMAGE_BYTES.false in
+    let names_room = c.if-names-lt-NAMES_BYTES.false in
+    let g = text_good a.text.now a.image.now a.names.now short image_room names_room _ _ _ _ _ _
+    c.in-Good.is c.read_tokens.ensures in
+    let w = c.write_image-size.ensures _ _ g.reading g.sound g.complete g.keeps in
+    let p = parts _ _ _ _ (good_outcome a.text.now a.image.now a.names.now short image_room names_room g) in
+    rw (
+      w.0,
+      w.1,
+      c.write_names.ensures,
+      good_names a.text.now a.image.now a.names.now short image_room names_room g,
+    ) (record {
+      answer = p.0;
+      image = p.1.0;
+      names = p.1.1;
+    })
