@@ -1,3 +1,2 @@
 // The worked cases of specs/, computed in proofs/. It has no code.
 #![tactic(auto)]
-

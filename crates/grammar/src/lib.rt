@@ -1,7 +1,6 @@
 // The types that the definitions of specs/ share with the code above. It has no functions.
 #![tactic(auto)]
 
-
 // The longest rule text.
 pub const TEXT_BYTES: usize = 16384;
 

@@ -1,7 +1,6 @@
 // The types that the definitions of specs/ share with the code above. It has no functions.
 #![tactic(auto)]
 
-
 // Document 01's longest image, and its longest table.
 pub const IMAGE_BYTES: usize = 1284;
 

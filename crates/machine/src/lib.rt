@@ -2,7 +2,6 @@
 // them, in the crate monitor.
 #![tactic(auto)]
 
-
 // Document 01's 2,048: the number of bytes and of words of a monitor.
 pub const CAPACITY: usize = 2048;
 

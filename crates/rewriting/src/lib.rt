@@ -1,4 +1,3 @@
 // Rules, occurrences and the plain rewriter: definitions (specs/) and their laws (proofs/). There is no code
 // here; the crates above compute what these definitions say.
 #![tactic(auto)]
-

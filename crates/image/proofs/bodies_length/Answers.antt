@@ -1,7 +1,6 @@
 -- `image::bodies_length` meets its contract: the bodies are what follows the contents.
 use mathlib.Core.Path.{sym}
 use native.Mathlib.Omega.{arith}
-use borrow.Author.Rules.{rules}
 use Rattle.layout.proofs.Places.{contents_within, bodies_behind}
 use Rattle.image.proofs.bodies_length.Goals as goal
 

@@ -2,7 +2,6 @@
 use mathlib.Core.Path.{◌≡◌, sym, ap, ◌∙◌}
 use native.Mathlib.Omega.{arith}
 use mir.Facts.{Fits-widen}
-use borrow.Author.Rules.{rules}
 use Rattle.rewriting.specs.Rules.{rule}
 use Rattle.layout.specs.Image.{kind, read}
 use Rattle.layout.specs.declared.RightSide.{RightSide}

@@ -4,7 +4,6 @@
 use Prim.Native.Nat.{◌+◌, ◌*◌, ◌-◌}
 use mathlib.Core.Path.{◌≡◌, sym, ◌∙◌}
 use mathlib.Core.Bool.{Bool, true, false}
-use mathlib.Core.Logic.{⊎_elim}
 use native.Mathlib.Nat.{sub-zero}
 use native.Mathlib.Omega.{arith}
 use lib.Dec.{eqb}
@@ -12,7 +11,7 @@ use lib.ListN.{get_or, drop}
 use borrow.Author.Tests.{eq-eqb, ne_eqb}
 use Rattle.layout.specs.ImageCheck.{announced}
 use Rattle.layout.proofs.ImageCheck.{announces_end, turn_out, turn_more, turn_on, found_first, found_mark, found_same, found_not, found_all}
-use Rattle.validity.proofs.contents_in_range.Goals.{After-loop-i}
+use Rattle.validity.proofs.contents_in_range.Goals.{After-loop-i, then-image-i-eq1, else-image-i-eq1}
 use Rattle.validity.proofs.contents_in_range.Goals as goal
 
 pub bounds-image-2 : goal.bounds-image-2
@@ -64,9 +63,6 @@ overflow_add-i-in-loop-i c = omega arith
 pub bounds-image-i : goal.bounds-image-i
 bounds-image-i c = omega arith
 
--- NO GOAL overflow-add-i
--- add-i c = omega arith
-
 pub loop-i-smaller : goal.loop-i-smaller
 loop-i-smaller c = omega arith
 
@@ -79,10 +75,10 @@ loop-i-preserved c =
           (turn_on (get_or a.image.now 2 0) a.rules a.image.now l.left l.i (omega arith) (omega arith)
           (omega arith))
           ∙ l.invariant.1,
-      ⊎_elim
-          (λ w. w.1 ∙ found_mark a.image.now l.i w.0.taken)
-          (λ w. w.1 ∙ l.invariant.2 ∙ found_same a.image.now l.i w.0.left)
-          c.if-image-i-eq1.branch,
+      elim c.if-image-i-eq1.branch [
+        | then-image-i-eq1 w ↦ w.found-is ∙ found_mark a.image.now l.i w.if-image-i-eq1.true
+        | else-image-i-eq1 w ↦ w.found-is ∙ l.invariant.2 ∙ found_same a.image.now l.i w.if-image-i-eq1.false
+      ],
     )
 
 -- with no rule left, the contents announce what follows them exactly where no symbol is left
@@ -102,10 +98,10 @@ returns-then-left-eq0 c =
     let a = c.args in
     let l = c.loop-i in
     let over : l.i ≡ a.rules = omega arith in
-    rw over at l.invariant.2 ∙ found_all a.image.now a.rules (all_told (goal.at.returns-then-left-eq0 c).??c true (eq-eqb l.left 0 c.if-left-eq0.true))
+    rw over at l.invariant.2 ∙ found_all a.image.now a.rules (all_told (goal.at.returns-then-left-eq0 c).After-loop-i true (eq-eqb l.left 0 c.if-left-eq0.true))
 
 pub returns : goal.returns
 returns c =
     let a = c.args in
     let l = c.loop-i in
-    found_not a.image.now a.rules (all_told (goal.at.returns c).??c false (ne_eqb l.left 0 c.if-left-eq0.false))
+    found_not a.image.now a.rules (all_told (goal.at.returns c).After-loop-i false (ne_eqb l.left 0 c.if-left-eq0.false))

@@ -1,0 +1,29 @@
+-- `table::compare::led_to` meets its contract: it reads the parent's row at the node's symbol.
+use Prim.Native.Nat.{◌+◌, ◌*◌, ◌<◌}
+use native.Mathlib.Omega.{arith}
+use lib.ListN.{length}
+use Rattle.table.proofs.compare.led_to.Goals.{After-word-a}
+use Rattle.table.proofs.compare.led_to.Goals as goal
+
+-- the word that is read stands in the rows
+inside : (c : After-word-a)
+    → c.word-p.result * c.args.s + c.word-a.result
+    < length c.args.rows.now
+inside c =
+    rw (c.word-a.ensures, c.word-p.ensures) c.requires.row
+
+pub overflow_mul-p : goal.overflow_mul-p
+overflow_mul-p c = omega (arith, inside c)
+
+pub overflow_add-p : goal.overflow_add-p
+overflow_add-p c = omega (arith, inside c)
+
+pub offset_bounds-rows-p : goal.offset_bounds-rows-p
+offset_bounds-rows-p c = omega (arith, inside c)
+
+pub bounds-rows-p : goal.bounds-rows-p
+bounds-rows-p c = inside (goal.at.bounds-rows-p c).After-word-a
+
+pub returns : goal.returns
+returns c =
+    rw (c.word.ensures, c.word-a.ensures, c.word-p.ensures)

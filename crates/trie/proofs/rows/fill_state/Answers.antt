@@ -1,0 +1,74 @@
+-- `table::rows::fill_state` meets its contract: by the failure state, whose own row and match word are done.
+use Prim.Native.Nat.{ℕ, ◌+◌, ◌*◌, ◌<◌}
+use mathlib.Core.Path.{◌≡◌, sym, ◌∙◌, ap}
+use mathlib.Core.Bool.{true}
+use native.Mathlib.Omega.{arith}
+use lib.ListN.{length}
+use Rattle.rewriting.specs.Rules.{in_range}
+use Rattle.layout.specs.Image.{read}
+use Rattle.layout.specs.Words.{root}
+use Rattle.layout.proofs.Image.{valid-in_range}
+use Rattle.trie.specs.Nodes.{parent, failure_by}
+use Rattle.trie.proofs.Turns.{nodes_within, failure_place, failure_within, filling_more}
+use Rattle.trie.proofs.rows.fill_state.Goals.{After-failure_of-f, After-shared_slice_known-1}
+use Rattle.trie.proofs.rows.fill_state.Goals as goal
+
+in_range_lem : (c : After-shared_slice_known-1) → in_range (read c.args.image.now) ≡ true
+in_range_lem c = valid-in_range c.args.image.now c.requires.image_value
+
+-- it is not the root
+other : (c : After-shared_slice_known-1) → c.args.q ≡ root (read c.args.image.now).rules → ⊥
+other c e = c.requires.state.0 (e ∙ sym c.requires.root)
+
+bounds : (c : After-shared_slice_known-1)
+    → (8 * c.args.q + 7 < length c.args.trie.now) × (8 * parent c.args.trie.now c.args.q + 7 < length c.args.trie.now)
+bounds c =
+    nodes_within (read c.args.image.now) c.args.q c.args.trie.now c.args.rows.now c.requires.filling (in_range_lem c) (other c)
+    c.requires.state.1
+
+-- the failure state, with the number of symbols that was read
+found : (c : After-failure_of-f)
+    → c.failure_of-f.result
+    ≡ failure_by c.args.trie.now
+    c.args.rows.now
+    (read c.args.image.now).symbols
+    (root (read c.args.image.now).rules)
+    c.args.q
+found c =
+    c.failure_of-f.ensures
+    ∙ ap (λ (n : ℕ). failure_by c.args.trie.now c.args.rows.now n c.args.root c.args.q)
+    c.symbols-s.ensures
+    ∙ ap
+    (λ (n : ℕ). failure_by c.args.trie.now c.args.rows.now (read c.args.image.now).symbols n c.args.q)
+    c.requires.root
+
+pub failure_of-f-requires : goal.failure_of-f-requires
+failure_of-f-requires c = record {
+  node = omega (arith, bounds (goal.at.failure_of-f-requires c).After-shared_slice_known-1);
+  up = omega (arith, bounds (goal.at.failure_of-f-requires c).After-shared_slice_known-1);
+  row = λ high.
+      rw c.symbols-s.ensures
+      (failure_place (read c.args.image.now) c.args.q c.args.trie.now c.args.rows.now
+      c.requires.filling (in_range_lem (goal.at.failure_of-f-requires c).After-shared_slice_known-1) (other (goal.at.failure_of-f-requires c).After-shared_slice_known-1) c.requires.state.1 (λ e. high (e ∙ sym c.requires.root)));
+}
+
+pub note-requires : goal.note-requires
+note-requires c =
+    let room = failure_within (read c.args.image.now) c.args.q c.args.trie.now c.args.rows.now
+    c.requires.filling (in_range_lem (goal.at.note-requires c).After-shared_slice_known-1) (other (goal.at.note-requires c).After-shared_slice_known-1) c.requires.state.1 c.failure_of-f.result (found (goal.at.note-requires c).After-failure_of-f) in record {
+      own = omega (arith, bounds (goal.at.note-requires c).After-shared_slice_known-1);
+      other = room.0;
+      small = room.1;
+    }
+
+pub merge-requires : goal.merge-requires
+merge-requires c =
+    let room = failure_within (read c.args.image.now) c.args.q c.args.trie.now c.args.rows.now
+    c.requires.filling (in_range_lem (goal.at.merge-requires c).After-shared_slice_known-1) (other (goal.at.merge-requires c).After-shared_slice_known-1) c.requires.state.1 c.failure_of-f.result (found (goal.at.merge-requires c).After-failure_of-f) in
+    record { own = rw c.symbols-s.ensures room.2; other = rw c.symbols-s.ensures room.3 }
+
+pub returns : goal.returns
+returns c =
+    filling_more (read c.args.image.now) c.args.q c.args.trie.now c.args.rows.now c.requires.filling
+    (in_range_lem (goal.at.returns c).After-shared_slice_known-1) (other (goal.at.returns c).After-shared_slice_known-1) c.requires.state.1 c.note.new.trie c.merge.new.rows c.failure_of-f.result
+    (found (goal.at.returns c).After-failure_of-f) c.note.ensures (rw c.symbols-s.ensures at c.merge.ensures)
