@@ -12,7 +12,7 @@ use Rattle.layout.specs.Image.{body}
 use Rattle.parser.specs.declared.Reader.{Reader}
 use Rattle.parser.specs.declared.Taken as taken_as
 use Rattle.parser.specs.declared.Taken.TheVariants as taken
-use Rattle.parser.specs.declared.Finished as IsFinished_as
+use Rattle.parser.specs.declared.Finished as finished_as
 use Rattle.parser.specs.declared.Finished.TheVariants as finished
 use Rattle.grammar.specs.Tokens.{Token, token_of, runs_from, runs}
 use Rattle.grammar.specs.Names.{slots}
@@ -79,7 +79,7 @@ module _ {text : List ℕ} {r : Reader} {a b c d : List ℕ} {at : ℕ} (g : Goi
 
   -- no run is left
   pub going_ended :
-      (answer : IsFinished_as.Finished) → runs_from true at (drop at text) ≡ []
+      (answer : finished_as.Finished) → runs_from true at (drop at text) ≡ []
       → FinishedIs (ended (length text) g.reading) answer a b c d → FinishedIs (read_text text) answer a b c d
   unfolding read_runs
   going_ended answer e h =

@@ -10,7 +10,7 @@ use Rattle.parser.specs.declared.Place.TheVariants as places
 use Rattle.parser.specs.declared.Reader.{Reader}
 use Rattle.parser.specs.declared.Taken as taken_as
 use Rattle.parser.specs.declared.Taken.TheVariants as taken
-use Rattle.parser.specs.declared.Finished as IsFinished_as
+use Rattle.parser.specs.declared.Finished as finished_as
 use Rattle.parser.specs.declared.Finished.TheVariants as finished
 use Rattle.grammar.specs.Names.{slots}
 use Rattle.grammar.specs.Grammar.{
@@ -144,7 +144,7 @@ pub record Closed (p : Place) : Type 0 where
   pub right : side_of p ≡ length_or_verdict (rule_at p).right
 
 -- how the reading of a text ended
-abbrev pub FinishedIs : Result → IsFinished_as.Finished → List ℕ → List ℕ → List ℕ → List ℕ → Type 0
+abbrev pub FinishedIs : Result → finished_as.Finished → List ℕ → List ℕ → List ℕ → List ℕ → Type 0
 FinishedIs (Good s) (finished.Good r) symbols words contents bodies =
     Sound s × (s.place ≡ Between) × Keeps s r symbols words contents bodies
 FinishedIs (Good s) (finished.Bad m q) symbols words contents bodies = ⊥

@@ -15,7 +15,7 @@ use Rattle.layout.specs.Refusals.{refusal}
 use Rattle.layout.proofs.Image.{length-contents, length_image}
 use Rattle.parser.specs.declared.Reader.{Reader}
 use Rattle.grammar.specs.declared.Read.TheVariants as read
-use Rattle.parser.specs.declared.Finished as IsFinished_as
+use Rattle.parser.specs.declared.Finished as finished_as
 use Rattle.parser.specs.declared.Finished.TheVariants as finished
 use Rattle.grammar.specs.declared.Read.{Read}
 use Rattle.grammar.specs.Grammar.{Place, Between, Reading, rule_set_of}
@@ -173,7 +173,7 @@ module _ (text image names : List ℕ) where
     unfolding read_of read_checks refusal unless
     passed = rw (le-leb (length text) 16384 fits, le-leb 1284 (length image) image_room, le-leb 1200 (length names) names_room)
 
-    pub text_bad : (a b c d : List ℕ) (n place : ℕ) (answer : IsFinished_as.Finished) → answer ≡ finished.Bad n place
+    pub text_bad : (a b c d : List ℕ) (n place : ℕ) (answer : finished_as.Finished) → answer ≡ finished.Bad n place
         → FinishedIs (read_text text) answer a b c d
         → read_of text image names ≡ record { answer = read.Refused n place; image = image; names = names }
     unfolding written
@@ -192,7 +192,7 @@ module _ (text image names : List ℕ) where
       pub complete : reading.place ≡ Between
       pub keeps : Keeps reading r a b c d
 
-    pub text_good : (r : Reader) (a b c d : List ℕ) (answer : IsFinished_as.Finished) → answer ≡ finished.Good r
+    pub text_good : (r : Reader) (a b c d : List ℕ) (answer : finished_as.Finished) → answer ≡ finished.Good r
         → FinishedIs (read_text text) answer a b c d → IsGood r a b c d
     text_good r a b c d answer told h = go (read_text text) refl (rw told at h)
       where

@@ -18,11 +18,11 @@ fn read_full<R: Read>(from: &mut R, buf: &mut [u8]) -> io::Result<usize>
 {
     let mut done = 0;
     while done < buf.len() {
-        let n = from.read(&mut buf[done..])?;
-        if n == 0 {
+        let got = from.read(&mut buf[done..])?;
+        if got == 0 {
             break;
         }
-        done += n;
+        done += got;
     }
     Ok(done)
 }
