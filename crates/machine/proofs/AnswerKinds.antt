@@ -26,3 +26,12 @@ accepted Answer.Spent h = refl
 accepted Answer.Full h = refl
 accepted (Answer.Verdict v) h = refl
 accepted (Answer.Refused n) h = absurd (first_four 4 h (omega arith))
+
+-- an answer that is no refusal
+pub not_refused : (a : Answer) → ((n : ℕ) → a ≡ Answer.Refused n → ⊥) → refused_by a ≡ none
+unfolding refused_by
+not_refused Answer.Quiet h = refl
+not_refused Answer.Spent h = refl
+not_refused Answer.Full h = refl
+not_refused (Answer.Verdict v) h = refl
+not_refused (Answer.Refused n) h = absurd (h n refl)
