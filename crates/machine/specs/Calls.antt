@@ -69,7 +69,7 @@ is_none (Standing.Verdict v) = false
 unfoldable pub verdict_check : Head → Check
 verdict_check head = (is_none head.verdict, 14)
 
--- Behind those of lentChecks, offer refuses "12, not an event; 13 ..; 14 ..; 15, a + w is 2,048", and go on "13, 14".
+-- Behind those of lent_checks, offer refuses "12, not an event; 13 ..; 14 ..; 15, a + w is 2,048", and go on "13, 14".
 unfoldable pub call_checks : RuleSet → ℕ → Head → Call → List Check
 call_checks set capacity head (Offer event fuel) =
     (ltb event set.events, 12)

@@ -1,4 +1,4 @@
--- What `inRange` says of a rule set, number by number.
+-- What `in_range` says of a rule set, number by number.
 -- Assumes nothing.
 use Prim.Native.Nat.{ℕ, ◌≤◌, ◌<◌}
 use mathlib.Core.Path.{◌≡◌, refl}

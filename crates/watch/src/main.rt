@@ -2,25 +2,42 @@
 // writes comes from `report`; reading and writing are left here.
 #![tactic(auto)]
 
-ghost use Rattle.std.specs.Prelude.{◌≤◌};
+ghost use Rattle.std.specs.Prelude.{◌≤◌, IfOk, length};
 ghost use Rattle.printing.specs.Turns.{line_most};
 
 use grammar::NAMES_BYTES;
 use layout::{IMAGE_BYTES, TABLE_WORDS};
-use libc::{STDIN_FILENO, STDOUT_FILENO};
 use machine::CAPACITY;
 use report::{Begun, INPUT_BYTES, LINE_BYTES, Walk};
+use std::io;
+use std::io::{Read, Write};
+
+// Reads until the buffer is full or the input ends, and tells how many bytes there are.
+fn read_full<R: Read>(from: &mut R, buf: &mut [u8]) -> io::Result<usize>
+    ensures { IfOk result (λ n. n ≤ length buf.old) }
+{
+    let mut done = 0;
+    while done < buf.len() {
+        let n = from.read(&mut buf[done..])?;
+        if n == 0 {
+            break;
+        }
+        done += n;
+    }
+    Ok(done)
+}
 
 // Writes the first n bytes of the line.
-fn write_line(line: &[u8; LINE_BYTES], n: usize) -> bool
+fn write_line<W: Write>(to: &mut W, line: &[u8; LINE_BYTES], n: usize) -> io::Result<()>
     requires { n ≤ line_most }
 {
     let all: &[u8] = line;
-    io::write_all(STDOUT_FILENO, &all[..n])
+    to.write_all(&all[..n])
 }
 
 // Writes the lines of the events, up to the last or to the first that cannot be written.
-fn write_lines(
+fn write_lines<W: Write>(
+    to: &mut W,
     first: Walk,
     input: &[u8],
     image: &[u8; IMAGE_BYTES],
@@ -29,7 +46,7 @@ fn write_lines(
     bytes: &mut [u8; CAPACITY],
     words: &mut [u16; CAPACITY],
     line: &mut [u8; LINE_BYTES],
-) {
+) -> io::Result<()> {
     let mut walk = first;
     loop {
         let next = walk.next(input, image, table, names, bytes, words, line);
@@ -37,23 +54,22 @@ fn write_lines(
         if n == 0 {
             break;
         }
-        if !write_line(line, n) {
-            break;
-        }
+        write_line(to, line, n)?;
         walk = next.walk;
     }
+    Ok(())
 }
 
-fn main() {
+fn main(rt: HostRuntime) -> io::Result<()> {
     let mut input = [0u8; INPUT_BYTES + 1];
-    let n = io::read_full(STDIN_FILENO, &mut input);
+    let n = read_full(&mut rt.stdin(), &mut input)?;
     let mut image = [0u8; IMAGE_BYTES];
     let mut names = [0u8; NAMES_BYTES];
     let mut table = [0u16; TABLE_WORDS];
     let mut bytes = [0u8; CAPACITY];
     let mut words = [0u16; CAPACITY];
     let mut line = [0u8; LINE_BYTES];
-    match report::begin(
+    let begun = report::begin(
         &input[..n],
         &mut image,
         &mut names,
@@ -61,21 +77,19 @@ fn main() {
         &mut bytes,
         &mut words,
         &mut line,
-    ) {
-        Begun::Message(size) => {
-            write_line(&line, size);
-        }
-        Begun::Events(walk) => {
-            write_lines(
-                walk,
-                &input[..n],
-                &image,
-                &table,
-                &names,
-                &mut bytes,
-                &mut words,
-                &mut line,
-            );
-        }
+    );
+    match begun {
+        Begun::Message(size) => write_line(&mut rt.stdout(), &line, size),
+        Begun::Events(walk) => write_lines(
+            &mut rt.stdout(),
+            walk,
+            &input[..n],
+            &image,
+            &table,
+            &names,
+            &mut bytes,
+            &mut words,
+            &mut line,
+        ),
     }
 }

@@ -21,5 +21,6 @@ pub returns : goal.returns
 unfolding refused_as
 returns c =
     rw c.empty-2.ensures
-    (cleared document_capacity c.args.bytes.now c.args.words.now _ _ c.if-bytes-ne-CAPACITY.false c.if-words-ne-CAPACITY.false c.clear.ensures.bytes
+    (cleared document_capacity c.args.bytes.now c.args.words.now _ _ c.if-bytes-ne-CAPACITY.false c.if-words-ne-CAPACITY.false
+    c.clear.ensures.bytes
     c.clear.ensures.words)

@@ -1,4 +1,4 @@
--- `text::begin` meets its contract.
+-- `parser::begin` meets its contract.
 use mathlib.Core.Path.{refl, sym, ap, ◌∙◌}
 use mathlib.Core.List.{flat_map}
 use native.Mathlib.Omega.{arith}

@@ -1,4 +1,4 @@
--- `text::ended` meets its contract.
+-- `parser::ended` meets its contract.
 use mathlib.Core.Path.{sym, ◌∙◌}
 use Rattle.parser.proofs.Places.{place_at, incomplete}
 use Rattle.parser.proofs.Keeping.{place_number}
@@ -10,4 +10,5 @@ returns-in-Between c =
     λ a b z d s sound k. ended_good c.args.size sound k (place_at _ s.place (sym (place_number s k.numbers) ∙ c.in-Between.is))
 
 pub returns-in_default : goal.returns-in_default
-returns-in_default c = λ a b z d s sound k. ended_early c.args.size sound k (incomplete s.place (rw (place_number s k.numbers) at c.in_default.not-Between))
+returns-in_default c = λ a b z d s sound k. ended_early c.args.size sound k
+    (incomplete s.place (rw (place_number s k.numbers) at c.in_default.not-Between))

@@ -1,4 +1,4 @@
--- `text::read_tokens` meets its contract. The outer loop's invariant: what was read before `at` is kept, and the rest decides. The
+-- `parser::read_tokens` meets its contract. The outer loop's invariant: what was read before `at` is kept, and the rest decides. The
 -- inner one's: the bytes of the name before `end` may be in one, and those behind decide.
 use Prim.Native.Nat.{◌+◌}
 use mathlib.Core.Path.{refl, sym, ◌∙◌}
@@ -213,7 +213,9 @@ returns-else-class-eq-SEPARATOR c =
     let d = leading t (l.at + f.result) _ w c.lead_of.ensures in
     let e = c.loop-end in
     let n = next-run t l.at l.invariant.inside f.result f.ensures c.if-text-start.false _ refl in
-    no_token l.invariant n _ _ _ _ (run_no_token d (scanning_breaks e.invariant c.class_at-class.ensures c.if-class-ne-NAME_BYTE.true c.if-class-eq-SEPARATOR.false))
+    no_token l.invariant n _ _ _ _
+    (run_no_token d
+    (scanning_breaks e.invariant c.class_at-class.ensures c.if-class-ne-NAME_BYTE.true c.if-class-eq-SEPARATOR.false))
 
 pub returns-in-Breaks : goal.returns-in-Breaks
 returns-in-Breaks c =

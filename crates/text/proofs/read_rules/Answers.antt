@@ -15,7 +15,8 @@ returns-then-text-gt-TEXT_BYTES c =
 pub returns-then-image-lt-IMAGE_BYTES : goal.returns-then-image-lt-IMAGE_BYTES
 returns-then-image-lt-IMAGE_BYTES c =
     let a = c.args in
-    let p = parts _ _ _ _ (refused_image a.text.now a.image.now a.names.now c.if-text-gt-TEXT_BYTES.false c.if-image-lt-IMAGE_BYTES.true) in record {
+    let p = parts _ _ _ _
+    (refused_image a.text.now a.image.now a.names.now c.if-text-gt-TEXT_BYTES.false c.if-image-lt-IMAGE_BYTES.true) in record {
       answer = p.0;
       image = p.1.0;
       names = p.1.1;
@@ -24,7 +25,9 @@ returns-then-image-lt-IMAGE_BYTES c =
 pub returns-then-names-lt-NAMES_BYTES : goal.returns-then-names-lt-NAMES_BYTES
 returns-then-names-lt-NAMES_BYTES c =
     let a = c.args in
-    let p = parts _ _ _ _ (refused_names a.text.now a.image.now a.names.now c.if-text-gt-TEXT_BYTES.false c.if-image-lt-IMAGE_BYTES.false c.if-names-lt-NAMES_BYTES.true) in record {
+    let p = parts _ _ _ _
+    (refused_names a.text.now a.image.now a.names.now c.if-text-gt-TEXT_BYTES.false c.if-image-lt-IMAGE_BYTES.false
+    c.if-names-lt-NAMES_BYTES.true) in record {
       answer = p.0;
       image = p.1.0;
       names = p.1.1;

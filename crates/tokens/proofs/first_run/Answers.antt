@@ -1,4 +1,4 @@
--- `text::first_run` meets its contract: the two counts are those of the first run.
+-- `tokens::first_run` meets its contract: the two counts are those of the first run.
 use native.Mathlib.Omega.{arith}
 use Rattle.grammar.proofs.Runs.{run_from, run_to, run_first}
 use Rattle.tokens.proofs.first_run.Goals as goal

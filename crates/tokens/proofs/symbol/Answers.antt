@@ -1,4 +1,4 @@
--- `text::symbol` meets its contract.
+-- `tokens::symbol` meets its contract.
 use mathlib.Core.Path.{sym, ap, ◌∙◌}
 use lib.ListN.{length}
 use borrow.Author.Rules.{rules}

@@ -21,12 +21,12 @@ flat-head-requires c =
 
 pub in_turn-r-requires : goal.in_turn-r-requires
 in_turn-r-requires c = record {
-      lent = rw c.flat-head.ensures.head c.requires.lent;
-      starts = c.requires.starts;
-      counts = c.flat-head.ensures.counts;
-      few = omega arith;
-      room = omega arith;
-    }
+  lent = rw c.flat-head.ensures.head c.requires.lent;
+  starts = c.requires.starts;
+  counts = c.flat-head.ensures.counts;
+  few = omega arith;
+  room = omega arith;
+}
 
 pub returns-then-r-ne0 : goal.returns-then-r-ne0
 returns-then-r-ne0 c =

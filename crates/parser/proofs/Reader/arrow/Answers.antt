@@ -1,4 +1,4 @@
--- `text::Reader::arrow` meets its contract.
+-- `parser::Reader::arrow` meets its contract.
 use mathlib.Core.Path.{refl, sym, ◌∙◌}
 use Rattle.parser.proofs.Places.{place_at, arrow_elsewhere}
 use Rattle.parser.proofs.Keeping.{place_number}

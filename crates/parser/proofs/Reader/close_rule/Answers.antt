@@ -1,4 +1,4 @@
--- `text::Reader::close_rule` meets its contract.
+-- `parser::Reader::close_rule` meets its contract.
 use Prim.Native.Nat.{◌*◌, ◌/◌, ◌%◌}
 use native.Mathlib.Omega.{arith}
 use lib.ListN.{length-set}

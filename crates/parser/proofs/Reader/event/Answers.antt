@@ -1,4 +1,4 @@
--- `text::Reader::event` meets its contract.
+-- `parser::Reader::event` meets its contract.
 use mathlib.Core.Path.{sym, ◌∙◌}
 use Rattle.parser.proofs.Places.{place_at}
 use Rattle.grammar.proofs.Slots.{name_short}

@@ -1,4 +1,4 @@
--- `text::Reader::first` meets its contract.
+-- `parser::Reader::first` meets its contract.
 use mathlib.Core.Path.{sym, ◌∙◌}
 use Rattle.parser.proofs.Places.{place_at}
 use Rattle.parser.proofs.Keeping.{place_number}

@@ -1,4 +1,4 @@
--- `text::Reader::left_symbol` meets its contract.
+-- `parser::Reader::left_symbol` meets its contract.
 use mathlib.Core.List.{[]}
 use native.Mathlib.Omega.{arith}
 use Rattle.grammar.specs.Grammar.{InLeft}

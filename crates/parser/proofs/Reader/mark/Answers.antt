@@ -1,4 +1,4 @@
--- `text::Reader::mark` meets its contract.
+-- `parser::Reader::mark` meets its contract.
 use mathlib.Core.Path.{refl, sym, ◌∙◌}
 use Rattle.parser.proofs.Places.{place_at, mark_elsewhere}
 use Rattle.parser.proofs.Keeping.{place_number}

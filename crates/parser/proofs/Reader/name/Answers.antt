@@ -1,4 +1,4 @@
--- `text::Reader::name` meets its contract.
+-- `parser::Reader::name` meets its contract.
 use mathlib.Core.Path.{refl, sym, ◌∙◌}
 use mathlib.Core.Bool.{true, false}
 use native.Mathlib.Omega.{arith}

@@ -1,4 +1,4 @@
--- `text::Reader::right_word` meets its contract.
+-- `parser::Reader::right_word` meets its contract.
 use mathlib.Core.Path.{sym, ◌∙◌}
 use Rattle.parser.proofs.Places.{place_at}
 use Rattle.grammar.proofs.Slots.{name_short}

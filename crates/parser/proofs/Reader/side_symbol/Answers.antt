@@ -1,4 +1,4 @@
--- `text::Reader::side_symbol` meets its contract.
+-- `parser::Reader::side_symbol` meets its contract.
 use native.Mathlib.Omega.{arith}
 use Rattle.grammar.proofs.Slots.{name_short}
 use Rattle.parser.proofs.Keeping.{symbols_number}

@@ -1,4 +1,4 @@
--- `text::Reader::stop` meets its contract.
+-- `parser::Reader::stop` meets its contract.
 use mathlib.Core.Path.{refl, sym, ◌∙◌}
 use native.Mathlib.Omega.{arith}
 use Rattle.parser.proofs.Places.{place_at, stop_elsewhere}

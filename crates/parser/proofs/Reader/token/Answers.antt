@@ -1,4 +1,4 @@
--- `text::Reader::token` meets its contract.
+-- `parser::Reader::token` meets its contract.
 use mathlib.Core.Path.{refl}
 use Rattle.grammar.specs.Grammar.{after_run, after_token}
 use Rattle.tokens.specs.Scanned.{token_as}

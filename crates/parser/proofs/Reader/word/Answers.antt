@@ -1,4 +1,4 @@
--- `text::Reader::word` meets its contract.
+-- `parser::Reader::word` meets its contract.
 use mathlib.Core.Path.{refl}
 use native.Mathlib.Omega.{arith}
 use Rattle.parser.proofs.Places.{word_elsewhere}

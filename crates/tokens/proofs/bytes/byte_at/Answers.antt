@@ -1,4 +1,4 @@
--- `text::tokens::byte_at` meets its contract.
+-- `tokens::bytes::byte_at` meets its contract.
 use mathlib.Core.Path.{sym}
 use lib.ListN.{get_or-eq_default}
 use Rattle.tokens.proofs.RunBytes.{byte_here}

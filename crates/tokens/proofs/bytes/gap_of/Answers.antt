@@ -1,4 +1,4 @@
--- `text::tokens::gap_of` meets its contract. The loop's invariant: the separators are counted up to byte i.
+-- `tokens::bytes::gap_of` meets its contract. The loop's invariant: the separators are counted up to byte i.
 use mathlib.Core.Path.{sym, ◌∙◌}
 use native.Mathlib.Omega.{arith}
 use Rattle.grammar.proofs.Runs.{gap_stops, gap_passes, gap_ends}

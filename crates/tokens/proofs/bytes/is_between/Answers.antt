@@ -1,4 +1,4 @@
--- `text::tokens::is_between` meets its contract.
+-- `tokens::bytes::is_between` meets its contract.
 use Rattle.tokens.proofs.ByteTests.{between_from, between_before}
 use Rattle.tokens.proofs.bytes.is_between.Goals as goal
 

@@ -1,4 +1,4 @@
--- `text::tokens::is_letter` meets its contract: a law for each way out.
+-- `tokens::bytes::is_letter` meets its contract: a law for each way out.
 use mathlib.Core.Path.{sym, ◌∙◌}
 use Rattle.tokens.proofs.ByteTests.{letter_large, letter_small}
 use Rattle.tokens.proofs.bytes.is_letter.Goals as goal

@@ -1,4 +1,4 @@
--- `text::tokens::is_same` meets its contract. The loop's invariant: the bytes before i are compared, and equal.
+-- `tokens::bytes::is_same` meets its contract. The loop's invariant: the bytes before i are compared, and equal.
 use mathlib.Core.Path.{refl}
 use native.Mathlib.Omega.{arith}
 use Rattle.tokens.proofs.Same.{same_lengths, same_not, same_more, same_all}

@@ -1,4 +1,4 @@
--- `text::tokens::is_separator` meets its contract: a law for each way out.
+-- `tokens::bytes::is_separator` meets its contract: a law for each way out.
 use Rattle.tokens.proofs.ByteTests.{separator-space, separator_tab, separator_cr, separator_else}
 use Rattle.tokens.proofs.bytes.is_separator.Goals as goal
 

@@ -1,4 +1,4 @@
--- `text::tokens::kind_of` meets its contract: a law for each way out.
+-- `tokens::bytes::kind_of` meets its contract: a law for each way out.
 use mathlib.Core.Path.{sym, ◌∙◌}
 use mathlib.Core.Bool.{true, false}
 use native.Mathlib.Omega.{arith}

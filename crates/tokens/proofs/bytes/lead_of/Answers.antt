@@ -1,4 +1,4 @@
--- `text::tokens::lead_of` meets its contract: a law for each way out.
+-- `tokens::bytes::lead_of` meets its contract: a law for each way out.
 use mathlib.Core.Path.{sym, ◌∙◌}
 use Rattle.tokens.proofs.ByteTests.{lead-hash, lead-stop, lead-mark, lead-none, lead-arrow, lead-dash}
 use Rattle.tokens.proofs.bytes.lead_of.Goals as goal

@@ -1,4 +1,4 @@
--- `text::tokens::unbroken_length` meets its contract. The loop's invariant: the bytes before the first separator are counted up
+-- `tokens::bytes::unbroken_length` meets its contract. The loop's invariant: the bytes before the first separator are counted up
 use mathlib.Core.Path.{sym, ◌∙◌}
 use native.Mathlib.Omega.{arith}
 use Rattle.grammar.proofs.Runs.{unbroken_stops, unbroken_passes, unbroken-ends}

@@ -1,4 +1,4 @@
--- `text::names::find` meets its contract. The loop's invariant: what is looked for is `i` slots on.
+-- `tokens::names::find` meets its contract. The loop's invariant: what is looked for is `i` slots on.
 use mathlib.Core.Path.{sym, ◌∙◌}
 use Rattle.grammar.proofs.Slots.{finding_first, finding_inside, finding_here, finding_later, finding_none}
 use Rattle.tokens.proofs.names.find.Goals as goal

@@ -1,4 +1,4 @@
--- `text::names::is_same_slot` meets its contract. The loop's invariant: `same` says whether the bytes before `i` are equal.
+-- `tokens::names::is_same_slot` meets its contract. The loop's invariant: `same` says whether the bytes before `i` are equal.
 use mathlib.Core.Path.{sym, ◌∙◌}
 use native.Mathlib.Omega.{arith}
 use lib.ListN.{length-drop}

@@ -1,4 +1,4 @@
--- `text::names::is_slot` meets its contract.
+-- `tokens::names::is_slot` meets its contract.
 use mathlib.Core.Path.{sym, ◌∙◌}
 use lib.ListN.{drop}
 use lib.Seq.{get_or-drop}

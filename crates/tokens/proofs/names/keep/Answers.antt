@@ -1,4 +1,4 @@
--- `text::names::keep` meets its contract. The loop's invariant: `i` bytes of the slot are copied.
+-- `tokens::names::keep` meets its contract. The loop's invariant: `i` bytes of the slot are copied.
 use mathlib.Core.Path.{refl}
 use native.Mathlib.Numerals.{add-one}
 use native.Mathlib.Omega.{arith}

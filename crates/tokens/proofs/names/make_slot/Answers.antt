@@ -1,4 +1,4 @@
--- `text::names::make_slot` meets its contract. The loop's invariant: `i` bytes of the name are copied.
+-- `tokens::names::make_slot` meets its contract. The loop's invariant: `i` bytes of the name are copied.
 use mathlib.Core.Path.{refl, ◌∙◌}
 use native.Mathlib.Numerals.{add-one}
 use native.Mathlib.Omega.{arith}

@@ -1,4 +1,4 @@
--- `text::names::number_of` meets its contract.
+-- `tokens::names::number_of` meets its contract.
 use mathlib.Core.Path.{sym, ap, ◌∙◌}
 use lib.ListN.{length}
 use borrow.Author.Rules.{rules}
@@ -40,4 +40,5 @@ keep-requires c = record {
 pub returns : goal.returns
 returns c =
     λ most names kept all_kept few all_named named. rw c.keep.ensures
-    (number_new most names _ _ _ _ _ kept all_kept few all_named named c.make_slot.ensures c.find-i.ensures c.if-i-count.false c.if-area-at.false)
+    (number_new most names _ _ _ _ _ kept all_kept few all_named named c.make_slot.ensures c.find-i.ensures c.if-i-count.false
+    c.if-area-at.false)

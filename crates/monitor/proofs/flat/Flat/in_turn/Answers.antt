@@ -65,12 +65,11 @@ bounds-table-1 c =
     omega (arith, header s)
 
 pub loop-k-init : goal.loop-k-init
-loop-k-init c =
-    (
-      rw c.requires.counts
-          (offering_first _ _ _ _ (offers_or_goes_on c.args.offering c.args.events.now c.args.fuel) _ c.requires.lent),
-      λ j e. absurd (omega arith),
-    )
+loop-k-init c = (
+  rw c.requires.counts
+      (offering_first _ _ _ _ (offers_or_goes_on c.args.offering c.args.events.now c.args.fuel) _ c.requires.lent),
+  λ j e. absurd (omega arith),
+)
 
 pub bounds-events-k : goal.bounds-events-k
 bounds-events-k c =
@@ -111,7 +110,7 @@ call-head-requires c =
       width = c.word-width.ensures;
       accepted = answered_passed _ (sym c.refusal.ensures ∙ c.in-Passed.is);
       sums = offering_sums c.loop-k.invariant.0 (room s) (rw (calls_length offering events fuel) more) fuel (omega (arith, c.ranges.fuel))
-                  (few s);
+          (few s);
     }
 
 pub overflow_cast-answers : goal.overflow_cast-answers

@@ -24,13 +24,12 @@ returns-then-self-eq0 c =
     }
 
 pub loop-left-init : goal.loop-left-init
-loop-left-init c =
-    (
-      omega (arith, c.if-self-eq0.false),
-      refl,
-      running_first c.args.image.now c.args.table.now c.args.bytes.now c.args.words.now c.args.fuel
-          (counts_in c.args.self) (active_in c.args.self) c.requires.lent,
-    )
+loop-left-init c = (
+  omega (arith, c.if-self-eq0.false),
+  refl,
+  running_first c.args.image.now c.args.table.now c.args.bytes.now c.args.words.now c.args.fuel
+      (counts_in c.args.self) (active_in c.args.self) c.requires.lent,
+)
 
 pub ended-requires-then-left-eq0 : goal.ended-requires-then-left-eq0
 ended-requires-then-left-eq0 c =
@@ -67,7 +66,9 @@ pub returns-then-next-eq-FULL : goal.returns-then-next-eq-FULL
 unfolding answer_number
 returns-then-next-eq-FULL c =
     rw (c.ended-then-next-eq-FULL.ensures, c.loop-left.invariant.1) record {
-      outcome = full_ends c.loop-left.invariant.2 refl c.loop-left.invariant.0 c.if-left-eq0.false (stepped_from c.step-next.result c.step-next.new.bytes c.step-next.new.words) (is_full _ c.if-next-eq-FULL.true) c.step-next.ensures.tried;
+      outcome = full_ends c.loop-left.invariant.2 refl c.loop-left.invariant.0 c.if-left-eq0.false
+          (stepped_from c.step-next.result c.step-next.new.bytes c.step-next.new.words)
+          (is_full _ c.if-next-eq-FULL.true) c.step-next.ensures.tried;
       number = refl;
     }
 

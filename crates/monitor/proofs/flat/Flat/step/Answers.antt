@@ -81,15 +81,15 @@ rewrite-rewritten-requires c =
       lent = c.requires.lent;
       starts = c.requires.starts;
       next = (
-          (one s).0,
-          (one s).1,
-          (one s).2,
-          some_match _ _
-              (match_is capacity image table (given s) c.requires.lent (one s).0 (one s).1 (one s).2 _
-              (next-is capacity image table (given s) c.requires.lent (one s).0 (one s).1 (one s).2 _ _ _
-              c.word_before-q.ensures (symbol s) (rw (c.requires.rows, c.requires.width) at c.next_at-next.ensures)) _
-              c.match_word-matched.ensures) c.if-matched-ne0.true,
-        );
+        (one s).0,
+        (one s).1,
+        (one s).2,
+        some_match _ _
+            (match_is capacity image table (given s) c.requires.lent (one s).0 (one s).1 (one s).2 _
+            (next-is capacity image table (given s) c.requires.lent (one s).0 (one s).1 (one s).2 _ _ _
+            c.word_before-q.ensures (symbol s) (rw (c.requires.rows, c.requires.width) at c.next_at-next.ensures)) _
+            c.match_word-matched.ensures) c.if-matched-ne0.true,
+      );
     }
 
 pub overflow_add-result : goal.overflow_add-result
@@ -116,9 +116,9 @@ overflow_add-result-then-matched-ne0 c =
 
 pub returns-then-matched-ne0 : goal.returns-then-matched-ne0
 returns-then-matched-ne0 c = record {
-      tried = ap (added_to c.args.self.rewrites c.args.self.put) c.rewrite-rewritten.ensures;
-      steps = refl;
-    }
+  tried = ap (added_to c.args.self.rewrites c.args.self.put) c.rewrite-rewritten.ensures;
+  steps = refl;
+}
 
 pub bounds-bytes-first-2 : goal.bounds-bytes-first-2
 bounds-bytes-first-2 c =

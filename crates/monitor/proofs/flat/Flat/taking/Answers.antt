@@ -8,9 +8,9 @@ overflow_sub-capacity c =
 
 pub move_left-requires : goal.move_left-requires
 move_left-requires c = record {
-      some = omega (arith, c.requires.room c.if-offering.true);
-      inside = omega arith;
-    }
+  some = omega (arith, c.requires.room c.if-offering.true);
+  inside = omega arith;
+}
 
 pub overflow_sub-bytes : goal.overflow_sub-bytes
 overflow_sub-bytes c =
@@ -26,12 +26,12 @@ overflow_add-waiting c =
 
 pub returns-then-offering : goal.returns-then-offering
 returns-then-offering c = record {
-      head = rw c.if-offering.true;
-      bytes = rw (c.if-offering.true, c.move_left.ensures);
-    }
+  head = rw c.if-offering.true;
+  bytes = rw (c.if-offering.true, c.move_left.ensures);
+}
 
 pub returns-else-offering : goal.returns-else-offering
 returns-else-offering c = record {
-      head = rw c.if-offering.false;
-      bytes = rw c.if-offering.false;
-    }
+  head = rw c.if-offering.false;
+  bytes = rw c.if-offering.false;
+}
