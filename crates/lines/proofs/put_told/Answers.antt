@@ -6,6 +6,7 @@ use mathlib.Core.List.{List}
 use native.Mathlib.Omega.{arith}
 use Rattle.machine.specs.declared.Answer.{Answer}
 use Rattle.machine.specs.Calls.{Outcome, refused_by}
+use Rattle.machine.proofs.AnswerKinds.{not_refused}
 use Rattle.printing.specs.Lines.{answer_word, counted, told}
 use Rattle.lines.proofs.put_told.Goals as goal
 
@@ -16,14 +17,6 @@ counts_told names o Answer.Spent e = refl
 counts_told names o Answer.Full e = refl
 counts_told names o (Answer.Verdict v) e = refl
 counts_told names o (Answer.Refused n) e = let z : ◌≡◌ {A = ℕ} 0 1 = cc in absurd (omega arith)
-
-not_refused : (a : Answer) → ((n : ℕ) → a ≡ Answer.Refused n → ⊥) → refused_by a ≡ none
-unfolding refused_by
-not_refused Answer.Quiet h = refl
-not_refused Answer.Spent h = refl
-not_refused Answer.Full h = refl
-not_refused (Answer.Verdict v) h = refl
-not_refused (Answer.Refused n) h = absurd (h n refl)
 
 pub put_accepted-requires : goal.put_accepted-requires
 put_accepted-requires c =
