@@ -7,7 +7,7 @@ use std::process::Command;
 use std::{env, fs};
 
 /// Without the variable the second library is today's, and what is measured is chance.
-const TODAY: &str = "../../target/staticlib";
+const TODAY: &str = "../../crates/ffi/out";
 
 /// Rust's side of the functions.
 const RAW: &str = "../watcher/src/raw.rs";

@@ -2,37 +2,36 @@
 // writes comes from `report`; reading and writing are left here.
 #![tactic(auto)]
 
-ghost use Rattle.std.specs.Prelude.{◌≤◌, IfOk, length};
+ghost use Rattle.std.specs.Prelude.{◌≤◌, length};
 ghost use Rattle.printing.specs.Turns.{line_most};
 
 use grammar::NAMES_BYTES;
 use layout::{IMAGE_BYTES, TABLE_WORDS};
 use machine::CAPACITY;
 use report::{Begun, INPUT_BYTES, LINE_BYTES, Walk};
-use std::io;
 use std::io::{Read, Write};
 
-// Reads until the buffer is full or the input ends, and tells how many bytes there are.
-fn read_full<R: Read>(from: &mut R, buf: &mut [u8]) -> io::Result<usize>
-    ensures { IfOk result (λ n. n ≤ length buf.old) }
+// Reads until the buffer is full, the input ends or a read fails, and tells how many bytes there are.
+fn read_full<R: Read>(from: &mut R, buf: &mut [u8]) -> usize
+    ensures { result ≤ length buf.old }
 {
     let mut done = 0;
     while done < buf.len() {
-        let got = from.read(&mut buf[done..])?;
-        if got == 0 {
-            break;
+        match from.read(&mut buf[done..]) {
+            Ok(0) => break,
+            Ok(got) => done += got,
+            Err(_) => break,
         }
-        done += got;
     }
-    Ok(done)
+    done
 }
 
 // Writes the first n bytes of the line.
-fn write_line<W: Write>(to: &mut W, line: &[u8; LINE_BYTES], n: usize) -> io::Result<()>
+fn write_line<W: Write>(to: &mut W, line: &[u8; LINE_BYTES], n: usize) -> bool
     requires { n ≤ line_most }
 {
     let all: &[u8] = line;
-    to.write_all(&all[..n])
+    to.write_all(&all[..n]).is_ok()
 }
 
 // Writes the lines of the events, up to the last or to the first that cannot be written.
@@ -46,7 +45,7 @@ fn write_lines<W: Write>(
     bytes: &mut [u8; CAPACITY],
     words: &mut [u16; CAPACITY],
     line: &mut [u8; LINE_BYTES],
-) -> io::Result<()> {
+) {
     let mut walk = first;
     loop {
         let next = walk.next(input, image, table, names, bytes, words, line);
@@ -54,22 +53,23 @@ fn write_lines<W: Write>(
         if n == 0 {
             break;
         }
-        write_line(to, line, n)?;
+        if !write_line(to, line, n) {
+            break;
+        }
         walk = next.walk;
     }
-    Ok(())
 }
 
-fn main(rt: HostRuntime) -> io::Result<()> {
+fn main(rt: HostRuntime) {
     let mut input = [0u8; INPUT_BYTES + 1];
-    let n = read_full(&mut rt.stdin(), &mut input)?;
+    let n = read_full(&mut rt.stdin(), &mut input);
     let mut image = [0u8; IMAGE_BYTES];
     let mut names = [0u8; NAMES_BYTES];
     let mut table = [0u16; TABLE_WORDS];
     let mut bytes = [0u8; CAPACITY];
     let mut words = [0u16; CAPACITY];
     let mut line = [0u8; LINE_BYTES];
-    let begun = report::begin(
+    match report::begin(
         &input[..n],
         &mut image,
         &mut names,
@@ -77,19 +77,22 @@ fn main(rt: HostRuntime) -> io::Result<()> {
         &mut bytes,
         &mut words,
         &mut line,
-    );
-    match begun {
-        Begun::Message(size) => write_line(&mut rt.stdout(), &line, size),
-        Begun::Events(walk) => write_lines(
-            &mut rt.stdout(),
-            walk,
-            &input[..n],
-            &image,
-            &table,
-            &names,
-            &mut bytes,
-            &mut words,
-            &mut line,
-        ),
+    ) {
+        Begun::Message(size) => {
+            write_line(&mut rt.stdout(), &line, size);
+        }
+        Begun::Events(walk) => {
+            write_lines(
+                &mut rt.stdout(),
+                walk,
+                &input[..n],
+                &image,
+                &table,
+                &names,
+                &mut bytes,
+                &mut words,
+                &mut line,
+            );
+        }
     }
 }

@@ -1,8 +1,8 @@
 /*!
 The program `watch`, run as its users run it: a process that is handed bytes on its standard input.
 
-[`watch`] gives all that it wrote. The program is looked for in `target/bin` at the repository's root,
-where `rt check watch` puts it, or at the path that the environment variable `WATCH` holds.
+[`watch`] gives all that it wrote. The program is looked for in `crates/watch/out` at the repository's
+root, where `rt run` in `crates/watch` puts it, or at the path that the environment variable `WATCH` holds.
 */
 
 #![forbid(unsafe_code)]
@@ -18,7 +18,7 @@ use std::thread;
 pub fn path() -> PathBuf {
     match env::var_os("WATCH") {
         Some(path) => PathBuf::from(path),
-        None => PathBuf::from(env!("CARGO_MANIFEST_DIR")).join("../../target/bin/watch"),
+        None => PathBuf::from(env!("CARGO_MANIFEST_DIR")).join("../../crates/watch/out/watch"),
     }
 }
 
@@ -34,7 +34,7 @@ pub fn watch(input: &[u8]) -> Vec<u8> {
         .stderr(Stdio::piped())
         .spawn()
         .unwrap_or_else(|error| {
-            panic!("{}: {error}: run `rt check watch` first", path().display())
+            panic!("{}: {error}: run `rt run` in `crates/watch` first", path().display())
         });
     let mut stdin = child.stdin.take().expect("a pipe");
     let bytes = input.to_vec();
