@@ -20,10 +20,11 @@ pub const LABELS: [(&str, &[&str]); 10] = [
 ];
 
 /// Words in backticks that look like names and are none of the repository's.
-const WORDS: [&str; 16] = [
+const WORDS: [&str; 31] = [
     // Rattle and antt
     "requires",
     "ensures",
+    "result",
     "refl",
     "self",
     "pub",
@@ -31,12 +32,26 @@ const WORDS: [&str; 16] = [
     "u32",
     "u64",
     "usize",
-    // places in a proof of code
-    "if1",
-    "take-off",
+    "x.now",
+    "x.old",
+    "x.new",
+    // what an answer cites
+    "c.args",
+    "c.requires",
+    "c.word.result",
+    "c.word.ensures",
+    "c.if-size-k.true",
+    "c.if-size-k.false",
+    "c.in-Passed.is",
+    "c.loop-k.invariant",
+    "l.at",
+    "l.initial.at",
     // outside the repository
     "libc::read",
     "libc::write",
+    "os::c::rattle_errno",
+    "Read::read",
+    "Write::write_all",
     "io::read_full",
     "io::write_all",
     "paste",
