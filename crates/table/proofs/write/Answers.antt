@@ -8,11 +8,11 @@ use Rattle.layout.specs.Image.{read}
 use Rattle.layout.proofs.Image.{valid-in_range}
 use Rattle.layout.proofs.States.{few_states}
 use Rattle.table.proofs.Written.{area_some, rows_room, matches_end, matches_room, table_written}
-use Rattle.table.proofs.write.Goals.{After-shared_slice_known-1}
+use Rattle.table.proofs.write.Goals.{Start}
 use Rattle.table.proofs.write.Goals as goal
 
 -- the area has room for the first words
-some : (c : After-shared_slice_known-1) → 2 + c.args.n ≤ length c.args.table.now
+some : (c : Start) → 2 + c.args.n ≤ length c.args.table.now
 some c = area_some (read c.args.image.now) c.args.table.now c.requires.trie.nodes refl c.requires.size
 
 pub overflow_cast-table : goal.overflow_cast-table
@@ -21,7 +21,8 @@ overflow_cast-table c =
 
 pub bounds-table-0 : goal.bounds-table-0
 bounds-table-0 c =
-    omega (arith, some (goal.at.bounds-table-0 c).After-shared_slice_known-1)
+    let s = (goal.at.bounds-table-0 c).Start in
+    omega (arith, some s)
 
 pub overflow_cast-table-2 : goal.overflow_cast-table-2
 overflow_cast-table-2 c =
@@ -29,15 +30,18 @@ overflow_cast-table-2 c =
 
 pub bounds-table-1 : goal.bounds-table-1
 bounds-table-1 c =
-    simp length-set (omega (arith, some (goal.at.bounds-table-1 c).After-shared_slice_known-1))
+    let s = (goal.at.bounds-table-1 c).Start in
+    simp length-set (omega (arith, some s))
 
 pub slice_bounds-fill-count : goal.slice_bounds-fill-count
 slice_bounds-fill-count c =
-    simp length-set (omega (arith, some (goal.at.slice_bounds-fill-count c).After-shared_slice_known-1))
+    let s = (goal.at.slice_bounds-fill-count c).Start in
+    simp length-set (omega (arith, some s))
 
 pub slice_bounds-fill-start : goal.slice_bounds-fill-start
 slice_bounds-fill-start c =
-    simp length-set (omega (arith, some (goal.at.slice_bounds-fill-start c).After-shared_slice_known-1))
+    let s = (goal.at.slice_bounds-fill-start c).Start in
+    simp length-set (omega (arith, some s))
 
 pub fill-requires : goal.fill-requires
 fill-requires c =

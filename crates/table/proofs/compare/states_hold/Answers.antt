@@ -8,11 +8,11 @@ use lib.ListN.{length, length-set}
 use Rattle.layout.specs.Image.{read}
 use Rattle.layout.proofs.Image.{valid-in_range}
 use Rattle.table.proofs.CheckLoop.{Lent, root_asks, mark_asks, wrong_root, wrong_mark, checking_first, checking_end, node_room, led_asks, not_led, failure_asks, no_failure, no_state, state_asks, checking_more}
-use Rattle.table.proofs.compare.states_hold.Goals.{After-shared_slice_known-1, Else-f-n, then-root-gt0+else-not-mark_holds, else-root-gt0}
+use Rattle.table.proofs.compare.states_hold.Goals.{Start, Else-f-n, then-root-gt0+else-not-mark_holds, else-root-gt0}
 use Rattle.table.proofs.compare.states_hold.Goals as goal
 
 -- what the check is lent
-lent : (c : After-shared_slice_known-1) (s : ℕ) → s ≡ (read c.args.image.now).symbols
+lent : (c : Start) (s : ℕ) → s ≡ (read c.args.image.now).symbols
     → Lent (read c.args.image.now) c.args.trie.now c.args.matches.now c.args.rows.now c.args.n s c.args.root
 lent c s width =
     record {
@@ -39,38 +39,44 @@ symbols-s-requires c =
 
 pub root_holds-requires : goal.root_holds-requires
 root_holds-requires c =
+    let s = (goal.at.root_holds-requires c).Start in
     let p =
-    root_asks (lent (goal.at.root_holds-requires c).After-shared_slice_known-1 _ c.symbols-s.ensures)
+    root_asks (lent s _ c.symbols-s.ensures)
     in record { few = p.0; low = p.1.0; node = p.1.1.0; word = p.1.1.1.0; row = p.1.1.1.1 }
 
 pub returns-then-not-root_holds : goal.returns-then-not-root_holds
 returns-then-not-root_holds c =
-    wrong_root (lent (goal.at.returns-then-not-root_holds c).After-shared_slice_known-1 _ c.symbols-s.ensures) c.root_holds.result (ap not c.if-not-root_holds.true) c.root_holds.ensures
+    let s = (goal.at.returns-then-not-root_holds c).Start in
+    wrong_root (lent s _ c.symbols-s.ensures) c.root_holds.result (ap not c.if-not-root_holds.true) c.root_holds.ensures
 
 pub mark_holds-requires : goal.mark_holds-requires
 mark_holds-requires c =
+    let s = (goal.at.mark_holds-requires c).Start in
     let p =
-    mark_asks (lent (goal.at.mark_holds-requires c).After-shared_slice_known-1 _ c.symbols-s.ensures)
+    mark_asks (lent s _ c.symbols-s.ensures)
     in record { few = p.0; node = p.1.0; word = p.1.1.0; own = p.1.1.1.0; other = p.1.1.1.1 }
 
 pub returns-then-not-mark_holds : goal.returns-then-not-mark_holds
 returns-then-not-mark_holds c =
-    wrong_mark (lent (goal.at.returns-then-not-mark_holds c).After-shared_slice_known-1 _ c.symbols-s.ensures) c.if-root-gt0.true c.mark_holds.result (ap not c.if-not-mark_holds.true)
+    let s = (goal.at.returns-then-not-mark_holds c).Start in
+    wrong_mark (lent s _ c.symbols-s.ensures) c.if-root-gt0.true c.mark_holds.result (ap not c.if-not-mark_holds.true)
     c.mark_holds.ensures
 
 pub overflow_step-q : goal.overflow_step-q
 overflow_step-q c =
-    omega (arith, (root_asks (lent (goal.at.overflow_step-q c).After-shared_slice_known-1 _ c.symbols-s.ensures)).1.0)
+    let s = (goal.at.overflow_step-q c).Start in
+    omega (arith, (root_asks (lent s _ c.symbols-s.ensures)).1.0)
 
 pub loop-q-init : goal.loop-q-init
-loop-q-init c = (
-  refl,
-  checking_first (lent (goal.at.loop-q-init c).After-shared_slice_known-1 _ c.symbols-s.ensures) c.root_holds.result (ap not c.if-not-root_holds.false) c.root_holds.ensures
-      (λ pos. elim c.if-root-gt0.branch [
-        | then-root-gt0+else-not-mark_holds w ↦ (w.mark_holds.result, ap not w.if-not-mark_holds.false, w.mark_holds.ensures)
-        | else-root-gt0 w ↦ absurd (omega (arith, w.if-root-gt0.false))
-      ]) _ refl,
-)
+loop-q-init c =
+    let s = (goal.at.loop-q-init c).Start in (
+      refl,
+      checking_first (lent s _ c.symbols-s.ensures) c.root_holds.result (ap not c.if-not-root_holds.false) c.root_holds.ensures
+          (λ pos. elim c.if-root-gt0.branch [
+            | then-root-gt0+else-not-mark_holds w ↦ (w.mark_holds.result, ap not w.if-not-mark_holds.false, w.mark_holds.ensures)
+            | else-root-gt0 w ↦ absurd (omega (arith, w.if-root-gt0.false))
+          ]) _ refl,
+    )
 
 pub led_to-child-requires : goal.led_to-child-requires
 led_to-child-requires c =

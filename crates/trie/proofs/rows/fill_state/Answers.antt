@@ -10,17 +10,17 @@ use Rattle.layout.specs.Words.{root}
 use Rattle.layout.proofs.Image.{valid-in_range}
 use Rattle.trie.specs.Nodes.{parent, failure_by}
 use Rattle.trie.proofs.Turns.{nodes_within, failure_place, failure_within, filling_more}
-use Rattle.trie.proofs.rows.fill_state.Goals.{After-failure_of-f, After-shared_slice_known-1}
+use Rattle.trie.proofs.rows.fill_state.Goals.{After-failure_of-f, Start}
 use Rattle.trie.proofs.rows.fill_state.Goals as goal
 
-in_range_lem : (c : After-shared_slice_known-1) → in_range (read c.args.image.now) ≡ true
+in_range_lem : (c : Start) → in_range (read c.args.image.now) ≡ true
 in_range_lem c = valid-in_range c.args.image.now c.requires.image_value
 
 -- it is not the root
-other : (c : After-shared_slice_known-1) → c.args.q ≡ root (read c.args.image.now).rules → ⊥
+other : (c : Start) → c.args.q ≡ root (read c.args.image.now).rules → ⊥
 other c e = c.requires.state.0 (e ∙ sym c.requires.root)
 
-bounds : (c : After-shared_slice_known-1)
+bounds : (c : Start)
     → (8 * c.args.q + 7 < length c.args.trie.now) × (8 * parent c.args.trie.now c.args.q + 7 < length c.args.trie.now)
 bounds c =
     nodes_within (read c.args.image.now) c.args.q c.args.trie.now c.args.rows.now c.requires.filling (in_range_lem c) (other c)
@@ -43,32 +43,40 @@ found c =
     c.requires.root
 
 pub failure_of-f-requires : goal.failure_of-f-requires
-failure_of-f-requires c = record {
-  node = omega (arith, bounds (goal.at.failure_of-f-requires c).After-shared_slice_known-1);
-  up = omega (arith, bounds (goal.at.failure_of-f-requires c).After-shared_slice_known-1);
-  row = λ high.
-      rw c.symbols-s.ensures
-      (failure_place (read c.args.image.now) c.args.q c.args.trie.now c.args.rows.now
-      c.requires.filling (in_range_lem (goal.at.failure_of-f-requires c).After-shared_slice_known-1) (other (goal.at.failure_of-f-requires c).After-shared_slice_known-1) c.requires.state.1 (λ e. high (e ∙ sym c.requires.root)));
-}
+failure_of-f-requires c =
+    let s = (goal.at.failure_of-f-requires c).Start in
+    record {
+      node = omega (arith, bounds s);
+      up = omega (arith, bounds s);
+      row = λ high.
+          rw c.symbols-s.ensures
+          (failure_place (read c.args.image.now) c.args.q c.args.trie.now c.args.rows.now
+          c.requires.filling (in_range_lem s) (other s) c.requires.state.1 (λ e. high (e ∙ sym c.requires.root)));
+    }
 
 pub note-requires : goal.note-requires
 note-requires c =
+    let f = (goal.at.note-requires c).After-failure_of-f in
+    let s = (goal.at.note-requires c).Start in
     let room = failure_within (read c.args.image.now) c.args.q c.args.trie.now c.args.rows.now
-    c.requires.filling (in_range_lem (goal.at.note-requires c).After-shared_slice_known-1) (other (goal.at.note-requires c).After-shared_slice_known-1) c.requires.state.1 c.failure_of-f.result (found (goal.at.note-requires c).After-failure_of-f) in record {
-      own = omega (arith, bounds (goal.at.note-requires c).After-shared_slice_known-1);
+    c.requires.filling (in_range_lem s) (other s) c.requires.state.1 c.failure_of-f.result (found f) in record {
+      own = omega (arith, bounds s);
       other = room.0;
       small = room.1;
     }
 
 pub merge-requires : goal.merge-requires
 merge-requires c =
+    let f = (goal.at.merge-requires c).After-failure_of-f in
+    let s = (goal.at.merge-requires c).Start in
     let room = failure_within (read c.args.image.now) c.args.q c.args.trie.now c.args.rows.now
-    c.requires.filling (in_range_lem (goal.at.merge-requires c).After-shared_slice_known-1) (other (goal.at.merge-requires c).After-shared_slice_known-1) c.requires.state.1 c.failure_of-f.result (found (goal.at.merge-requires c).After-failure_of-f) in
+    c.requires.filling (in_range_lem s) (other s) c.requires.state.1 c.failure_of-f.result (found f) in
     record { own = rw c.symbols-s.ensures room.2; other = rw c.symbols-s.ensures room.3 }
 
 pub returns : goal.returns
 returns c =
+    let f = (goal.at.returns c).After-failure_of-f in
+    let s = (goal.at.returns c).Start in
     filling_more (read c.args.image.now) c.args.q c.args.trie.now c.args.rows.now c.requires.filling
-    (in_range_lem (goal.at.returns c).After-shared_slice_known-1) (other (goal.at.returns c).After-shared_slice_known-1) c.requires.state.1 c.note.new.trie c.merge.new.rows c.failure_of-f.result
-    (found (goal.at.returns c).After-failure_of-f) c.note.ensures (rw c.symbols-s.ensures at c.merge.ensures)
+    (in_range_lem s) (other s) c.requires.state.1 c.note.new.trie c.merge.new.rows c.failure_of-f.result
+    (found f) c.note.ensures (rw c.symbols-s.ensures at c.merge.ensures)
