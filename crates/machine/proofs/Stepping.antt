@@ -222,7 +222,7 @@ pub settled_step : (set : RuleSet) (capacity : ℕ) (m : Monitor) → Held set c
     })
     (tried set.rules capacity m (step_of set.rules (state_of m)))
 unfolding step settle active
-settled_step set capacity m h a q w e first word place is_Is_word =
+settled_step set capacity m h a q w e first word place is_word =
     rw (step_waiting_lem set capacity m h a q w, e)
     (tried-taken set.rules capacity m (record { to = active (s ++ a ∷ []) q; rewrites = 0; put = 0 }) _ 0 0
     (rw length-append (omega (arith, room)))
@@ -249,7 +249,7 @@ settled_step set capacity m h a q w e first word place is_Is_word =
         ap (λ (l : List ℕ). ListN.set l m.head.settled word) h.words_are
         ∙ area_settled capacity (words_after set.rules s) [] word m.head.settled (omega arith) (omega (arith, room))
         ∙ ap (λ (l : List ℕ). area_of capacity l [])
-        (ap (λ (x : ℕ). words_after set.rules s ++ x ∷ []) is_Is_word ∙ sym (words_snoc set.rules s a))
+        (ap (λ (x : ℕ). words_after set.rules s ++ x ∷ []) is_word ∙ sym (words_snoc set.rules s a))
 
 -- It completes the left side of rule i.
 module _ (set : RuleSet) (capacity : ℕ) (m : Monitor) (h : Held set capacity m) (i : ℕ) (e : Matches set.rules (state_of m) (some i)) where

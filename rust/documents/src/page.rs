@@ -20,7 +20,7 @@ pub const LABELS: [(&str, &[&str]); 10] = [
 ];
 
 /// Words in backticks that look like names and are none of the repository's.
-const WORDS: [&str; 31] = [
+const WORDS: [&str; 29] = [
     // Rattle and antt
     "requires",
     "ensures",
@@ -52,8 +52,6 @@ const WORDS: [&str; 31] = [
     "os::c::rattle_errno",
     "Read::read",
     "Write::write_all",
-    "io::read_full",
-    "io::write_all",
     "paste",
 ];
 
