@@ -13,7 +13,18 @@ use Rattle.machine.specs.declared.Standing.{Standing}
 use Rattle.machine.specs.Areas.{Monitor}
 use Rattle.machine.specs.Lent.{monitor_with}
 use Rattle.machine.proofs.RightSides.{is_put, is_close, left_few, close_few, put_few, put_within, put_here}
-use Rattle.machine.proofs.Stepping.{Held, held, passed_valid, first_place, matched_rule, left_some, left_fits, put_step, full_step, close_step}
+use Rattle.machine.proofs.Stepping.{
+  Held,
+  held,
+  passed_valid,
+  first_place,
+  matched_rule,
+  left_some,
+  left_fits,
+  put_step,
+  full_step,
+  close_step,
+}
 use Rattle.areas.proofs.rewrite.Goals.{Start}
 use Rattle.areas.proofs.rewrite.Goals as goal
 

@@ -14,4 +14,5 @@ pub returns : goal.returns
 unfolding head_from
 returns c =
     let w = c.args.words.now in
-    λ i. record { settled = get_or w 0 0; waiting = get_or w 1 0; verdict = standing_verdict (get_or w 2 0) c.if-words-eq0.false i; rule = get_or w 3 0 }
+    let verdict = standing_verdict (get_or w 2 0) c.if-words-eq0.false in
+    λ i. record { settled = get_or w 0 0; waiting = get_or w 1 0; verdict = verdict i; rule = get_or w 3 0 }

@@ -4,7 +4,21 @@ use Prim.Native.Nat.{◌+◌}
 use mathlib.Core.Path.{refl, sym, ◌∙◌}
 use native.Mathlib.Omega.{arith}
 use Rattle.grammar.proofs.Runs.{start_within, next-none, next-run}
-use Rattle.tokens.proofs.RunBytes.{leading, scanning_first, scanning_inside, scanning_next, scanning_stop, scanning_passed, scanning_breaks, pair_inside, pair_next, bytes-some, run_no_token, run_token, run-named}
+use Rattle.tokens.proofs.RunBytes.{
+  leading,
+  scanning_first,
+  scanning_inside,
+  scanning_next,
+  scanning_stop,
+  scanning_passed,
+  scanning_breaks,
+  pair_inside,
+  pair_next,
+  bytes-some,
+  run_no_token,
+  run_token,
+  run-named,
+}
 use Rattle.parser.proofs.Reading.{going_first, going_held, symbols_size_lem, words_size, going_ended, no_token, broken, going_on}
 use Rattle.parser.proofs.read_tokens.Goals as goal
 

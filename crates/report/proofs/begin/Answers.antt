@@ -65,7 +65,8 @@ returns-in-Image c =
     let image = c.read_rules.ensures.image in
     let made = c.make_ready.ensures in
     let p =
-    ready_is _ l good.reading _ _ _ _ _ _ _ _ (begin_good _ l good.reading c.if-input-gt-INPUT_BYTES.false (ap rule_text_read (sym text) ∙ good.good_text))
+    ready_is _ l good.reading _ _ _ _ _ _ _ _
+    (begin_good _ l good.reading c.if-input-gt-INPUT_BYTES.false (ap rule_text_read (sym text) ∙ good.good_text))
     (rw image good.image_there) good.rules_back c.events_start-at.ensures made.answer (image ∙ good.image_over)
     (c.read_rules.ensures.names ∙ good.names_over) made.table made.bytes made.words
     in record { outcome = p.0; inside = p.1 }

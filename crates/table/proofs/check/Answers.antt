@@ -18,10 +18,14 @@ begins_with_table-requires c = record {
 }
 
 pub returns-then-begins_with_table : goal.returns-then-begins_with_table
-returns-then-begins_with_table c = check_passed _ _ (good (goal.at.returns-then-begins_with_table c).After-byte-root) (sym c.begins_with_table.ensures ∙ c.if-begins_with_table.true)
+returns-then-begins_with_table c =
+    check_passed _ _ (good (goal.at.returns-then-begins_with_table c).After-byte-root)
+    (sym c.begins_with_table.ensures ∙ c.if-begins_with_table.true)
 
 pub returns-then-validity-gt0 : goal.returns-then-validity-gt0
-returns-then-validity-gt0 c = check_nine _ _ (good (goal.at.returns-then-validity-gt0 c).After-byte-root) (sym c.begins_with_table.ensures ∙ c.if-begins_with_table.false)
+returns-then-validity-gt0 c =
+    check_nine _ _ (good (goal.at.returns-then-validity-gt0 c).After-byte-root)
+    (sym c.begins_with_table.ensures ∙ c.if-begins_with_table.false)
 
 pub returns : goal.returns
 returns c = check_seven _ _ (validity_refused _ _ c.validity-validity.ensures c.if-validity-gt0.false)

@@ -1,7 +1,16 @@
 -- `validity::body_size` meets its contract: each way out has the law for its case, from the tests that led there.
 use mathlib.Core.Path.{sym}
 use native.Mathlib.Omega.{arith}
-use Rattle.layout.proofs.ImageCheck.{size_string, size_verdict, size_no_left, size_long_left, size_last, size_long_right, size_kind, size_no_verdict}
+use Rattle.layout.proofs.ImageCheck.{
+  size_string,
+  size_verdict,
+  size_no_left,
+  size_long_left,
+  size_last,
+  size_long_right,
+  size_kind,
+  size_no_verdict,
+}
 use Rattle.validity.proofs.body_size.Goals as goal
 
 pub returns-then-left-lt1 : goal.returns-then-left-lt1

@@ -6,7 +6,21 @@ use native.Mathlib.Omega.{arith}
 use lib.ListN.{get_or}
 use Rattle.rewriting.specs.Lists.{below}
 use Rattle.layout.specs.Image.{valid}
-use Rattle.layout.proofs.ImageCheck.{HeaderOf, all_behind, valid_header, valid_room, decided, denied, refused, unannounced, checked, validity-none, found_validity, found_some, found_none}
+use Rattle.layout.proofs.ImageCheck.{
+  HeaderOf,
+  all_behind,
+  valid_header,
+  valid_room,
+  decided,
+  denied,
+  refused,
+  unannounced,
+  checked,
+  validity-none,
+  found_validity,
+  found_some,
+  found_none,
+}
 use Rattle.validity.proofs.validity.Goals.{After-all_below, After-byte-rules}
 use Rattle.validity.proofs.validity.Goals as goal
 
@@ -52,13 +66,17 @@ all_below-requires c =
 pub returns-then-all_below : goal.returns-then-all_below
 returns-then-all_below c =
     let b = c.args.image.now in
+    let at = goal.at.returns-then-all_below c in
+    let told = symbols_told at.After-byte-rules at.After-all_below refl refl in
     c.contents_in_range-found.ensures
-    ∙ found_validity b c.byte-rules.result c.byte-rules.ensures (sym (symbols_told (goal.at.returns-then-all_below c).After-byte-rules (goal.at.returns-then-all_below c).After-all_below refl refl) ∙ c.if-all_below.true)
+    ∙ found_validity b c.byte-rules.result c.byte-rules.ensures (sym told ∙ c.if-all_below.true)
 
 pub returns-else-all_below : goal.returns-else-all_below
 returns-else-all_below c =
     let b = c.args.image.now in
-    validity-none b (sym c.if-all_below.false ∙ symbols_told (goal.at.returns-else-all_below c).After-byte-rules (goal.at.returns-else-all_below c).After-all_below refl refl)
+    let at = goal.at.returns-else-all_below c in
+    let told = symbols_told at.After-byte-rules at.After-all_below refl refl in
+    validity-none b (sym c.if-all_below.false ∙ told)
 
 pub returns-else-found-gt0 : goal.returns-else-found-gt0
 returns-else-found-gt0 c =

@@ -9,7 +9,14 @@ use Rattle.machine.specs.Batch.{offers}
 use Rattle.machine.proofs.LentRefusal.{lent_none, lent-some}
 use Rattle.machine.proofs.AnswerNumbers.{passed_verdict}
 use Rattle.machine.proofs.Offering.{passed_sizes}
-use Rattle.machine.proofs.BatchChecks.{passed_image, batch_lent_refused, batch_fuel_refused, batch_many_refused, batch_room_refused, batch-taken}
+use Rattle.machine.proofs.BatchChecks.{
+  passed_image,
+  batch_lent_refused,
+  batch_fuel_refused,
+  batch_many_refused,
+  batch_room_refused,
+  batch-taken,
+}
 use Rattle.monitor.proofs.Head.batch.Goals.{Start}
 use Rattle.monitor.proofs.Head.batch.Goals as goal
 

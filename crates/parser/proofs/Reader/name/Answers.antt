@@ -6,7 +6,17 @@ use Rattle.grammar.specs.Grammar.{InLeft, InRight}
 use Rattle.parser.proofs.Places.{place_at}
 use Rattle.parser.proofs.Keeping.{place_number}
 use Rattle.parser.proofs.Room.{symbol_room, first_room, marked_room, left_room, right_room}
-use Rattle.parser.proofs.Taking.{first_left, marked_left, next_left, next_right, name-between, name_marked, name_left, name_right, name-ending}
+use Rattle.parser.proofs.Taking.{
+  first_left,
+  marked_left,
+  next_left,
+  next_right,
+  name-between,
+  name_marked,
+  name_left,
+  name_right,
+  name-ending,
+}
 use Rattle.parser.proofs.Reader.name.Goals as goal
 
 pub event-requires : goal.event-requires

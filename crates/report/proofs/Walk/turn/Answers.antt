@@ -1,5 +1,16 @@
 -- `Walk::turn` meets its contract: the name that is offered is the first from its place on.
-use Rattle.report.proofs.Walking.{turn_place, run_inside, run-bytes, run_short, run_onward, next_long, next_end, next-none, next-some, turn_nothing}
+use Rattle.report.proofs.Walking.{
+  turn_place,
+  run_inside,
+  run-bytes,
+  run_short,
+  run_onward,
+  next_long,
+  next_end,
+  next-none,
+  next-some,
+  turn_nothing,
+}
 use mathlib.Core.Path.{refl}
 use native.Mathlib.Omega.{arith}
 use Rattle.report.specs.Lent.{walk_in}

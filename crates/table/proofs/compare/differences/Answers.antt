@@ -22,7 +22,11 @@ loop-a-preserved c =
     let other : ℕ → ℕ = λ k. transition args.rows.now args.s args.f k in
     let known = c.loop-a.invariant.2 in
     elim c.if-rows-own.branch [
-      | then-rows-own w ↦ (omega arith, omega arith, w.n-is ∙ ap (λ (n : ℕ). n + 1) known ∙ sym (tally_differ own other c.loop-a.a w.if-rows-own.true))
+      | then-rows-own w ↦ (
+        omega arith,
+        omega arith,
+        w.n-is ∙ ap (λ (n : ℕ). n + 1) known ∙ sym (tally_differ own other c.loop-a.a w.if-rows-own.true),
+      )
       | else-rows-own w ↦ (omega arith, omega arith, w.n-is ∙ known ∙ sym (tally_equal own other c.loop-a.a w.if-rows-own.false))
     ]
 

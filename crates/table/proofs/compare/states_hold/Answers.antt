@@ -7,7 +7,23 @@ use native.Mathlib.Omega.{arith}
 use lib.ListN.{length, length-set}
 use Rattle.layout.specs.Image.{read}
 use Rattle.layout.proofs.Image.{valid-in_range}
-use Rattle.table.proofs.CheckLoop.{Lent, root_asks, mark_asks, wrong_root, wrong_mark, checking_first, checking_end, node_room, led_asks, not_led, failure_asks, no_failure, no_state, state_asks, checking_more}
+use Rattle.table.proofs.CheckLoop.{
+  Lent,
+  root_asks,
+  mark_asks,
+  wrong_root,
+  wrong_mark,
+  checking_first,
+  checking_end,
+  node_room,
+  led_asks,
+  not_led,
+  failure_asks,
+  no_failure,
+  no_state,
+  state_asks,
+  checking_more,
+}
 use Rattle.table.proofs.compare.states_hold.Goals.{Start, Else-f-n, then-root-gt0+else-not-mark_holds, else-root-gt0}
 use Rattle.table.proofs.compare.states_hold.Goals as goal
 

@@ -38,7 +38,11 @@ loop-a-preserved c =
     let turn = c.loop-a in
     let known = turn.invariant.2 in
     elim c.if-rows-first.branch [
-      | then-rows-first w ↦ (omega arith, omega arith, w.n-is ∙ ap (λ (n : ℕ). n + 1) known ∙ sym (tally_differ row (λ k. c.args.root) turn.a w.if-rows-first.true))
+      | then-rows-first w ↦ (
+        omega arith,
+        omega arith,
+        w.n-is ∙ ap (λ (n : ℕ). n + 1) known ∙ sym (tally_differ row (λ k. c.args.root) turn.a w.if-rows-first.true),
+      )
       | else-rows-first w ↦ (omega arith, omega arith, w.n-is ∙ known ∙ sym (tally_equal row (λ k. c.args.root) turn.a w.if-rows-first.false))
     ]
 

@@ -106,11 +106,14 @@ loop-c-preserved c =
       simp length-set turn.invariant.2,
       rw (place c)
           (laid_more (read c.args.image.now) c.args.trie.now turn.rows turn.c c.requires.trie
-          (sized (read c.args.image.now) c.args.rows.now c.loop-c.rows c.args.n c.requires.count c.requires.clear c.loop-c.invariant.2) (rw c.requires.root at turn.invariant.0) (omega arith) turn.invariant.3),
+          (sized (read c.args.image.now) c.args.rows.now turn.rows c.args.n c.requires.count c.requires.clear turn.invariant.2)
+          (rw c.requires.root at turn.invariant.0) (omega arith) turn.invariant.3),
     )
 
 pub returns : goal.returns
 returns c =
     let turn = c.loop-c in
     let all : turn.c ≡ length (states (read c.args.image.now).rules) = omega arith in
-    laid_all (read c.args.image.now) turn.rows (sized (read c.args.image.now) c.args.rows.now c.loop-c.rows c.args.n c.requires.count c.requires.clear c.loop-c.invariant.2) (rw all at turn.invariant.3)
+    laid_all (read c.args.image.now) turn.rows
+    (sized (read c.args.image.now) c.args.rows.now turn.rows c.args.n c.requires.count c.requires.clear turn.invariant.2)
+    (rw all at turn.invariant.3)

@@ -15,7 +15,19 @@ use Rattle.machine.proofs.ByNumber.{no_refusal}
 use Rattle.machine.proofs.Stepping.{Held, held, passed_valid, passed_table}
 use Rattle.machine.proofs.TableWords.{table_header, states_in}
 use Rattle.machine.proofs.LentRefusal.{answered_passed, answered_refused}
-use Rattle.machine.proofs.Offering.{offering_first, offering_passed, offering-number, offering_sums, offering-next, offering_refused, offering_all, written_last, call_at, fuel_with, calls_length}
+use Rattle.machine.proofs.Offering.{
+  offering_first,
+  offering_passed,
+  offering-number,
+  offering_sums,
+  offering-next,
+  offering_refused,
+  offering_all,
+  written_last,
+  call_at,
+  fuel_with,
+  calls_length,
+}
 use Rattle.monitor.proofs.flat.Flat.in_turn.Goals.{Start}
 use Rattle.monitor.proofs.flat.Flat.in_turn.Goals as goal
 

@@ -6,7 +6,18 @@ use native.Mathlib.Omega.{arith}
 use Rattle.machine.specs.Calls.{answer_number}
 use Rattle.monitor.specs.Lent.{active_in, flat_in, counts_in, stepped_from}
 use Rattle.machine.proofs.ByNumber.{is-taken, is_full, none_after, number_from}
-use Rattle.machine.proofs.Running.{Running, running_first, running_asks, running_open, verdict_ends, quiet_ends, spent_ends, full_ends, running_next, quiet_at_once}
+use Rattle.machine.proofs.Running.{
+  Running,
+  running_first,
+  running_asks,
+  running_open,
+  verdict_ends,
+  quiet_ends,
+  spent_ends,
+  full_ends,
+  running_next,
+  quiet_at_once,
+}
 use Rattle.monitor.proofs.flat.Flat.run.Goals.{Else-next-eq-FULL}
 use Rattle.monitor.proofs.flat.Flat.run.Goals as goal
 
