@@ -39,8 +39,8 @@ facts s = held (length s.args.bytes.now) s.args.image.now s.args.table.now (give
 good : (s : Start) → valid s.args.image.now ≡ true
 good s = passed_valid (length s.args.bytes.now) s.args.image.now s.args.table.now (given s) s.requires.lent
 
-is-rule : (s : Start) → s.args.i < length (read s.args.image.now).rules
-is-rule s = matched_rule (read s.args.image.now) (length s.args.bytes.now) (given s) (facts s) s.args.i s.requires.next
+is_rule : (s : Start) → s.args.i < length (read s.args.image.now).rules
+is_rule s = matched_rule (read s.args.image.now) (length s.args.bytes.now) (given s) (facts s) s.args.i s.requires.next
 
 -- the left side has 1 to 8 symbols, the last of them waits, and those before it are settled
 
@@ -59,7 +59,7 @@ sizes s size e =
     let q = s.requires.next in
     record {
       some = rw e (left_some set capacity (given s) (facts s) s.args.i q);
-      few = rw e (left_few s.args.image.now (good s) s.args.i (is-rule s));
+      few = rw e (left_few s.args.image.now (good s) s.args.i (is_rule s));
       fits = rw e (left_fits set capacity (given s) (facts s) s.args.i q);
       waits = (let w = first_place set capacity (given s) (facts s) q.0 q.1 q.2 in omega arith);
       room = omega (arith, facts s);
@@ -75,13 +75,13 @@ string s n e = is_put (rule (read s.args.image.now).rules s.args.i).right n e
 few : (s : Start) (n : ℕ) → right_side_of (rule (read s.args.image.now).rules s.args.i).right ≡ RightSide.Put n → n ≤ 8
 few s n e =
     let r = string s n e in
-    omega (arith, r.2, put_few s.args.image.now (good s) s.args.i (is-rule s) r.0 r.1)
+    omega (arith, r.2, put_few s.args.image.now (good s) s.args.i (is_rule s) r.0 r.1)
 
 within : (s : Start) (n : ℕ) → right_side_of (rule (read s.args.image.now).rules s.args.i).right ≡ RightSide.Put n
     → get_or s.args.starts.now s.args.i 0 + n ≤ length s.args.image.now
 within s n e =
     let r = string s n e in
-    omega (arith, r.2, put_within s.args.image.now (good s) s.args.i (is-rule s) r.0 r.1, (s.requires.starts s.args.i (is-rule s)).1)
+    omega (arith, r.2, put_within s.args.image.now (good s) s.args.i (is_rule s) r.0 r.1, (s.requires.starts s.args.i (is_rule s)).1)
 
 -- or a verdict
 
@@ -97,7 +97,7 @@ overflow_sub-first c =
 pub left_length-size-requires : goal.left_length-size-requires
 left_length-size-requires c =
     let s = (goal.at.left_length-size-requires c).Start in
-    record { image_value = good s; i_in_bounds = is-rule s }
+    record { image_value = good s; i_in_bounds = is_rule s }
 
 pub overflow_sub-rest : goal.overflow_sub-rest
 overflow_sub-rest c =
@@ -107,7 +107,7 @@ overflow_sub-rest c =
 pub right_side-requires : goal.right_side-requires
 right_side-requires c =
     let s = (goal.at.right_side-requires c).Start in
-    record { image_value = good s; i_in_bounds = is-rule s }
+    record { image_value = good s; i_in_bounds = is_rule s }
 
 pub overflow_add-behind-in-Put : goal.overflow_add-behind-in-Put
 overflow_add-behind-in-Put c =
@@ -148,12 +148,12 @@ take_off-kept-requires c =
 pub offset_bounds-starts-i : goal.offset_bounds-starts-i
 offset_bounds-starts-i c =
     let s = (goal.at.offset_bounds-starts-i c).Start in
-    omega (arith, (c.requires.starts c.args.i (is-rule s)).0)
+    omega (arith, (c.requires.starts c.args.i (is_rule s)).0)
 
 pub bounds-starts-i : goal.bounds-starts-i
 bounds-starts-i c =
     let s = (goal.at.bounds-starts-i c).Start in
-    (c.requires.starts c.args.i (is-rule s)).0
+    (c.requires.starts c.args.i (is_rule s)).0
 
 pub put_back-held-requires : goal.put_back-held-requires
 put_back-held-requires c =
@@ -181,7 +181,7 @@ pub overflow_add-result : goal.overflow_add-result
 overflow_add-result c =
     let s = (goal.at.overflow_add-result c).Start in
     let e = verdict s _ (sym c.right_side.ensures ∙ c.in-Close.is) in
-    omega (arith, close_few c.args.image.now (good s) c.args.i (is-rule s) _ e)
+    omega (arith, close_few c.args.image.now (good s) c.args.i (is_rule s) _ e)
 
 pub returns-else-behind-size : goal.returns-else-behind-size
 returns-else-behind-size c =
@@ -189,7 +189,7 @@ returns-else-behind-size c =
     let i = c.args.i in
     let z = sizes s _ c.left_length-size.ensures in
     let r = string s _ (sym c.right_side.ensures ∙ c.in-Put.is) in
-    let right-start = (c.requires.starts i (is-rule s)).1 in
+    let right_start = (c.requires.starts i (is_rule s)).1 in
     put_step (read c.args.image.now) (length c.args.bytes.now) (given s) (facts s) i c.requires.next
     (record {
       first_is = refl;
@@ -197,7 +197,7 @@ returns-else-behind-size c =
       bytes-is = c.take_off-kept.ensures.bytes;
       words_is = c.take_off-kept.ensures.words;
     }) r.0 _ _ r.1 r.2
-    (rw (c.word.ensures, right-start) (put_here c.args.image.now (good s) i (is-rule s) r.0 r.1 _ r.2))
+    (rw (c.word.ensures, right_start) (put_here c.args.image.now (good s) i (is_rule s) r.0 r.1 _ r.2))
     (omega (arith, z, c.take_off-kept.ensures.kept, c.if-behind-size.false)) c.put_back-held.ensures.waiting
     (length c.take_off-kept.new.bytes - (c.args.waiting - 1 + c.in-Put.n)) (omega (arith, z, c.take_off-kept.auto.bytes, c.if-behind-size.false))
     c.put_back-held.ensures.bytes

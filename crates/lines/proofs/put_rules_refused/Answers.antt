@@ -19,23 +19,23 @@ put_decimal-end-requires c =
 pub put_byte-end-requires : goal.put_byte-end-requires
 put_byte-end-requires c =
     let put = writes_end c.put-end.ensures (omega arith) in
-    let put-size = c.put-end.auto.line in
-    let number = writes_end c.put_decimal-end.ensures (omega (arith, c.requires, put, put-size)) in
-    omega (arith, c.requires, put, put-size, number, c.put_decimal-end.auto.line, decimal-length 9 c.args.n (omega arith))
+    let put_size = c.put-end.auto.line in
+    let number = writes_end c.put_decimal-end.ensures (omega (arith, c.requires, put, put_size)) in
+    omega (arith, c.requires, put, put_size, number, c.put_decimal-end.auto.line, decimal-length 9 c.args.n (omega arith))
 
 pub put_decimal-end-requires-2 : goal.put_decimal-end-requires-2
 put_decimal-end-requires-2 c =
     let put = writes_end c.put-end.ensures (omega arith) in
-    let put-size = c.put-end.auto.line in
+    let put_size = c.put-end.auto.line in
     let few = decimal-length 9 c.args.n (omega arith) in
-    let number = writes_end c.put_decimal-end.ensures (omega (arith, c.requires, put, put-size)) in
+    let number = writes_end c.put_decimal-end.ensures (omega (arith, c.requires, put, put_size)) in
     let number_size = c.put_decimal-end.auto.line in
-    let byte = writes_end c.put_byte-end.ensures (omega (arith, c.requires, put, put-size, few, number, number_size)) in
+    let byte = writes_end c.put_byte-end.ensures (omega (arith, c.requires, put, put_size, few, number, number_size)) in
     omega (
       arith,
       c.requires,
       put,
-      put-size,
+      put_size,
       few,
       number,
       number_size,
@@ -47,23 +47,23 @@ put_decimal-end-requires-2 c =
 pub put_byte-requires : goal.put_byte-requires
 put_byte-requires c =
     let put = writes_end c.put-end.ensures (omega arith) in
-    let put-size = c.put-end.auto.line in
+    let put_size = c.put-end.auto.line in
     let few = decimal-length 9 c.args.n (omega arith) in
-    let number = writes_end c.put_decimal-end.ensures (omega (arith, c.requires, put, put-size)) in
+    let number = writes_end c.put_decimal-end.ensures (omega (arith, c.requires, put, put_size)) in
     let number_size = c.put_decimal-end.auto.line in
-    let byte = writes_end c.put_byte-end.ensures (omega (arith, c.requires, put, put-size, few, number, number_size)) in
-    let byte-size = c.put_byte-end.auto.line in
-    let place = writes_end c.put_decimal-end-2.ensures (omega (arith, c.requires, put, put-size, few, number, number_size, byte, byte-size)) in
+    let byte = writes_end c.put_byte-end.ensures (omega (arith, c.requires, put, put_size, few, number, number_size)) in
+    let byte_size = c.put_byte-end.auto.line in
+    let place = writes_end c.put_decimal-end-2.ensures (omega (arith, c.requires, put, put_size, few, number, number_size, byte, byte_size)) in
     omega (
       arith,
       c.requires,
       put,
-      put-size,
+      put_size,
       few,
       number,
       number_size,
       byte,
-      byte-size,
+      byte_size,
       place,
       c.put_decimal-end-2.auto.line,
       decimal-length 19 c.args.place (omega arith),

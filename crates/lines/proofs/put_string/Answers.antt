@@ -27,13 +27,6 @@ returns-then-end-at c =
     joins_none _ _ (commas_both _ _ _ c.put_symbols-first.ensures c.put_symbols-end.ensures) (omega (arith, c.requires.room.1))
     c.if-end-at.true c.put.ensures
 
--- NO GOAL same-length-2
--- same-length-2 c =
---     let put-symbols2 = c.before.before.before in
---     let put-symbols = put-symbols2.before.before.before.before in
---     let start = put-symbols.before.before.before.before.before.before in
---     length-set put-symbols2.put-symbols2.new.0 start.args.at 32 ∙ put-symbols2.put-symbols2.auto.0 ∙ put-symbols.put-symbols.auto.0
-
 pub returns : goal.returns
 returns c =
     joins _ _ (commas_both _ _ _ c.put_symbols-first.ensures c.put_symbols-end.ensures) (omega (arith, c.requires.room.1))

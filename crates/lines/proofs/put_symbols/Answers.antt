@@ -25,12 +25,6 @@ put_byte-behind-requires c =
     let n = c.loop-i.invariant in
     omega (arith, naming_end n (omega (arith, c.requires.room)), c.loop-i-test.true, c.requires.room, n.size)
 
--- NO GOAL overflow-cast-put-name
--- cast-put-name c =
---     let loop-test = c.before.before.before.before.before.before in
---     let start = loop-test.before.before.before.before.before in
---     omega (arith, has_slot start.args.symbols.now _ start.requires.0 loop-test.loop-test.true)
-
 pub put_name-end-requires : goal.put_name-end-requires
 put_name-end-requires c =
     let n = c.loop-i.invariant in
@@ -54,9 +48,6 @@ loop-i-preserved c =
     rw add-one
     (naming_next c.loop-i.invariant c.loop-i-test.true c.put_byte-behind.ensures c.put_byte-behind.auto.line c.put_name-end.ensures
     c.put_name-end.auto.line)
-
--- NO GOAL same-length
--- same_length c = c.before.loop.invariant.size
 
 pub returns : goal.returns
 returns c = naming_last c.loop-i.invariant c.loop-i-test.false

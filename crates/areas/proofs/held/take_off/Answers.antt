@@ -13,13 +13,13 @@ some_left c =
     omega (arith, c.loop-k.invariant.0, c.requires.order, c.if-size-k.false)
 
 -- .. and its place is inside both areas
-inside-bytes : (c : Else-size-k) → c.loop-k.at - 1 < length c.loop-k.bytes
-inside-bytes c =
+inside_bytes : (c : Else-size-k) → c.loop-k.at - 1 < length c.loop-k.bytes
+inside_bytes c =
     let k = c.loop-k.invariant.2 in
     omega (arith, some_left c, k.order, k.inside, popping_length k)
 
-inside-words : (c : Else-size-k) → c.loop-k.at - 1 < length c.loop-k.words
-inside-words c =
+inside_words : (c : Else-size-k) → c.loop-k.at - 1 < length c.loop-k.words
+inside_words c =
     let k = c.loop-k.invariant.3 in
     omega (arith, some_left c, k.order, k.inside, popping_length k)
 
@@ -35,13 +35,13 @@ pub overflow_sub-at : goal.overflow_sub-at
 overflow_sub-at c = some_left (goal.at.overflow_sub-at c).Else-size-k
 
 pub bounds-bytes-at : goal.bounds-bytes-at
-bounds-bytes-at c = inside-bytes (goal.at.bounds-bytes-at c).Else-size-k
+bounds-bytes-at c = inside_bytes (goal.at.bounds-bytes-at c).Else-size-k
 
 pub offset_bounds-words-at : goal.offset_bounds-words-at
-offset_bounds-words-at c = omega (arith, inside-words (goal.at.offset_bounds-words-at c).Else-size-k)
+offset_bounds-words-at c = omega (arith, inside_words (goal.at.offset_bounds-words-at c).Else-size-k)
 
 pub bounds-words-at : goal.bounds-words-at
-bounds-words-at c = inside-words (goal.at.bounds-words-at c).Else-size-k
+bounds-words-at c = inside_words (goal.at.bounds-words-at c).Else-size-k
 
 pub loop-k-preserved : goal.loop-k-preserved
 loop-k-preserved c =

@@ -15,11 +15,6 @@ pub returns-then-text-i : goal.returns-then-text-i
 returns-then-text-i c =
     pair_short c.args.text.now c.args.i (omega arith)
 
--- NO GOAL overflow-cast-if3
--- cast-if3 c =
---     let start = c.before.before.before in
---     omega (arith, c.shared-slice-known.given start.args.i)
-
 pub bounds-classes-text : goal.bounds-classes-text
 bounds-classes-text c =
     omega (arith, c.type_inv.text c.args.i)

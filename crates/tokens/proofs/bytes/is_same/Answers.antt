@@ -23,9 +23,6 @@ returns-then-x-i c =
     let l = c.loop-i in
     same_not a.x.now a.y.now l.i l.invariant.1 (omega arith) (omega arith) c.if-x-i.true
 
--- NO GOAL overflow-add-i
--- add-i c = omega arith
-
 pub loop-i-smaller : goal.loop-i-smaller
 loop-i-smaller c = omega arith
 

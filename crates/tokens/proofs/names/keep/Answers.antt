@@ -15,8 +15,5 @@ bounds-area-at c =
 pub loop-i-preserved : goal.loop-i-preserved
 loop-i-preserved c = rw add-one (copying_next _ _ c.loop-i.invariant c.loop-i-test.true refl refl)
 
--- NO GOAL same-length
--- same_length c = copying_length c.before.loop.invariant
-
 pub returns : goal.returns
 returns c = copying_last c.loop-i.invariant c.loop-i-test.false

@@ -40,8 +40,8 @@ pub loop-i-preserved : goal.loop-i-preserved
 loop-i-preserved c =
     let image = c.args.image.now in
     let i = c.loop-i.i in
-    let is-rule : i < length (read image).rules = omega (arith, c.rules-i-end.ensures) in
-    let own = rule_at_lem (read image) (ranges (read image) (valid-in_range image c.requires)) i is-rule in
+    let is_rule : i < length (read image).rules = omega (arith, c.rules-i-end.ensures) in
+    let own = rule_at_lem (read image) (ranges (read image) (valid-in_range image c.requires)) i is_rule in
     let grown = longer i (read image).rules c.loop-i.most c.if-most-long.most c.loop-i.invariant.2 in
     let long = c.left_length-long.ensures in
     elim c.if-most-long.branch [

@@ -172,8 +172,8 @@ returns c =
     let fuel = c.args.fuel in
     let offering = c.args.offering in
     let all = c.loop-k-test.false in
-    let few-made = rw (calls_length offering events fuel) at c.loop-k.invariant.0.few in record {
+    let few_made = rw (calls_length offering events fuel) at c.loop-k.invariant.0.few in record {
       calls = rw (← calls_length offering events fuel)
           (offering_all c.loop-k.invariant.0 (room s) (rw (calls_length offering events fuel) all));
-      last = λ j e. c.loop-k.invariant.1 j (omega (arith, all, few-made, e));
+      last = λ j e. c.loop-k.invariant.1 j (omega (arith, all, few_made, e));
     }
