@@ -2,8 +2,7 @@
 // their caller, the checks of a call have shown; the crate monitor is the only one that calls them.
 #![tactic(auto)]
 
-ghost use Rattle.std.specs.Prelude.{◌≡◌, length};
-ghost use Rattle.std.proofs.Math.Option.{some};
+ghost use Rattle.std.specs.Prelude.{◌≡◌, length, Some};
 ghost use Rattle.layout.specs.Image.{read};
 ghost use Rattle.machine.specs.declared.Standing.{Standing};
 ghost use Rattle.machine.specs.Areas.{state_of};
@@ -42,7 +41,7 @@ pub fn rewrite(
 ) -> Rewritten
     requires lent { Passed (length bytes.old) image.now table.now (monitor_with settled waiting Standing.None 0 bytes.old words.old) }
     requires starts { Starts image.now starts.now }
-    requires next { Matches (read image.now).rules (state_of (monitor_with settled waiting Standing.None 0 bytes.old words.old)) (some i) }
+    requires next { Matches (read image.now).rules (state_of (monitor_with settled waiting Standing.None 0 bytes.old words.old)) (Some i) }
     ensures { rewritten_from result bytes.new words.new
         ≡ tried (read image.now).rules (length bytes.old)
         (monitor_with settled waiting Standing.None 0 bytes.old words.old)

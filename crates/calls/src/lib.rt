@@ -2,8 +2,7 @@
 // monitor. Two numbers a call: the first is 0 for a go-on and 1 + e for an offer of event e; the second is the fuel.
 #![tactic(auto)]
 
-ghost use Rattle.std.specs.Prelude.{◌≤◌, ◌≡◌, true, length};
-ghost use Rattle.std.proofs.Math.Option.{none};
+ghost use Rattle.std.specs.Prelude.{◌≤◌, ◌≡◌, true, length, None};
 ghost use Rattle.layout.specs.declared.Checked.{Checked};
 ghost use Rattle.machine.specs.State as State;
 ghost use Rattle.machine.specs.Areas.{document_capacity, head_of};
@@ -160,7 +159,7 @@ pub fn play(
 ) -> Played
     ensures outcome { played_from result bytes.new words.new
         ≡ play_of document_capacity image.now table.now bytes.old words.old numbers.now }
-    ensures promise { refused_as result.refusal ≡ none
+    ensures promise { refused_as result.refusal ≡ None
         → DemandThreeOf document_capacity image.now table.now bytes.old words.old
         (decoded_calls numbers.now)
         result bytes.new words.new }

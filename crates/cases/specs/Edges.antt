@@ -1,7 +1,6 @@
 -- The edges that document 01 lists, marked rules, batches, and what is lent otherwise than by fresh. proofs/Cases.antt computes
 -- every value from the definitions.
-use Rattle.std.specs.Prelude.{ℕ, List, [], ◌∷◌, ◌++◌, take, drop, replicate}
-use Rattle.std.proofs.Math.Option.{Option, none, some}
+use Rattle.std.specs.Prelude.{ℕ, List, [], ◌∷◌, ◌++◌, take, drop, replicate, Option, None, Some}
 use Rattle.rewriting.specs.Rules.{Put, Close, ◌⇒◌, at_start, RuleSet}
 use Rattle.rewriting.specs.Sample.{sample}
 use Rattle.layout.specs.Image.{image_of}
@@ -245,35 +244,35 @@ unfoldable pub batches : List BatchCase
 batches =
     -- the sample's day: lock, take, free, take. "Later answer bytes stay."
     batch sample fresh (0 ∷ 1 ∷ 2 ∷ 1 ∷ []) 1000 (9 ∷ 9 ∷ 9 ∷ 9 ∷ 9 ∷ [])
-    none 0 4 5 3 1 (0 ∷ 0 ∷ 0 ∷ 16 ∷ 9 ∷ []) []
+    None 0 4 5 3 1 (0 ∷ 0 ∷ 0 ∷ 16 ∷ 9 ∷ []) []
     -- an event behind the verdict: stopped by 14
     ∷ batch sample fresh (1 ∷ 0 ∷ []) 1000 (9 ∷ 9 ∷ [])
-    none 14 1 1 1 0 (16 ∷ 9 ∷ []) []
+    None 14 1 1 1 0 (16 ∷ 9 ∷ []) []
     -- held is no event: stopped by 12, also behind a verdict
     ∷ batch sample fresh (0 ∷ 3 ∷ 1 ∷ []) 0 (9 ∷ 9 ∷ 9 ∷ [])
-    none 12 1 0 0 0 (1 ∷ 9 ∷ 9 ∷ []) (0 ∷ [])
+    None 12 1 0 0 0 (1 ∷ 9 ∷ 9 ∷ []) (0 ∷ [])
     ∷ batch sample fresh (1 ∷ 3 ∷ []) 1000 (9 ∷ 9 ∷ [])
-    none 12 1 1 1 0 (16 ∷ 9 ∷ []) []
+    None 12 1 1 1 0 (16 ∷ 9 ∷ []) []
     -- a → a a: no room for a second event, stopped by 15
     ∷ batch growing fresh (0 ∷ 0 ∷ []) 2048 (9 ∷ 9 ∷ [])
-    none 15 1 2047 2047 4094 (2 ∷ 9 ∷ []) (replicate 2048 0)
+    None 15 1 2047 2047 4094 (2 ∷ 9 ∷ []) (replicate 2048 0)
     -- a → a a a: Full with room for one symbol; that stops no batch, but the next event is 15
     ∷ batch tripling fresh (0 ∷ 0 ∷ 0 ∷ []) 2048 (9 ∷ 9 ∷ 9 ∷ [])
-    none 15 2 1023 1023 3069 (2 ∷ 2 ∷ 9 ∷ []) (replicate 2048 0)
+    None 15 2 1023 1023 3069 (2 ∷ 2 ∷ 9 ∷ []) (replicate 2048 0)
     -- "No events: 0 accepted.", also where a verdict stands; one event there is stopped by 14
     ∷ batch sample fresh [] 65535 (9 ∷ [])
-    none 0 0 0 0 0 (9 ∷ []) []
+    None 0 0 0 0 0 (9 ∷ []) []
     ∷ batch sample (holding 0 0 (Standing.Verdict 0) 2 [] [] []) [] 1000 []
-    none 0 0 0 0 0 [] []
+    None 0 0 0 0 0 [] []
     ∷ batch sample (holding 0 0 (Standing.Verdict 0) 2 [] [] []) (0 ∷ []) 1000 (9 ∷ [])
-    none 14 0 0 0 0 (9 ∷ []) []
+    None 14 0 0 0 0 (9 ∷ []) []
     -- 16 with an answer byte too few; 13 before it; 11 before that
     ∷ batch sample fresh (0 ∷ 1 ∷ []) 65535 (9 ∷ [])
-    (some 16) 0 0 0 0 0 (9 ∷ []) []
+    (Some 16) 0 0 0 0 0 (9 ∷ []) []
     ∷ batch sample fresh (3 ∷ 1 ∷ []) 65536 (9 ∷ [])
-    (some 13) 0 0 0 0 0 (9 ∷ []) []
+    (Some 13) 0 0 0 0 0 (9 ∷ []) []
     ∷ batch sample (holding 0 0 Standing.None 2 [] [] []) (3 ∷ 1 ∷ []) 65536 (9 ∷ [])
-    (some 11) 0 0 0 0 0 (9 ∷ []) []
+    (Some 11) 0 0 0 0 0 (9 ∷ []) []
     ∷ []
 
 -- "16, more than 65,535 events": the refusal of so many events, with an answer byte for each

@@ -3,7 +3,7 @@
 -- Assumes nothing.
 use Prim.Native.Nat.{ℕ, zero, suc, ◌-◌, ◌≤◌, ◌<◌}
 use mathlib.Core.Path.{◌≡◌, refl, ap, ◌∙◌}
-use mathlib.Core.Option.{Option, none, some}
+use Rattle.std.specs.Prelude.{Option, None, Some}
 use mathlib.Core.List.{List, [], ◌∷◌}
 use native.Mathlib.Omega.{arith}
 use Rattle.layout.specs.Refusals.{refusal, refusal_number}
@@ -39,8 +39,8 @@ unfolding fresh_of freshened head_of empty active standing_word
 fresh-word capacity bytes words f e = rw e (go (refusal ((sized capacity bytes words, 10) ∷ [])))
   where
     go : (o : Option ℕ) → standing_word (freshened capacity bytes words o).monitor.head.verdict ≤ 16
-    go none = omega arith
-    go (some n) = omega arith
+    go None = omega arith
+    go (Some n) = omega arith
 
 pub fresh_made_lem : {f g : Fresh} → f ≡ g → (r : ℕ) (head : List ℕ) → r ≡ refusal_number f.refused
     → head ≡ head_words f.monitor.head
@@ -52,7 +52,7 @@ fresh_made_lem {f = f} e r head p q =
 
 -- a call
 pub call_words_lem : (capacity : ℕ) (image table : List ℕ) (m : Monitor) (c : Call) (o : Outcome) → o ≡ call_of capacity image table m c
-    → (answer_number o.answer < 256) × (refused_by o.answer ≡ none → standing_word o.monitor.head.verdict ≤ 16)
+    → (answer_number o.answer < 256) × (refused_by o.answer ≡ None → standing_word o.monitor.head.verdict ≤ 16)
 call_words_lem capacity image table m c o e = rw e (
   answer_number-below capacity image table m c,
   λ a. word_below (call_of capacity image table m c).monitor.head.verdict (accepted_verdict capacity image table m c a),
@@ -68,7 +68,7 @@ call_made_lem w {o = o} e r head out x y z =
 
 -- a batch
 pub batch-word : (capacity : ℕ) (image table : List ℕ) (m : Monitor) (events : List ℕ) (fuel : ℕ) (answers : List ℕ) (b : Batched)
-    → b ≡ batch_of capacity image table m events fuel answers → b.refused ≡ none
+    → b ≡ batch_of capacity image table m events fuel answers → b.refused ≡ None
     → standing_word b.monitor.head.verdict ≤ 16
 batch-word capacity image table m events fuel answers b e h =
     word_below b.monitor.head.verdict (rw e (batch_verdict capacity image table m events fuel answers (rw e at h)))

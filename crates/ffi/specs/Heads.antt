@@ -1,7 +1,6 @@
 -- A head as four words: settled count, waiting count, verdict + 1 or 0 for none, the verdict's rule. What the monitor's
 -- functions return and leave, in words.
-use Rattle.std.specs.Prelude.{ℕ, zero, suc, List, [], ◌∷◌, get_or}
-use Rattle.std.proofs.Math.Option.{Option, none, some}
+use Rattle.std.specs.Prelude.{ℕ, zero, suc, List, [], ◌∷◌, get_or, Option, None, Some}
 use Rattle.layout.specs.Refusals.{refusal_number}
 use Rattle.machine.specs.declared.Standing.{Standing}
 use Rattle.monitor.specs.declared.Head.{Head}
@@ -29,8 +28,8 @@ head_words h = h.settled ∷ h.waiting ∷ standing_word h.verdict ∷ h.rule �
 
 -- the head's words behind a call: as they were beside a refusal, else those of the new head
 unfoldable pub head_after : Option ℕ → List ℕ → Areas.Head → List ℕ
-head_after (some n) w h = w
-head_after none w h = head_words h
+head_after (Some n) w h = w
+head_after None w h = head_words h
 
 -- what fresh returns, and all that is lent to it, at its exit: the empty head beside 10, too
 pub record FreshMade : Type 0 where

@@ -1,8 +1,7 @@
 // The C interface of the watcher. Each function calls the library function of its name and spells the answer in numbers.
 #![tactic(auto)]
 
-ghost use Rattle.std.specs.Prelude.{◌≡◌, ◌≤◌, ◌<◌, [], ◌∷◌};
-ghost use Rattle.std.proofs.Math.Option.{none};
+ghost use Rattle.std.specs.Prelude.{◌≡◌, ◌≤◌, ◌<◌, [], ◌∷◌, None};
 ghost use Rattle.layout.specs.Refusals.{refusal_number};
 ghost use Rattle.layout.specs.Compile.{compile_of, word_count};
 ghost use Rattle.layout.specs.TableCheck.{check_of};
@@ -152,7 +151,7 @@ fn answer_word(answer: Answer) -> u64
 // What a call gave back: the new head, unless the call is refused; the answer and the counts; the refusal's number or 0.
 fn told(called: Returned, head: &mut [u64; 4], out: &mut [u64; 4]) -> u32
     requires answer { answer_number called.answer < 256 }
-    requires verdict { refused_by called.answer ≡ none → standing_word called.head.verdict ≤ 16 }
+    requires verdict { refused_by called.answer ≡ None → standing_word called.head.verdict ≤ 16 }
     ensures refusal { result ≡ refusal_number (refused_by called.answer) }
     ensures head { head.new ≡ head_after (refused_by called.answer) head.old (head_in called.head) }
     ensures out { out.new ≡ call_words called.answer called.counts }

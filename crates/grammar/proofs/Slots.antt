@@ -3,7 +3,7 @@
 use Prim.Native.Nat.{ℕ, zero, suc, ◌+◌, ◌*◌, ◌-◌, ◌≤◌, ◌<◌}
 use mathlib.Core.Path.{◌≡◌, refl, sym, ap, ◌∙◌}
 use mathlib.Core.Bool.{Bool, true, false, ◌&&◌, and-true, and-false}
-use mathlib.Core.Option.{Option, none, some, map}
+use Rattle.std.specs.Prelude.{Option, None, Some, option_map}
 use mathlib.Core.List.{List, [], ◌∷◌, ◌++◌, flat_map}
 use native.Mathlib.Omega.{arith}
 use native.Mathlib.Nat.{le_of_suc-le-suc, not-suc-le-zero}
@@ -127,9 +127,9 @@ pub number_later : (key area : List ℕ) (n : ℕ) → same key (take 25 area) �
 unfolding slot_at number_or
 number_later key area n e = rw e (go (slot_at key n (drop 25 area)))
   where
-    go : (o : Option ℕ) → number_or (suc n) (map suc o) ≡ suc (number_or n o)
-    go none = refl
-    go (some i) = refl
+    go : (o : Option ℕ) → number_or (suc n) (option_map suc o) ≡ suc (number_or n o)
+    go None = refl
+    go (Some i) = refl
 
 pub number_end : (key area : List ℕ) → number_or 0 (slot_at key 0 area) ≡ 0
 unfolding slot_at number_or

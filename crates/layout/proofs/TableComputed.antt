@@ -2,7 +2,8 @@
 -- Assumes nothing.
 use Prim.Native.Nat.{ℕ}
 use mathlib.Core.Path.{◌≡◌, refl}
-use mathlib.Core.Option.{some, or_else}
+use Rattle.std.specs.Prelude.{Some}
+use Rattle.std.specs.Option.{option_or}
 use mathlib.Core.List.{List, [], ◌∷◌, ◌++◌, flat_map}
 use lib.ListN.{length, replicate}
 use Rattle.rewriting.specs.Lists.{over}
@@ -55,7 +56,7 @@ sample_table =
 pub sample_table_lem : table_of sample ≡ sample_table
 unfolding
     sample table_of match_word row states first_states has_mark numbered pattern prefixes known number next matching starts
-    symbols_in state is_prefix lowest spanning tie ending or_else flat_map
+    symbols_in state is_prefix lowest spanning tie ending flat_map
 sample_table_lem = refl
 
 pub sample_words : length (table_of sample) ≡ 32
@@ -87,8 +88,8 @@ unfolding states first_states has_mark numbered pattern prefixes known flat_map
 common_prefix = refl
 
 -- C5: the state b a a is no left side, and matches a a, which ends it
-pub inner_match : matching ((1 ∷ 0 ∷ 0 ∷ 2 ∷ [] ⇒ Close 0) ∷ (0 ∷ 0 ∷ [] ⇒ Put []) ∷ []) (1 ∷ 0 ∷ 0 ∷ []) ≡ some 1
-unfolding matching starts symbols_in ending tie spanning lowest or_else
+pub inner_match : matching ((1 ∷ 0 ∷ 0 ∷ 2 ∷ [] ⇒ Close 0) ∷ (0 ∷ 0 ∷ [] ⇒ Put []) ∷ []) (1 ∷ 0 ∷ 0 ∷ []) ≡ Some 1
+unfolding matching starts symbols_in ending tie spanning lowest
 inner_match = refl
 
 -- a marked rule behind another: `lock take -> held . ^ take -> #fail .`
@@ -112,12 +113,12 @@ pub marked_table : table_of (record { symbols = 3; events = 2; verdicts = 2; rul
     ∷ []
 unfolding
     table_of match_word row states first_states has_mark numbered pattern prefixes known number next matching starts symbols_in state is_prefix
-    lowest spanning tie ending or_else flat_map
+    lowest spanning tie ending flat_map
 marked_table = refl
 
 -- of `^ take` and `take`, which end together on the same span, the first
-pub marked_match : matching ((1 ∷ [] ⇒ Close 1) ∷ at_start (1 ∷ [] ⇒ Close 0) ∷ []) (mark ∷ 1 ∷ []) ≡ some 1
-unfolding matching starts symbols_in ending tie spanning lowest or_else
+pub marked_match : matching ((1 ∷ [] ⇒ Close 1) ∷ at_start (1 ∷ [] ⇒ Close 0) ∷ []) (mark ∷ 1 ∷ []) ≡ Some 1
+unfolding matching starts symbols_in ending tie spanning lowest
 marked_match = refl
 
 -- no rules: the empty string is the one state
@@ -126,5 +127,6 @@ unfolding states first_states has_mark numbered flat_map
 empty-states = refl
 
 pub empty_table : table_of (record { symbols = 1; events = 1; verdicts = 2; rules = [] }) ≡ 1 ∷ 1 ∷ 0 ∷ 0 ∷ []
-unfolding table_of match_word row states first_states has_mark numbered number next matching starts symbols_in state is_prefix lowest ending flat_map
+unfolding table_of match_word row states first_states has_mark numbered number next matching starts symbols_in state is_prefix
+    lowest ending flat_map
 empty_table = refl

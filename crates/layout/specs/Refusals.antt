@@ -1,6 +1,5 @@
 -- Refusals: "It refuses, in order".
-use Rattle.std.specs.Prelude.{ℕ, Bool, cond, List, [], ◌∷◌}
-use Rattle.std.proofs.Math.Option.{Option, none, some}
+use Rattle.std.specs.Prelude.{ℕ, Bool, cond, List, [], ◌∷◌, Option, None, Some}
 use Rattle.layout.specs.declared.Checked.{Checked}
 
 -- what is demanded, and document 01's number for the refusal where it does not hold
@@ -9,19 +8,19 @@ Check = Bool × ℕ
 
 -- the refusal of the first check that fails
 unfoldable pub refusal : List Check → Option ℕ
-refusal [] = none
-refusal (c ∷ checks) = cond c.0 (refusal checks) (some c.1)
+refusal [] = None
+refusal (c ∷ checks) = cond c.0 (refusal checks) (Some c.1)
 
 -- a refusal as a number: 0 where there is none
 unfoldable pub refusal_number : Option ℕ → ℕ
-refusal_number none = 0
-refusal_number (some n) = n
+refusal_number None = 0
+refusal_number (Some n) = n
 
 -- a refusal as the code answers it, and back
 unfoldable pub answered : Option ℕ → Checked
-answered none = Checked.Passed
-answered (some n) = Checked.Refused n
+answered None = Checked.Passed
+answered (Some n) = Checked.Refused n
 
 unfoldable pub refused_as : Checked → Option ℕ
-refused_as Checked.Passed = none
-refused_as (Checked.Refused n) = some n
+refused_as Checked.Passed = None
+refused_as (Checked.Refused n) = Some n

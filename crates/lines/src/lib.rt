@@ -2,8 +2,7 @@
 // What they ask, that there is room above all, the crate report shows: it is the only one that calls them.
 #![tactic(auto)]
 
-ghost use Rattle.std.specs.Prelude.{◌+◌, ◌*◌, ◌≤◌, ◌<◌, ◌≡◌, true, length};
-ghost use Rattle.std.proofs.Math.Option.{none};
+ghost use Rattle.std.specs.Prelude.{◌+◌, ◌*◌, ◌≤◌, ◌<◌, ◌≡◌, true, length, None};
 ghost use mathlib.Core.List.{[], ◌∷◌, ◌++◌, flat_map};
 ghost use Rattle.rewriting.specs.Lists.{below};
 ghost use Rattle.machine.specs.Calls.{refused_by};
@@ -172,7 +171,7 @@ pub fn put_refused(line: &mut [u8], at: usize, n: u32) -> usize
 // The rest of the line for a name, from the answer on.
 pub fn put_told(line: &mut [u8], at: usize, names: &[u8], called: Returned, bytes: &[u8]) -> usize
     requires slot { HasSlot called.answer }
-    requires small { refused_by called.answer ≡ none → Small (outcome_from called bytes.now []) }
+    requires small { refused_by called.answer ≡ None → Small (outcome_from called bytes.now []) }
     requires names { length names.now ≡ names_size }
     requires bytes { length bytes.now ≡ document_capacity }
     requires room { (at ≤ slot_size) × (line_most ≤ length line.old) }

@@ -2,12 +2,12 @@
 -- Assumes nothing.
 use Prim.Native.Nat.{ℕ}
 use mathlib.Core.Path.{◌≡◌, refl}
-use mathlib.Core.Option.{none}
+use Rattle.std.specs.Prelude.{None}
 use Rattle.machine.specs.declared.Answer.{Answer}
 use Rattle.machine.specs.Calls.{refused_by}
 
 -- an answer that is no refusal
-pub not_refused : (a : Answer) → ((n : ℕ) → a ≡ Answer.Refused n → ⊥) → refused_by a ≡ none
+pub not_refused : (a : Answer) → ((n : ℕ) → a ≡ Answer.Refused n → ⊥) → refused_by a ≡ None
 unfolding refused_by
 not_refused Answer.Quiet h = refl
 not_refused Answer.Spent h = refl

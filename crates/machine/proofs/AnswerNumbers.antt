@@ -3,7 +3,7 @@
 use Prim.Native.Nat.{ℕ, ◌≤◌, ◌<◌}
 use mathlib.Core.Path.{◌≡◌, refl}
 use mathlib.Core.Bool.{true}
-use mathlib.Core.Option.{Option, none, some}
+use Rattle.std.specs.Prelude.{Option, None, Some}
 use mathlib.Core.List.{List, [], ◌∷◌, ◌++◌}
 use native.Mathlib.Omega.{arith}
 use lib.Dec.{ltb}
@@ -63,7 +63,7 @@ pub record Lent (capacity : ℕ) (image table : List ℕ) (m : Monitor) : Type 0
   pub right : prefix (table_of (read image)) table ≡ true
   pub holding : Holding (read image) capacity m
 
-pub passed_lent : (capacity : ℕ) (image table : List ℕ) (m : Monitor) → refusal (lent_checks capacity image table m) ≡ none
+pub passed_lent : (capacity : ℕ) (image table : List ℕ) (m : Monitor) → refusal (lent_checks capacity image table m) ≡ None
     → Lent capacity image table m
 passed_lent capacity image table m e =
     record {
@@ -72,7 +72,7 @@ passed_lent capacity image table m e =
       holding = passed_holding capacity image table m e;
     }
 
-pub passed_verdict : (capacity : ℕ) (image table : List ℕ) (m : Monitor) → refusal (lent_checks capacity image table m) ≡ none
+pub passed_verdict : (capacity : ℕ) (image table : List ℕ) (m : Monitor) → refusal (lent_checks capacity image table m) ≡ None
     → (v : ℕ) → m.head.verdict ≡ Standing.Verdict v → v < 16
 passed_verdict capacity image table m e =
     let l : Lent capacity image table m = passed_lent capacity image table m e in
@@ -80,7 +80,7 @@ passed_verdict capacity image table m e =
 
 -- they have passed where a call is accepted
 pub accepted_passed : (capacity : ℕ) (image table : List ℕ) (m : Monitor) (c : Call)
-    → refused_by (call_of capacity image table m c).answer ≡ none → refusal (lent_checks capacity image table m) ≡ none
+    → refused_by (call_of capacity image table m c).answer ≡ None → refusal (lent_checks capacity image table m) ≡ None
 unfolding call_of decided outcome refused_by
 accepted_passed capacity image table m c e =
     refusal_none_left (lent_checks capacity image table m) _
@@ -89,13 +89,13 @@ accepted_passed capacity image table m c e =
     r : Run
     r = run (read image).rules capacity (fuel_of c) (offered (state_of m) c)
 
-    go : (o : Option ℕ) → refused_by (outcome (read image) capacity m o r).answer ≡ none → o ≡ none
-    go none p = refl
-    go (some n) p = let z : ◌≡◌ {A = ℕ} 0 1 = cc in absurd (omega arith)
+    go : (o : Option ℕ) → refused_by (outcome (read image) capacity m o r).answer ≡ None → o ≡ None
+    go None p = refl
+    go (Some n) p = let z : ◌≡◌ {A = ℕ} 0 1 = cc in absurd (omega arith)
 
 -- of an accepted call
 pub accepted_verdict : (capacity : ℕ) (image table : List ℕ) (m : Monitor) (c : Call)
-    → refused_by (call_of capacity image table m c).answer ≡ none
+    → refused_by (call_of capacity image table m c).answer ≡ None
     → (v : ℕ) → (call_of capacity image table m c).monitor.head.verdict ≡ Standing.Verdict v → v < 16
 accepted_verdict capacity image table m c a v e =
     let l : Lent capacity image table m = passed_lent capacity image table m (accepted_passed capacity image table m c a) in
@@ -112,8 +112,8 @@ answer_number-below capacity image table m c =
     o : Outcome
     o = call_of capacity image table m c
 
-    go : (a : Answer) → (refused_by a ≡ none → refused_by o.answer ≡ none)
-        → (refused_by a ≡ none → Stopped (read image).rules capacity (fuel_of c) o.counts (state_of o.monitor) a)
+    go : (a : Answer) → (refused_by a ≡ None → refused_by o.answer ≡ None)
+        → (refused_by a ≡ None → Stopped (read image).rules capacity (fuel_of c) o.counts (state_of o.monitor) a)
         → answer_number a < 256
     go Answer.Quiet f s = omega arith
     go Answer.Spent f s = omega arith
@@ -141,11 +141,11 @@ offers-holding capacity image table good right fuel (event ∷ events) m h =
     go : (x : Option ℕ) → Holding (read image) capacity o.monitor
         → Holding (read image) capacity (offers capacity image table o.monitor events fuel).monitor
         → Holding (read image) capacity (and_then o x (λ m'. offers capacity image table m' events fuel)).monitor
-    go (some n) k ih = k
-    go none k ih = ih
+    go (Some n) k ih = k
+    go None k ih = ih
 
 pub batch_verdict : (capacity : ℕ) (image table : List ℕ) (m : Monitor) (events : List ℕ) (fuel : ℕ) (answers : List ℕ)
-    → (batch_of capacity image table m events fuel answers).refused ≡ none
+    → (batch_of capacity image table m events fuel answers).refused ≡ None
     → (v : ℕ) → (batch_of capacity image table m events fuel answers).monitor.head.verdict ≡ Standing.Verdict v → v < 16
 unfolding batch_of batched batch_checks
 batch_verdict capacity image table m events fuel answers = go (refusal checks) refl
@@ -154,11 +154,11 @@ batch_verdict capacity image table m events fuel answers = go (refusal checks) r
     checks = batch_checks capacity image table m events fuel answers
 
     go : (o : Option ℕ) → refusal checks ≡ o
-        → (batched o m answers (offers capacity image table m events fuel)).refused ≡ none
+        → (batched o m answers (offers capacity image table m events fuel)).refused ≡ None
         → (v : ℕ) → (batched o m answers (offers capacity image table m events fuel)).monitor.head.verdict ≡ Standing.Verdict v
         → v < 16
-    go (some n) p e v s = let z : ◌≡◌ {A = ℕ} 0 1 = cc in absurd (omega arith)
-    go none p e v s =
+    go (Some n) p e v s = let z : ◌≡◌ {A = ℕ} 0 1 = cc in absurd (omega arith)
+    go None p e v s =
         let l : Lent capacity image table m =
         passed_lent capacity image table m (refusal_none_left (lent_checks capacity image table m) _ p)
         in

@@ -3,7 +3,7 @@
 use Prim.Native.Nat.{ℕ, ◌+◌, ◌-◌, ◌≤◌, ◌<◌}
 use mathlib.Core.Path.{◌≡◌, refl, ap, ◌∙◌}
 use mathlib.Core.Bool.{Bool, true, false, not, cond}
-use mathlib.Core.Option.{none}
+use Rattle.std.specs.Prelude.{None}
 use native.Mathlib.Omega.{arith}
 use lib.Dec.{eqb, ltb}
 use borrow.Author.Tests.{le-ltb, lt-ltb, eq-eqb, ne_eqb}
@@ -56,7 +56,7 @@ quiet_low n h s f = rw (ne_eqb n 1 s, ne_eqb n 2 f, lt-ltb n 16 h) (either (eqb 
     either false = refl
 
 -- an answer is told by its number
-pub answer_back : (a : Answer) → refused_by a ≡ none → answer_from (answer_number a) ≡ a
+pub answer_back : (a : Answer) → refused_by a ≡ None → answer_from (answer_number a) ≡ a
 unfolding answer_number refused_by
 answer_back Answer.Quiet e = refl
 answer_back Answer.Spent e = refl
@@ -67,12 +67,12 @@ answer_back (Answer.Verdict v) e =
 answer_back (Answer.Refused n) e = let z : ◌≡◌ {A = ℕ} 0 1 = cc in absurd (omega arith)
 
 -- no number is that of a refusal
-pub no_refusal : (n : ℕ) → refused_by (answer_from n) ≡ none
+pub no_refusal : (n : ℕ) → refused_by (answer_from n) ≡ None
 unfolding refused_by
 no_refusal n = go (eqb n 0) (eqb n 1) (eqb n 2) (ltb n 16)
   where
     go : (quiet spent full low : Bool)
-        → refused_by (cond quiet Answer.Quiet (cond spent Answer.Spent (cond full Answer.Full (cond low Answer.Quiet (Answer.Verdict (n - 16)))))) ≡ none
+        → refused_by (cond quiet Answer.Quiet (cond spent Answer.Spent (cond full Answer.Full (cond low Answer.Quiet (Answer.Verdict (n - 16)))))) ≡ None
     go true s f l = refl
     go false true f l = refl
     go false false true l = refl

@@ -4,7 +4,7 @@ use Prim.Native.Nat.{ℕ, ◌+◌, ◌≤◌, ◌<◌}
 use mathlib.Core.Path.{◌≡◌, refl, sym}
 use mathlib.Core.Bool.{true}
 use mathlib.Core.Logic.{◌↔◌}
-use mathlib.Core.Option.{Option, none, some}
+use Rattle.std.specs.Prelude.{Option, None, Some}
 use mathlib.Core.List.{List, [], ◌∷◌, ◌++◌, append-nil}
 use native.Mathlib.Omega.{arith}
 use lib.ListN.{length, length-append}
@@ -59,21 +59,21 @@ pub record Next (set : RuleSet) (capacity : ℕ) (s : State) (c : Call) (o : Out
   pub reached : Reaches set.rules (more s (events_of (refused_by o.answer) c)) o.counts after.state
   pub symbols : below set.symbols (events_of (refused_by o.answer) c) ≡ true
   pub quiet : o.answer ≡ Answer.Quiet
-      ↔ ((refused_by o.answer ≡ none) × (after.state.waiting ≡ []) × (after.state.verdict ≡ Standing.None))
+      ↔ ((refused_by o.answer ≡ None) × (after.state.waiting ≡ []) × (after.state.verdict ≡ Standing.None))
 
 pub more_nil : (s : State) → more s [] ≡ s
 unfolding more
 more_nil s = λ i. record { settled = s.settled; waiting = append-nil s.waiting i; verdict = s.verdict; rule = s.rule }
 
-pub offered_more : (s : State) (c : Call) → offered s c ≡ more s (events_of none c)
+pub offered_more : (s : State) (c : Call) → offered s c ≡ more s (events_of None c)
 unfolding offered events_of more
 offered_more s (Offer event fuel) = refl
 offered_more s (GoOn fuel) = sym (more_nil s)
 
 -- an accepted event is a symbol, and there is room for it
 pub accepted_event : (set : RuleSet) → Ranges set → (capacity : ℕ) (s : State) (c : Call)
-    → refusal (call_checks set capacity (head_of s) c) ≡ none → fits capacity s ≡ true
-    → (fits capacity (offered s c) ≡ true) × (below set.symbols (events_of none c) ≡ true)
+    → refusal (call_checks set capacity (head_of s) c) ≡ None → fits capacity s ≡ true
+    → (fits capacity (offered s c) ≡ true) × (below set.symbols (events_of None c) ≡ true)
 unfolding call_checks fuel_check verdict_check offered events_of fits head_of
 accepted_event set ranges capacity s (GoOn fuel) e h = (h, refl)
 accepted_event set ranges capacity s (Offer event fuel) e h =
@@ -103,22 +103,22 @@ next_of set ranges capacity s f h c =
     done = ran set.rules capacity (fuel_of c) (offered s c)
 
     go : (o : Option ℕ) → refusal (call_checks set capacity (head_of s) c) ≡ o → Next set capacity s c (outcome set capacity m o r)
-    go (some n) e =
+    go (Some n) e =
         record {
           after = record { state = s; written = refl; legal = f; room = h };
           reached = rw more_nil Stay;
           symbols = refl;
           quiet = (
             λ (p : Answer.Refused n ≡ Answer.Quiet). let z : ◌≡◌ {A = ℕ} 0 1 = cc in absurd (omega arith),
-            λ (p : (some n ≡ none) × (s.waiting ≡ []) × (s.verdict ≡ Standing.None)).
+            λ (p : (Some n ≡ None) × (s.waiting ≡ []) × (s.verdict ≡ Standing.None)).
                 let z : ◌≡◌ {A = ℕ} 0 1 = cc in absurd (omega arith),
           );
         }
-    go none e =
+    go None e =
         let room : fits capacity (offered s c) ≡ true = (accepted_event set ranges capacity s c e h).0 in
-        let symbols : below set.symbols (events_of none c) ≡ true = (accepted_event set ranges capacity s c e h).1 in
-        let legal : Legal set (offered s c) = rw offered_more (legal_more set s (events_of none c) symbols f) in
-        let accepted : refused_by r.answer ≡ none =
+        let symbols : below set.symbols (events_of None c) ≡ true = (accepted_event set ranges capacity s c e h).1 in
+        let legal : Legal set (offered s c) = rw offered_more (legal_more set s (events_of None c) symbols f) in
+        let accepted : refused_by r.answer ≡ None =
         stopped_accepted set.rules capacity (fuel_of c) r.counts r.state r.answer done.stops
         in
         let quiet : _ = stopped_quiet set.rules capacity (fuel_of c) r.counts r.state r.answer done.stops in
@@ -130,7 +130,7 @@ next_of set ranges capacity s f h c =
         }
 
 -- The checks behind 10 and 11 take nothing else.
-pub passed_holding : (capacity : ℕ) (image table : List ℕ) (m : Monitor) → refusal (lent_checks capacity image table m) ≡ none
+pub passed_holding : (capacity : ℕ) (image table : List ℕ) (m : Monitor) → refusal (lent_checks capacity image table m) ≡ None
     → Holding (read image) capacity m
 unfolding lent_checks
 passed_holding capacity image table m e =
@@ -146,7 +146,7 @@ module _ (capacity : ℕ) (image table : List ℕ) (good : valid image ≡ true)
   in_range_lem = ranges (read image) (valid-in_range image good)
 
   -- They pass, and so do those behind 7 and 9.
-  pub holding_passes : (m : Monitor) → Holding (read image) capacity m → refusal (lent_checks capacity image table m) ≡ none
+  pub holding_passes : (m : Monitor) → Holding (read image) capacity m → refusal (lent_checks capacity image table m) ≡ None
   unfolding lent_checks refusal
   holding_passes m h =
       rw h.written

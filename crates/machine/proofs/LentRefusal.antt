@@ -4,7 +4,7 @@
 use Prim.Native.Nat.{ℕ}
 use mathlib.Core.Path.{◌≡◌, refl, sym, ap, ◌∙◌}
 use mathlib.Core.Bool.{Bool, true, false, and-false}
-use mathlib.Core.Option.{Option, none, some}
+use Rattle.std.specs.Prelude.{Option, None, Some}
 use mathlib.Core.List.{List, [], ◌∷◌}
 use native.Mathlib.Omega.{arith}
 use lib.ListN.{length}
@@ -29,26 +29,26 @@ use Rattle.machine.specs.Areas.{Head, Monitor, described}
 use Rattle.machine.specs.Calls.{sized, lent_checks}
 use Rattle.machine.specs.Lent.{monitor_in, Passed}
 
-pub answered_passed : (o : Option ℕ) → answered o ≡ Checked.Passed → o ≡ none
+pub answered_passed : (o : Option ℕ) → answered o ≡ Checked.Passed → o ≡ None
 unfolding answered
-answered_passed none e = refl
-answered_passed (some n) e = let z : ◌≡◌ {A = ℕ} 0 1 = cc in absurd (omega arith)
+answered_passed None e = refl
+answered_passed (Some n) e = let z : ◌≡◌ {A = ℕ} 0 1 = cc in absurd (omega arith)
 
-pub answered_refused : (o : Option ℕ) (n : ℕ) → answered o ≡ Checked.Refused n → o ≡ some n
+pub answered_refused : (o : Option ℕ) (n : ℕ) → answered o ≡ Checked.Refused n → o ≡ Some n
 unfolding answered
-answered_refused none n e = let z : ◌≡◌ {A = ℕ} 0 1 = cc in absurd (omega arith)
-answered_refused (some k) n e = let same : k ≡ n = cc in rw same
+answered_refused None n e = let z : ◌≡◌ {A = ℕ} 0 1 = cc in absurd (omega arith)
+answered_refused (Some k) n e = let same : k ≡ n = cc in rw same
 
 -- The code's answers, where image and table are refused, and where they pass.
 module _ (capacity : ℕ) (image table : List ℕ) {r : Checked} (check : r ≡ check_of image table) where
   pub table_refused : (m : Monitor) (n : ℕ) → r ≡ Checked.Refused n → Checked.Refused n ≡ answered (refusal (lent_checks capacity image table m))
   unfolding check_of lent_checks answered
   table_refused m n e =
-      let first : refusal (table_checks image table) ≡ some n = answered_refused (refusal (table_checks image table)) n (sym check ∙ e) in
+      let first : refusal (table_checks image table) ≡ Some n = answered_refused (refusal (table_checks image table)) n (sym check ∙ e) in
       sym (ap answered (refusal_append_some (table_checks image table) _ n first))
 
   module _ (e : r ≡ Checked.Passed) where
-    first_pass : refusal (table_checks image table) ≡ none
+    first_pass : refusal (table_checks image table) ≡ None
     unfolding check_of
     first_pass = answered_passed (refusal (table_checks image table)) (sym check ∙ e)
 
@@ -105,5 +105,5 @@ module _ (capacity : ℕ) (image table : List ℕ) (m : Monitor) {r : Checked}
   pub lent_none : r ≡ Checked.Passed → Passed capacity image table m
   lent_none p = answered_passed (refusal (lent_checks capacity image table m)) (sym e ∙ p)
 
-  pub lent-some : {n : ℕ} → r ≡ Checked.Refused n → refusal (lent_checks capacity image table m) ≡ some n
+  pub lent-some : {n : ℕ} → r ≡ Checked.Refused n → refusal (lent_checks capacity image table m) ≡ Some n
   lent-some {n} p = answered_refused (refusal (lent_checks capacity image table m)) n (sym e ∙ p)

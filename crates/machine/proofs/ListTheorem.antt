@@ -3,7 +3,7 @@
 use Prim.Native.Nat.{ℕ}
 use mathlib.Core.Path.{◌≡◌, refl, ap}
 use mathlib.Core.Bool.{Bool, true, false}
-use mathlib.Core.Option.{some}
+use Rattle.std.specs.Prelude.{Some}
 use mathlib.Core.List.{List, [], ◌∷◌, ◌++◌, append-nil}
 use native.Mathlib.Omega.{arith}
 use lib.Dec.{ltb}
@@ -137,7 +137,7 @@ module _ (capacity : ℕ) (image table : List ℕ) (good : valid image ≡ true)
       }
 
 -- what is lent is refused at every call
-module _ (n capacity : ℕ) (image table : List ℕ) (m : Monitor) (fails : refusal (lent_checks capacity image table m) ≡ some n) where
+module _ (n capacity : ℕ) (image table : List ℕ) (m : Monitor) (fails : refusal (lent_checks capacity image table m) ≡ Some n) where
   refused_call : (c : Call) → call_of capacity image table m c ≡ refusal_of n m
   unfolding call_of decided outcome
   refused_call c = rw (refusal_append_some _ _ n fails)

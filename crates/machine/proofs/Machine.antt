@@ -4,7 +4,7 @@
 use Prim.Native.Nat.{ℕ, ◌*◌, ◌≤◌, ◌<◌}
 use mathlib.Core.Path.{◌≡◌, refl, ap}
 use mathlib.Core.Bool.{true}
-use mathlib.Core.Option.{Option, none, some}
+use Rattle.std.specs.Prelude.{Option, None, Some}
 use mathlib.Core.List.{List, [], ◌∷◌, ◌++◌, append_assoc}
 use native.Mathlib.Omega.{arith}
 use lib.ListN.{length}
@@ -49,8 +49,8 @@ replace_more s q e i (Close v) = refl
 
 settle_more : (rules : List Rule) (p q e : List ℕ) (m : Option ℕ) → settle rules p (q ++ e) m ≡ step_more (settle rules p q m) e
 unfolding settle step_more more active
-settle_more rules p q e none = refl
-settle_more rules p q e (some i) =
+settle_more rules p q e None = refl
+settle_more rules p q e (Some i) =
     replace_more (cut rules p i) q e i (rule rules i).right
 
 step_more_lem : (rules : List Rule) (s : List ℕ) (a : ℕ) (q e : List ℕ) → step rules s a (q ++ e) ≡ step_more (step rules s a q) e
@@ -92,8 +92,8 @@ step_counts set ranges s a q = go (matching set.rules there) refl
 
     go : (m : Option ℕ) → matching set.rules there ≡ m
         → ((settle set.rules p q m).rewrites ≤ 1) × ((settle set.rules p q m).put ≤ 8 * (settle set.rules p q m).rewrites)
-    go none e = (omega arith, omega arith)
-    go (some i) e =
+    go None e = (omega arith, omega arith)
+    go (Some i) e =
         let is-rule : i < length set.rules = rw e at (few_matching set.rules there) in
         let c : _ =
         replace_counts set (cut set.rules p i) q i (rule set.rules i).right

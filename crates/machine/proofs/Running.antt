@@ -3,7 +3,7 @@
 use Prim.Native.Nat.{ℕ, zero, suc, ◌+◌, ◌-◌, ◌*◌, ◌≤◌, ◌<◌}
 use mathlib.Core.Path.{◌≡◌, refl, sym, ap, ◌∙◌, subst}
 use mathlib.Core.Bool.{Bool, true, false, cond}
-use mathlib.Core.Option.{none}
+use Rattle.std.specs.Prelude.{None}
 use mathlib.Core.List.{List, [], ◌∷◌}
 use native.Mathlib.Omega.{arith}
 use native.Mathlib.Nat.{add-zero}
@@ -181,7 +181,7 @@ module _ {image table bytes₀ words₀ : List ℕ} {fuel : ℕ} {c₀ : Counts}
   ended_here : (answer : Answer)
       → run (read image).rules (length bytes₀) left (state_of (monitor_in head bytes words)) ≡ ended answer (state_of (monitor_in head bytes words))
       → ◌≡◌ {A = Outcome} (record { answer = answer; counts = so_far c₀ fuel left rewrites put; monitor = monitor_in head bytes words })
-      (upon c₀ (outcome (read image) (length bytes₀) (monitor_in head₀ bytes₀ words₀) none
+      (upon c₀ (outcome (read image) (length bytes₀) (monitor_in head₀ bytes₀ words₀) None
       (run (read image).rules (length bytes₀) fuel (state_of (monitor_in head₀ bytes₀ words₀)))))
   unfolding outcome ended
   ended_here answer e =
@@ -192,13 +192,13 @@ module _ {image table bytes₀ words₀ : List ℕ} {fuel : ℕ} {c₀ : Counts}
       in
       let whole : ahead c₀ r ≡ ahead c (ended answer (state_of (monitor_in head bytes words))) = k.rest ∙ ap (ahead c) e in
       sym
-      (ap (λ (x : Run). outcome (read image) (length bytes₀) (monitor_in head₀ bytes₀ words₀) none x) whole
+      (ap (λ (x : Run). outcome (read image) (length bytes₀) (monitor_in head₀ bytes₀ words₀) None x) whole
       ∙ (λ i. record { answer = answer; counts = plus_none c i; monitor = written i }))
 
   -- A verdict stands: the answer's number is 16 or more.
   pub verdict_ends : (n : ℕ) → 16 ≤ n → head.verdict ≡ standing_after n
       → ◌≡◌ {A = Outcome} (record { answer = answer_from n; counts = so_far c₀ fuel left rewrites put; monitor = monitor_in head bytes words })
-      (upon c₀ (outcome (read image) (length bytes₀) (monitor_in head₀ bytes₀ words₀) none
+      (upon c₀ (outcome (read image) (length bytes₀) (monitor_in head₀ bytes₀ words₀) None
       (run (read image).rules (length bytes₀) fuel (state_of (monitor_in head₀ bytes₀ words₀)))))
   unfolding state_of
   verdict_ends n h e =
@@ -208,7 +208,7 @@ module _ {image table bytes₀ words₀ : List ℕ} {fuel : ℕ} {c₀ : Counts}
 
   pub quiet_ends : head.verdict ≡ Standing.None → head.waiting ≡ 0
       → ◌≡◌ {A = Outcome} (record { answer = Answer.Quiet; counts = so_far c₀ fuel left rewrites put; monitor = monitor_in head bytes words })
-      (upon c₀ (outcome (read image) (length bytes₀) (monitor_in head₀ bytes₀ words₀) none
+      (upon c₀ (outcome (read image) (length bytes₀) (monitor_in head₀ bytes₀ words₀) None
       (run (read image).rules (length bytes₀) fuel (state_of (monitor_in head₀ bytes₀ words₀)))))
   unfolding state_of
   quiet_ends e z =
@@ -223,7 +223,7 @@ module _ {image table bytes₀ words₀ : List ℕ} {fuel : ℕ} {c₀ : Counts}
   pub spent_ends : head.verdict ≡ Standing.None → 0 < head.waiting → left ≡ 0
       → ◌≡◌ {A = Outcome}
       (record { answer = Answer.Spent; counts = record { steps = c₀.steps + fuel; rewrites = rewrites; put = put }; monitor = monitor_in head bytes words })
-      (upon c₀ (outcome (read image) (length bytes₀) (monitor_in head₀ bytes₀ words₀) none
+      (upon c₀ (outcome (read image) (length bytes₀) (monitor_in head₀ bytes₀ words₀) None
       (run (read image).rules (length bytes₀) fuel (state_of (monitor_in head₀ bytes₀ words₀)))))
   unfolding state_of
   spent_ends e z l =
@@ -247,7 +247,7 @@ module _ {image table bytes₀ words₀ : List ℕ} {fuel : ℕ} {c₀ : Counts}
         counts = so_far c₀ fuel left rewrites put;
         monitor = monitor_in head to.monitor.bytes to.monitor.words;
       })
-      (upon c₀ (outcome (read image) (length bytes₀) (monitor_in head₀ bytes₀ words₀) none
+      (upon c₀ (outcome (read image) (length bytes₀) (monitor_in head₀ bytes₀ words₀) None
       (run (read image).rules (length bytes₀) fuel (state_of (monitor_in head₀ bytes₀ words₀)))))
   unfolding state_of proceed
   full_ends e z l to untaken t =
@@ -366,7 +366,7 @@ pub quiet_at_once : (image table bytes words : List ℕ) (fuel : ℕ) (c₀ : Co
       counts = record { steps = c₀.steps + 0; rewrites = c₀.rewrites; put = c₀.put };
       monitor = monitor_in head bytes words;
     })
-    (upon c₀ (outcome (read image) (length bytes) (monitor_in head bytes words) none
+    (upon c₀ (outcome (read image) (length bytes) (monitor_in head bytes words) None
     (run (read image).rules (length bytes) fuel (state_of (monitor_in head bytes words)))))
 quiet_at_once image table bytes words fuel c₀ head ok e z =
     let n : 0 ≡ fuel - fuel = omega arith in

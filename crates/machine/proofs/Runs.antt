@@ -5,7 +5,7 @@ use Prim.Native.Nat.{ℕ, zero, suc, ◌≤◌, ◌<◌}
 use mathlib.Core.Path.{◌≡◌, refl}
 use mathlib.Core.Bool.{Bool, true, false, cond}
 use mathlib.Core.Logic.{◌↔◌}
-use mathlib.Core.Option.{Option, none, some}
+use Rattle.std.specs.Prelude.{Option, None, Some}
 use mathlib.Core.List.{List, [], ◌∷◌}
 use native.Mathlib.Omega.{arith}
 use Rattle.rewriting.specs.Rules.{Rule}
@@ -65,8 +65,8 @@ proceed_ran rules capacity fuel s a q v w rest h = go (fits capacity t.to) refl
 
 -- `rest` is what the tests go on with, where there is fuel
 Rest : List Rule → ℕ → ℕ → Option (State → Run) → Type 0
-Rest rules capacity fuel none = fuel ≡ 0
-Rest rules capacity fuel (some rest) =
+Rest rules capacity fuel None = fuel ≡ 0
+Rest rules capacity fuel (Some rest) =
     (n : ℕ) × (fuel ≡ suc n) × ((t : State) → Ran rules capacity n t (rest t))
 
 tests_ran : (rules : List Rule) (capacity fuel : ℕ) (s : State) (v : Standing) (w : List ℕ) → s.verdict ≡ v
@@ -75,21 +75,21 @@ tests_ran : (rules : List Rule) (capacity fuel : ℕ) (s : State) (v : Standing)
 unfolding tests Rest no_counts
 tests_ran rules capacity fuel s (Standing.Verdict v) w p q rest h = ended_ran rules capacity fuel s (Answer.Verdict v) p
 tests_ran rules capacity fuel s Standing.None [] p q rest h = ended_ran rules capacity fuel s Answer.Quiet (p, q)
-tests_ran rules capacity fuel s Standing.None (a ∷ q) v w none h =
+tests_ran rules capacity fuel s Standing.None (a ∷ q) v w None h =
     ended_ran rules capacity fuel s Answer.Spent (v, rw w (omega arith), rw h)
-tests_ran rules capacity fuel s Standing.None (a ∷ q) v w (some rest) h =
+tests_ran rules capacity fuel s Standing.None (a ∷ q) v w (Some rest) h =
     rw h.1 (proceed_ran rules capacity h.0 s a q v w rest h.2)
 
 pub ran : (rules : List Rule) (capacity fuel : ℕ) (s : State) → Ran rules capacity fuel s (run rules capacity fuel s)
 unfolding run Rest
-ran rules capacity zero s = tests_ran rules capacity zero s s.verdict s.waiting refl refl none refl
+ran rules capacity zero s = tests_ran rules capacity zero s s.verdict s.waiting refl refl None refl
 ran rules capacity (suc fuel) s =
-    tests_ran rules capacity (suc fuel) s s.verdict s.waiting refl refl (some (run rules capacity fuel))
+    tests_ran rules capacity (suc fuel) s s.verdict s.waiting refl refl (Some (run rules capacity fuel))
     (fuel, refl, λ t. ran rules capacity fuel t)
 
 -- a run's answer is no refusal
 pub stopped_accepted : (rules : List Rule) (capacity fuel : ℕ) (c : Counts) (s : State) (a : Answer)
-    → Stopped rules capacity fuel c s a → refused_by a ≡ none
+    → Stopped rules capacity fuel c s a → refused_by a ≡ None
 unfolding refused_by
 stopped_accepted rules capacity fuel c s (Answer.Verdict v) h = refl
 stopped_accepted rules capacity fuel c s Answer.Quiet h = refl

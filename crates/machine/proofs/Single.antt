@@ -3,7 +3,7 @@
 use Prim.Native.Nat.{ℕ, suc, ◌<◌}
 use mathlib.Core.Path.{◌≡◌, refl, sym, ap, ◌∙◌}
 use mathlib.Core.Bool.{true}
-use mathlib.Core.Option.{Option, none, some}
+use Rattle.std.specs.Prelude.{Option, None, Some}
 use mathlib.Core.List.{List, [], ◌∷◌, Memᴰ}
 use native.Mathlib.Omega.{arith}
 use lib.Dec.{ltb}
@@ -34,7 +34,7 @@ call_positive (Offer event fuel) n t = positive n (refusals_of (Offer event fuel
 call_positive (GoOn fuel) n t = positive n (refusals_of (GoOn fuel)) refl t
 
 module _ (capacity : ℕ) (image table : List ℕ) (m : Monitor) (c : Call) (b : Batched)
-    (e : b ≡ batched none m (0 ∷ []) (in_turn capacity image table m (c ∷ []))) where
+    (e : b ≡ batched None m (0 ∷ []) (in_turn capacity image table m (c ∷ []))) where
   abbrev o : Outcome
   o = call_of capacity image table m c
 
@@ -42,11 +42,11 @@ module _ (capacity : ℕ) (image table : List ℕ) (m : Monitor) (c : Call) (b :
   done = call_theorem capacity image table m c
 
   -- what the loop gives back of a call that is refused, ..
-  is-stopped : (n : ℕ) → refused_by o.answer ≡ some n → (b.stop ≡ n) × (b.monitor ≡ m) × (o ≡ refusal_of n m)
+  is-stopped : (n : ℕ) → refused_by o.answer ≡ Some n → (b.stop ≡ n) × (b.monitor ≡ m) × (o ≡ refusal_of n m)
   unfolding in_turn and_then stopped batched
   is-stopped n r =
       let k : o ≡ refusal_of n m = (done.refused n r).1 in
-      let q : b ≡ batched none m (0 ∷ []) (stopped n o.monitor) = e ∙ rw r in
+      let q : b ≡ batched None m (0 ∷ []) (stopped n o.monitor) = e ∙ rw r in
       (ap (λ (x : Batched). x.stop) q, ap (λ (x : Batched). x.monitor) q ∙ ap (λ (x : Outcome). x.monitor) k, k)
 
   -- .. and of one that is not
@@ -57,11 +57,11 @@ module _ (capacity : ℕ) (image table : List ℕ) (m : Monitor) (c : Call) (b :
     counts : b.counts ≡ o.counts
     monitor : b.monitor ≡ o.monitor
 
-  is_accepted : refused_by o.answer ≡ none → Accepted
+  is_accepted : refused_by o.answer ≡ None → Accepted
   unfolding in_turn and_then stopped batched over
   is_accepted r =
       let rest : Offers = record { stop = 0; answers = answer_number o.answer ∷ []; counts = plus o.counts no_counts; monitor = o.monitor } in
-      let q : b ≡ batched none m (0 ∷ []) rest = e ∙ rw r in
+      let q : b ≡ batched None m (0 ∷ []) rest = e ∙ rw r in
       record {
         stop = ap (λ (x : Batched). x.stop) q;
         accepted = ap (λ (x : Batched). x.accepted) q;
@@ -85,8 +85,8 @@ module _ (capacity : ℕ) (image table : List ℕ) (m : Monitor) (c : Call) (b :
             counts = no_counts;
             monitor = monitor_in m.head b.monitor.bytes b.monitor.words;
           }) o
-      go none r = absurd (z (is_accepted r).stop)
-      go (some n) r =
+      go None r = absurd (z (is_accepted r).stop)
+      go (Some n) r =
           let k = is-stopped n r in
           (λ i. record { answer = Answer.Refused (k.0 i); counts = no_counts; monitor = monitor_in m.head (k.1 i).bytes (k.1 i).words })
           ∙ sym k.2
@@ -98,11 +98,11 @@ module _ (capacity : ℕ) (image table : List ℕ) (m : Monitor) (c : Call) (b :
     where
       go : (x : Option ℕ) → refused_by o.answer ≡ x
           → ◌≡◌ {A = Outcome} (record { answer = answer_from a; counts = b.counts; monitor = b.monitor }) o
-      go none r =
+      go None r =
           let k : Accepted = is_accepted r in
           let n : answer_from a ≡ o.answer = ap answer_from (sym (last 0 k.accepted) ∙ k.answer) ∙ answer_back o.answer r in
           λ i. record { answer = n i; counts = k.counts i; monitor = k.monitor i }
-      go (some n) r =
+      go (Some n) r =
           let k = is-stopped n r in
           let p : 0 < n = call_positive c n (done.refused n r).0 in
           absurd (omega (arith, k.0, z, p))

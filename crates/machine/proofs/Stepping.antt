@@ -3,7 +3,7 @@
 use Prim.Native.Nat.{ℕ, zero, suc, ◌+◌, ◌-◌, ◌≤◌, ◌<◌}
 use mathlib.Core.Path.{◌≡◌, refl, sym, ap, ◌∙◌}
 use mathlib.Core.Bool.{true, false, not}
-use mathlib.Core.Option.{none, some}
+use Rattle.std.specs.Prelude.{None, Some}
 use mathlib.Core.List.{List, [], ◌∷◌, ◌++◌, map, map-append}
 use native.Mathlib.Omega.{arith}
 use lib.Dec.{eqb}
@@ -208,7 +208,7 @@ length-next s a e = rw length-append (omega arith)
 
 -- it does not complete a left side: it is settled
 pub settled_step : (set : RuleSet) (capacity : ℕ) (m : Monitor) → Held set capacity m → (a : ℕ) (q : List ℕ)
-    → (state_of m).waiting ≡ a ∷ q → matching set.rules (next set.rules (after set.rules (state_of m).settled) a) ≡ none
+    → (state_of m).waiting ≡ a ∷ q → matching set.rules (next set.rules (after set.rules (state_of m).settled) a) ≡ None
     → (first word : ℕ) → first ≡ capacity - m.head.waiting
     → word ≡ number (states set.rules) (next set.rules (after set.rules (state_of m).settled) a)
     → ◌≡◌ {A = Tried}
@@ -252,7 +252,7 @@ settled_step set capacity m h a q w e first word place is_word =
         (ap (λ (x : ℕ). words_after set.rules s ++ x ∷ []) is_word ∙ sym (words_snoc set.rules s a))
 
 -- It completes the left side of rule i.
-module _ (set : RuleSet) (capacity : ℕ) (m : Monitor) (h : Held set capacity m) (i : ℕ) (e : Matches set.rules (state_of m) (some i)) where
+module _ (set : RuleSet) (capacity : ℕ) (m : Monitor) (h : Held set capacity m) (i : ℕ) (e : Matches set.rules (state_of m) (Some i)) where
   completed : EndsWith set.rules true ((state_of m).settled ++ e.0 ∷ []) i
   completed =
       let plain = legal_plain set h.in_range_lem (state_of m) e.0 e.1 e.2 h.legal in

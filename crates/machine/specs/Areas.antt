@@ -1,6 +1,5 @@
 -- A monitor as its owner keeps it: a head, an area of bytes and an area of words. Document 01's 2,048 is the capacity here.
-use Rattle.std.specs.Prelude.{ℕ, ◌+◌, ◌-◌, Bool, true, false, ◌&&◌, List, [], ◌∷◌, ◌++◌, map, eqb, leb, ltb, length, take, drop, replicate}
-use Rattle.std.proofs.Math.Option.{Option, none, some}
+use Rattle.std.specs.Prelude.{ℕ, ◌+◌, ◌-◌, Bool, true, false, ◌&&◌, List, [], ◌∷◌, ◌++◌, map, eqb, leb, ltb, length, take, drop, replicate, Option, None, Some}
 use Rattle.rewriting.specs.Lists.{all, same, below}
 use Rattle.rewriting.specs.Rules.{Right, Put, Close, Rule, RuleSet, rule}
 use Rattle.layout.specs.States.{states, number, after, next, matching}
@@ -66,8 +65,8 @@ state_of m =
 
 -- the match word is 0
 unfoldable pub no_match : Option ℕ → Bool
-no_match none = true
-no_match (some i) = false
+no_match None = true
+no_match (Some i) = false
 
 -- no settled state has a match
 unfoldable pub unmatched : List Rule → List ℕ → Bool

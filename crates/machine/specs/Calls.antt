@@ -1,7 +1,6 @@
 -- Fresh, offer and go on, as functions of all that is lent to them: the refusals in their order, what comes back, and
 -- every area at exit.
-use Rattle.std.specs.Prelude.{ℕ, ◌+◌, Bool, true, false, not, ◌&&◌, List, [], ◌∷◌, ◌++◌, eqb, leb, ltb, length, replicate}
-use Rattle.std.proofs.Math.Option.{Option, none, some}
+use Rattle.std.specs.Prelude.{ℕ, ◌+◌, Bool, true, false, not, ◌&&◌, List, [], ◌∷◌, ◌++◌, eqb, leb, ltb, length, replicate, Option, None, Some}
 use Rattle.rewriting.specs.Rules.{RuleSet}
 use Rattle.layout.specs.Image.{read}
 use Rattle.layout.specs.Refusals.{Check, refusal}
@@ -24,11 +23,11 @@ pub record Fresh : Type 0 where
 
 -- "it is given no head, so beside 10 it returns the empty one"
 unfoldable pub freshened : ℕ → List ℕ → List ℕ → Option ℕ → Fresh
-freshened capacity bytes words (some n) =
-    record { refused = some n; monitor = record { head = head_of empty; bytes = bytes; words = words } }
-freshened capacity bytes words none =
+freshened capacity bytes words (Some n) =
+    record { refused = Some n; monitor = record { head = head_of empty; bytes = bytes; words = words } }
+freshened capacity bytes words None =
     record {
-      refused = none;
+      refused = None;
       monitor = record { head = head_of empty; bytes = replicate capacity 0; words = replicate capacity 0 };
     }
 
@@ -97,8 +96,8 @@ refusal_of n m = record { answer = Answer.Refused n; counts = no_counts; monitor
 
 -- a refusal, or what the run r leads to
 unfoldable pub outcome : RuleSet → ℕ → Monitor → Option ℕ → Run → Outcome
-outcome set capacity m (some n) r = refusal_of n m
-outcome set capacity m none r =
+outcome set capacity m (Some n) r = refusal_of n m
+outcome set capacity m None r =
     record { answer = r.answer; counts = r.counts; monitor = monitor_of set.rules capacity r.state }
 
 -- the call is refused by the first of the checks that fails. "Otherwise .. the call runs."
@@ -122,11 +121,11 @@ go_on_of capacity image table m fuel = call_of capacity image table m (GoOn fuel
 
 -- the refusal that an answer is, if it is one
 unfoldable pub refused_by : Answer → Option ℕ
-refused_by Answer.Quiet = none
-refused_by Answer.Spent = none
-refused_by Answer.Full = none
-refused_by (Answer.Verdict v) = none
-refused_by (Answer.Refused n) = some n
+refused_by Answer.Quiet = None
+refused_by Answer.Spent = None
+refused_by Answer.Full = None
+refused_by (Answer.Verdict v) = None
+refused_by (Answer.Refused n) = Some n
 
 -- "0 Quiet, 1 Spent, 2 Full, 16 + verdict". A refusal is told by `refused_by`, and has 0 here.
 unfoldable pub answer_number : Answer → ℕ

@@ -1,6 +1,5 @@
 -- How the code speaks of these definitions: what it is lent, what it gives back, and what its functions read and keep.
-use Rattle.std.specs.Prelude.{ℕ, zero, suc, ◌+◌, ◌*◌, ◌-◌, ◌<◌, ◌≡◌, Bool, true, false, cond, List, [], ◌∷◌, map, eqb, ltb, length, get_or, set, drop}
-use Rattle.std.proofs.Math.Option.{Option, none}
+use Rattle.std.specs.Prelude.{ℕ, zero, suc, ◌+◌, ◌*◌, ◌-◌, ◌<◌, ◌≡◌, Bool, true, false, cond, List, [], ◌∷◌, map, eqb, ltb, length, get_or, set, drop, Option, None}
 use Rattle.std.proofs.Math.Seq.{paste}
 use Rattle.rewriting.specs.Lists.{below}
 use Rattle.rewriting.specs.Rules.{Rule, RuleSet}
@@ -27,7 +26,7 @@ monitor_with settled waiting verdict rule bytes words =
 
 -- none of the refusals 7, 9, 10 and 11 is called for
 abbrev pub Passed : ℕ → List ℕ → List ℕ → Monitor → Type 0
-Passed capacity image table m = refusal (lent_checks capacity image table m) ≡ none
+Passed capacity image table m = refusal (lent_checks capacity image table m) ≡ None
 
 -- where the rows of a table begin, and how many words each has
 abbrev pub rows_in : List ℕ → ℕ

@@ -1,6 +1,5 @@
 -- A call's run: the four tests in their order, the steps between them, and the counts.
-use Rattle.std.specs.Prelude.{ℕ, zero, suc, ◌+◌, Bool, cond, List, [], ◌∷◌, leb, length}
-use Rattle.std.proofs.Math.Option.{Option, none, some}
+use Rattle.std.specs.Prelude.{ℕ, zero, suc, ◌+◌, Bool, cond, List, [], ◌∷◌, leb, length, Option, None, Some}
 use Rattle.rewriting.specs.Rules.{Rule}
 use Rattle.machine.specs.declared.Standing.{Standing}
 use Rattle.machine.specs.declared.Answer.{Answer}
@@ -47,10 +46,10 @@ proceed capacity s t rest = cond (fits capacity t.to) (counted t (rest t.to)) (e
 unfoldable pub tests : List Rule → ℕ → State → Standing → List ℕ → Option (State → Run) → Run
 tests rules capacity s (Standing.Verdict v) waiting rest = ended (Answer.Verdict v) s
 tests rules capacity s Standing.None [] rest = ended Answer.Quiet s
-tests rules capacity s Standing.None (a ∷ q) none = ended Answer.Spent s
-tests rules capacity s Standing.None (a ∷ q) (some rest) = proceed capacity s (step rules s.settled a q) rest
+tests rules capacity s Standing.None (a ∷ q) None = ended Answer.Spent s
+tests rules capacity s Standing.None (a ∷ q) (Some rest) = proceed capacity s (step rules s.settled a q) rest
 
 -- "A call runs steps by this order of tests, before the first and after each"
 unfoldable pub run : List Rule → ℕ → ℕ → State → Run
-run rules capacity zero s = tests rules capacity s s.verdict s.waiting none
-run rules capacity (suc fuel) s = tests rules capacity s s.verdict s.waiting (some (run rules capacity fuel))
+run rules capacity zero s = tests rules capacity s s.verdict s.waiting None
+run rules capacity (suc fuel) s = tests rules capacity s s.verdict s.waiting (Some (run rules capacity fuel))

@@ -1,6 +1,5 @@
 -- What a monitor holds, as strings of symbols, and one step of it.
-use Rattle.std.specs.Prelude.{ℕ, List, [], ◌∷◌, ◌++◌, length}
-use Rattle.std.proofs.Math.Option.{Option, none, some}
+use Rattle.std.specs.Prelude.{ℕ, List, [], ◌∷◌, ◌++◌, length, Option, None, Some}
 use Rattle.rewriting.specs.Rules.{Right, Put, Close, Rule, rule}
 use Rattle.rewriting.specs.Occurrences.{cut}
 use Rattle.layout.specs.States.{after, next, matching}
@@ -37,8 +36,8 @@ replace s q i (Close v) =
 
 -- "If that state matches rule l → r, the symbols of l are taken off": p is settled with the symbol just taken, q waits
 unfoldable pub settle : List Rule → List ℕ → List ℕ → Option ℕ → Step
-settle rules p q none = record { to = active p q; rewrites = 0; put = 0 }
-settle rules p q (some i) = replace (cut rules p i) q i (rule rules i).right
+settle rules p q None = record { to = active p q; rewrites = 0; put = 0 }
+settle rules p q (Some i) = replace (cut rules p i) q i (rule rules i).right
 
 -- "One step takes the first waiting symbol onto the settled string and finds its state from the word before it (state 0
 -- at the start).": s is settled, a waits first, q waits behind it. The word before it is the number of the state after s

@@ -1,6 +1,5 @@
 -- How the code speaks of the definitions of the crate machine: what it is lent, and what it gives back.
-use Rattle.std.specs.Prelude.{ℕ, not, List, eqb}
-use Rattle.std.proofs.Math.Option.{none}
+use Rattle.std.specs.Prelude.{ℕ, not, List, eqb, None}
 use Rattle.monitor.specs.declared.Head.{Head}
 use Rattle.monitor.specs.declared.Begun.{Begun}
 use Rattle.monitor.specs.declared.Returned.{Returned}
@@ -76,7 +75,7 @@ ran_from f bytes words = record { answer = answer_from f.answer; counts = counts
 abbrev pub series_from : Series → List ℕ → List ℕ → List ℕ → Batched
 series_from r bytes words answers =
     record {
-      refused = none;
+      refused = None;
       stop = r.stop;
       accepted = r.accepted;
       counts = counts_in r.head;

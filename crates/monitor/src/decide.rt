@@ -1,7 +1,6 @@
 // Offer, go on and the offers of a batch, where what is lent has been checked: what is left of their refusals, and the run. The
 // module is private: what its functions ask, the check of what is lent has shown.
-ghost use Rattle.std.specs.Prelude.{ℕ, suc, ◌+◌, ◌-◌, ◌*◌, ◌≤◌, ◌<◌, ◌≡◌, true, not, cond, ◌||◌, eqb, ltb, length, get_or};
-ghost use Rattle.std.proofs.Math.Option.{none};
+ghost use Rattle.std.specs.Prelude.{ℕ, suc, ◌+◌, ◌-◌, ◌*◌, ◌≤◌, ◌<◌, ◌≡◌, true, not, cond, ◌||◌, eqb, ltb, length, get_or, None};
 ghost use Rattle.layout.specs.Image.{read, valid};
 ghost use Rattle.layout.specs.Refusals.{refusal, answered};
 ghost use Rattle.layout.specs.declared.Checked.{Checked};
@@ -124,7 +123,7 @@ impl Flat {
         requires starts { Starts image.now starts.now }
         requires rows { rows ≡ rows_in table.now }
         requires width { width ≡ width_in table.now }
-        requires accepted { refusal (call_checks (read image.now) (length bytes.old) (flat_in self) (offer_or_go_on offering event fuel)) ≡ none }
+        requires accepted { refusal (call_checks (read image.now) (length bytes.old) (flat_in self) (offer_or_go_on offering event fuel)) ≡ None }
         requires sums { self.steps + self.rewrites + self.put + 10 * fuel < 18446744073709551616 }
         ensures outcome { ran_from result bytes.new words.new
             ≡ upon (counts_in self) (decided (read image.now) (length bytes.old)
@@ -156,7 +155,7 @@ impl Flat {
         requires few { length events.now ≤ events_most }
         requires room { length events.now ≤ length answers.old }
         ensures calls { series_from result bytes.new words.new answers.new
-            ≡ batched none (flat self bytes.old words.old) answers.old
+            ≡ batched None (flat self bytes.old words.old) answers.old
             (in_turn (length bytes.old) image.now table.now (flat self bytes.old words.old)
             (offers_or_goes_on offering events.now fuel)) }
         ensures last { (k : ℕ) → result.accepted ≡ suc k → get_or answers.new k 0 ≡ result.head.answer }

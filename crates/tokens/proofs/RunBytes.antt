@@ -3,7 +3,7 @@
 use Prim.Native.Nat.{ℕ, suc, ◌+◌, ◌-◌, ◌≤◌, ◌<◌}
 use mathlib.Core.Path.{◌≡◌, refl, sym, ap, ◌∙◌}
 use mathlib.Core.Bool.{Bool, true, false, ◌&&◌}
-use mathlib.Core.Option.{none}
+use Rattle.std.specs.Prelude.{None}
 use mathlib.Core.List.{List, [], ◌∷◌}
 use native.Mathlib.Omega.{arith}
 use native.Mathlib.Numerals.{add-one}
@@ -241,7 +241,7 @@ bytes-some text start end e some = rw (bytes_rest text start end e) (omega (arit
 
 module _ {text : List ℕ} {start from : ℕ} (l : Leading text start from) where
   -- a byte of the name may not be in one
-  pub run_no_token : all name_byte (rest_of text from) ≡ false → token_of (rest_of text start) ≡ none
+  pub run_no_token : all name_byte (rest_of text from) ≡ false → token_of (rest_of text start) ≡ None
   run_no_token e =
       let by = (told (rest_of text start)).0 in
       rw (← l.name, e) at by

@@ -1,6 +1,5 @@
 -- The number of a name, as the code answers it.
-use Rattle.std.specs.Prelude.{ℕ, ◌≤◌, ◌≡◌, true, List, length}
-use Rattle.std.proofs.Math.Option.{Option, none, some}
+use Rattle.std.specs.Prelude.{ℕ, ◌≤◌, ◌≡◌, true, List, length, Option, None, Some}
 use Rattle.rewriting.specs.Lists.{all}
 use Rattle.grammar.specs.Tokens.{is_name}
 use Rattle.grammar.specs.Names.{slots, Numbered, numbered}
@@ -8,8 +7,8 @@ use Rattle.tokens.specs.declared.Numbered as numbered_as
 
 -- the code's number of a name, and the slots then, are the definition's
 abbrev pub NumberedIs : ℕ → List (List ℕ) → Option Numbered → numbered_as.Numbered → List ℕ → Type 0
-NumberedIs most names none r area = (r.number ≡ most) × (r.count ≡ length names) × (area ≡ slots most names)
-NumberedIs most names (some n) r area = (r.number ≡ n.number) × (r.count ≡ length n.names) × (area ≡ slots most n.names)
+NumberedIs most names None r area = (r.number ≡ most) × (r.count ≡ length names) × (area ≡ slots most names)
+NumberedIs most names (Some n) r area = (r.number ≡ n.number) × (r.count ≡ length n.names) × (area ≡ slots most n.names)
 
 abbrev pub NumberedAs : ℕ → List (List ℕ) → ℕ → List ℕ → List ℕ → numbered_as.Numbered → List ℕ → Type 0
 NumberedAs most names count area x r area' =

@@ -1,6 +1,5 @@
 -- What the first bytes of a run and its length make of it.
-use Rattle.std.specs.Prelude.{ℕ, ◌≡◌, true, cond, ◌&&◌, List, [], ◌∷◌, eqb, leb, length}
-use Rattle.std.proofs.Math.Option.{Option, none, some}
+use Rattle.std.specs.Prelude.{ℕ, ◌≡◌, true, cond, ◌&&◌, List, [], ◌∷◌, eqb, leb, length, Option, None, Some}
 use Rattle.rewriting.specs.Lists.{same, prefix}
 use Rattle.tokens.specs.declared.Kind.{Kind}
 use Rattle.tokens.specs.declared.Kind.TheVariants as kinds
@@ -27,12 +26,12 @@ kind_of (b ∷ t) =
 
 -- the token of that kind with this name
 unfoldable pub token_as : Kind → List ℕ → Option Token
-token_as kinds.Name x = some (Name x)
-token_as kinds.Word x = some (Word x)
-token_as kinds.Arrow x = some Arrow
-token_as kinds.Stop x = some Stop
-token_as kinds.Mark x = some Mark
-token_as kinds.None x = none
+token_as kinds.Name x = Some (Name x)
+token_as kinds.Word x = Some (Word x)
+token_as kinds.Arrow x = Some Arrow
+token_as kinds.Stop x = Some Stop
+token_as kinds.Mark x = Some Mark
+token_as kinds.None x = None
 
 -- a name or a word is followed by its name
 abbrev pub Named : Kind → List ℕ → Type 0

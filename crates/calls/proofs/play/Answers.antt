@@ -1,13 +1,13 @@
 -- `play` meets its contract, by what its two checks say; demand 3 by the theorem about every list of calls.
 use Prim.Native.Nat.{ℕ}
 use mathlib.Core.Path.{◌≡◌, sym, ap, ◌∙◌}
-use mathlib.Core.Option.{none, some}
+use Rattle.std.specs.Prelude.{None, Some}
 use native.Mathlib.Omega.{arith}
 use Rattle.layout.specs.Refusals.{refused_as}
 use Rattle.calls.proofs.Demand.{not_a_list, not-fresh, is_played, demand}
 use Rattle.calls.proofs.play.Goals as goal
 
-refused_is : {n : ℕ} → ◌≡◌ (some n) none → ⊥
+refused_is : {n : ℕ} → ◌≡◌ (Some n) None → ⊥
 refused_is p = let z : ◌≡◌ {A = ℕ} 0 1 = cc in absurd (omega arith)
 
 pub returns-then-not-is_list : goal.returns-then-not-is_list

@@ -2,7 +2,7 @@
 use Prim.Native.Nat.{ℕ}
 use mathlib.Core.Path.{◌≡◌, sym, ap, ◌∙◌}
 use native.Mathlib.Omega.{arith}
-use mathlib.Core.Option.{Option, none, some}
+use Rattle.std.specs.Prelude.{Option, None, Some}
 use mathlib.Core.List.{List}
 use Rattle.machine.specs.Areas.{Monitor, document_capacity}
 use Rattle.machine.specs.Calls.{Outcome, offer_of}
@@ -17,17 +17,17 @@ use Rattle.report.proofs.Walking.{turn_is}
 use Rattle.report.proofs.Offered.{named_short, made_slot, made_small, line_unknown, line_offered}
 use Rattle.report.proofs.Walk.named.Goals as goal
 
-found : (o : Option ℕ) (r : Found) (i : ℕ) → found_as r ≡ o → r ≡ Found.Symbol i → o ≡ some i
+found : (o : Option ℕ) (r : Found) (i : ℕ) → found_as r ≡ o → r ≡ Found.Symbol i → o ≡ Some i
 unfolding found_as
 found o r i e p = sym e ∙ ap found_as p
 
-missing : (o : Option ℕ) (r : Found) → found_as r ≡ o → r ≡ Found.None → o ≡ none
+missing : (o : Option ℕ) (r : Found) → found_as r ≡ o → r ≡ Found.None → o ≡ None
 unfolding found_as
 missing o r e p = sym e ∙ ap found_as p
 
 -- the monitor that the offer of a known name leaves
 left_by :
-    (w : Watch) (x : List ℕ) (a : ℕ) (m : Monitor) → symbol_named w.names x ≡ some a
+    (w : Watch) (x : List ℕ) (a : ℕ) (m : Monitor) → symbol_named w.names x ≡ Some a
     → m ≡ (offer_of document_capacity w.image w.table w.monitor a 1000).monitor → m ≡ (offered_name w x).monitor
 unfolding offered_name offered
 left_by w x a m known e = rw known e
