@@ -11,12 +11,12 @@ use lib.ListN.{length, get_or, drop, length-append}
 use borrow.Author.Tests.{leb-true}
 use Rattle.rewriting.specs.Rules.{RuleSet}
 use Rattle.layout.specs.Image.{read}
-use Rattle.layout.specs.Refusals.{Check, refusal}
+use Rattle.layout.specs.Refusals.{Check, refusal, refused_by}
 use Rattle.layout.proofs.Refusals.{refusal_passed, refusal_rest, refusal_none_right}
 use Rattle.machine.specs.declared.Counts.{Counts}
 use Rattle.machine.specs.Run.{Run, no_counts, plus, run}
 use Rattle.machine.specs.Areas.{Head, Monitor, state_of}
-use Rattle.machine.specs.Calls.{Call, Offer, GoOn, Outcome, fuel_of, lent_checks, fuel_check, call_checks, offered, outcome, decided, call_of, refused_by}
+use Rattle.machine.specs.Calls.{Call, Offer, GoOn, Outcome, fuel_of, lent_checks, fuel_check, call_checks, offered, outcome, decided, call_of}
 use Rattle.machine.specs.Play.{Log, no_calls, events_of, logged, play}
 use Rattle.machine.specs.Promise.{Ended}
 use Rattle.machine.proofs.Runs.{ran}

@@ -2,7 +2,7 @@
 use Rattle.std.specs.Prelude.{ℕ, ◌≡◌, true, List, [], ◌∷◌, length, Option, None, Some}
 use Rattle.rewriting.specs.Lists.{prefix}
 use Rattle.layout.specs.Image.{read, valid}
-use Rattle.layout.specs.Refusals.{Check, refusal, refused_as}
+use Rattle.layout.specs.Refusals.{Check, refusal, refused_by, numbered}
 use Rattle.layout.specs.Table.{table_of}
 use Rattle.machine.specs.declared.Counts.{Counts}
 use Rattle.machine.specs.State.{empty}
@@ -27,7 +27,7 @@ pub record PlayEnded : Type 0 where
 abbrev pub played_from : Played → List ℕ → List ℕ → PlayEnded
 played_from r bytes words =
     record {
-      refused = refused_as r.refusal;
+      refused = refused_by (numbered r.answer);
       monitor = lent r.head bytes words;
       accepted = r.accepted;
       counts = r.counts;

@@ -9,7 +9,7 @@ use Rattle.rewriting.specs.Rules.{symbols_of, rule, right_in_range, rule_in_rang
 use Rattle.rewriting.specs.Occurrences.{lowest, spanning, tie, ending}
 use Rattle.rewriting.specs.Sample.{sample}
 use Rattle.layout.specs.Image.{kind, length_or_verdict, mark_byte, contents, body, image_of, read_right, read_rule, read_rules, read, valid}
-use Rattle.layout.specs.Refusals.{refusal}
+use Rattle.layout.specs.Refusals.{refusal, refused_by}
 use Rattle.layout.specs.States.{
   pattern,
   is_prefix,
@@ -45,24 +45,7 @@ use Rattle.machine.specs.Areas.{
   holds,
   described,
 }
-use Rattle.machine.specs.Calls.{
-  sized,
-  freshened,
-  fresh_of,
-  fuel_of,
-  lent_checks,
-  is_none,
-  fuel_check,
-  verdict_check,
-  call_checks,
-  offered,
-  outcome,
-  decided,
-  call_of,
-  offer_of,
-  refused_by,
-  answer_number,
-}
+use Rattle.machine.specs.Calls.{sized, freshened, fresh_of, fuel_of, lent_checks, is_none, fuel_check, verdict_check, call_checks, offered, outcome, decided, call_of, offer_of, answer_number}
 use Rattle.machine.specs.Batch.{stopped, and_then, in_turn, offers, batch_checks, batched, batch_of}
 use Rattle.machine.specs.Play.{string_of, no_calls, events_of, logged, play, offers_of}
 use Rattle.cases.specs.Cases.{Case, fresh, found_in, find, worked, abcd, cases}

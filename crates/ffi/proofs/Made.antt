@@ -6,31 +6,30 @@ use mathlib.Core.Path.{◌≡◌, refl, ap, ◌∙◌}
 use Rattle.std.specs.Prelude.{Option, None, Some}
 use mathlib.Core.List.{List, [], ◌∷◌}
 use native.Mathlib.Omega.{arith}
-use Rattle.layout.specs.Refusals.{refusal, refusal_number}
-use Rattle.machine.specs.declared.Standing.{Standing}
+use Rattle.layout.specs.Refusals.{refusal, refusal_number, refused_by}
 use Rattle.machine.specs.State.{empty, active}
 use Rattle.machine.specs.Areas.{Monitor, head_of}
-use Rattle.machine.specs.Calls.{Call, Fresh, Outcome, fresh_of, freshened, sized, call_of, refused_by, answer_number}
+use Rattle.machine.specs.Calls.{Call, Fresh, Outcome, fresh_of, freshened, sized, call_of, answer_number}
 use Rattle.machine.specs.Batch.{Batched, batch_of}
 use Rattle.machine.proofs.AnswerNumbers.{answer_number-below, accepted_verdict, batch_verdict}
 use Rattle.ffi.specs.Heads.{standing_from, standing_word, head_words, head_after, fresh_made, call_words, call_made, batch_made}
 
 -- the verdict that a word is
-pub standing_none : (w : ℕ) → w ≡ 0 → Standing.None ≡ standing_from w
+pub standing_none : (w : ℕ) → w ≡ 0 → None ≡ standing_from w
 unfolding standing_from
 standing_none zero e = refl
 standing_none (suc v) e = absurd (omega (arith, e))
 
-pub standing_verdict : (w : ℕ) → (w ≡ 0 → ⊥) → Standing.Verdict (w - 1) ≡ standing_from w
+pub standing_verdict : (w : ℕ) → (w ≡ 0 → ⊥) → Some (w - 1) ≡ standing_from w
 unfolding standing_from
 standing_verdict zero h = absurd (h refl)
 standing_verdict (suc v) h = let e : suc v - 1 ≡ v = omega arith in rw e
 
 -- a verdict below 16 as a word
-word_below : (s : Standing) → ((v : ℕ) → s ≡ Standing.Verdict v → v < 16) → standing_word s ≤ 16
+word_below : (s : Option ℕ) → ((v : ℕ) → s ≡ Some v → v < 16) → standing_word s ≤ 16
 unfolding standing_word
-word_below Standing.None h = omega arith
-word_below (Standing.Verdict v) h = let low : v < 16 = h v refl in omega arith
+word_below None h = omega arith
+word_below (Some v) h = let low : v < 16 = h v refl in omega arith
 
 -- fresh
 pub fresh-word : (capacity : ℕ) (bytes words : List ℕ) (f : Fresh) → f ≡ fresh_of capacity bytes words

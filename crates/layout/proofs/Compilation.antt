@@ -3,7 +3,7 @@
 use Prim.Native.Nat.{ℕ, ◌≤◌, ◌<◌}
 use mathlib.Core.Path.{◌≡◌, refl}
 use mathlib.Core.Bool.{true, false}
-use Rattle.std.specs.Prelude.{Option, None, Some}
+use Rattle.std.specs.Prelude.{Option, None, Some, Ok, Err}
 use mathlib.Core.List.{List, [], ◌∷◌, ◌++◌, map}
 use native.Mathlib.Omega.{arith}
 use lib.ListN.{length, drop}
@@ -12,15 +12,14 @@ use borrow.Author.Tests.{leb-true, lt-leb, le-leb}
 use Rattle.rewriting.proofs.Lists.{length_over}
 use Rattle.rewriting.specs.Lists.{over}
 use Rattle.layout.specs.Image.{read, valid}
-use Rattle.layout.specs.Refusals.{Check, refusal}
+use Rattle.layout.specs.Refusals.{Check, refusal, refused_by}
 use Rattle.layout.proofs.Refusals.{refusal_passed, refusal_rest, refusal-number}
-use Rattle.layout.specs.declared.Compiled.TheVariants.{Words, Refused}
 use Rattle.layout.specs.Table.{table_of}
-use Rattle.layout.specs.Compile.{compile_checks, compiled, compile_of, refused_by, word_count, CompileEnded, CompileCompiles}
+use Rattle.layout.specs.Compile.{compile_checks, compiled, compile_of, word_count, CompileEnded, CompileCompiles}
 
 -- a refusal leaves the area
 pub compile_refused : (image area : List ℕ) (n : ℕ) → refusal (compile_checks image area) ≡ Some n
-    → compile_of image area ≡ record { answer = Refused n; area = area }
+    → compile_of image area ≡ record { answer = Err n; area = area }
 unfolding compile_of compiled
 compile_refused image area n e = rw e
 
@@ -35,7 +34,7 @@ accepted_fits image area e = leb-true _ _ (refusal_passed _ _ _ (refusal_rest _ 
 
 -- otherwise the table is written over the beginning of the area, and its number of words answered
 pub compile_accepted : (image area : List ℕ) → refusal (compile_checks image area) ≡ None
-    → compile_of image area ≡ record { answer = Words (length (table_of (read image))); area = over (table_of (read image)) area }
+    → compile_of image area ≡ record { answer = Ok (length (table_of (read image))); area = over (table_of (read image)) area }
 unfolding compile_of compiled
 compile_accepted image area e = rw e
 
@@ -89,16 +88,16 @@ refusal-none image area e fits = rw (e, le-leb (length (table_of (read image))) 
 
 -- Each of the three ways, by what the code found.
 module _ (image area : List ℕ) where
-  pub compile_seven : valid image ≡ false → (Refused 7 ≡ (compile_of image area).answer) × (area ≡ (compile_of image area).area)
+  pub compile_seven : valid image ≡ false → (Err 7 ≡ (compile_of image area).answer) × (area ≡ (compile_of image area).area)
   compile_seven e = let c = compile_refused image area 7 (refusal_seven image area e) in (rw c, rw c)
 
   pub compile_eight : valid image ≡ true → length area < length (table_of (read image))
-      → (Refused 8 ≡ (compile_of image area).answer) × (area ≡ (compile_of image area).area)
+      → (Err 8 ≡ (compile_of image area).answer) × (area ≡ (compile_of image area).area)
   compile_eight e short = let c = compile_refused image area 8 (refusal_eight image area e short) in (rw c, rw c)
 
   pub compile_words : valid image ≡ true → length (table_of (read image)) ≤ length area → (words : ℕ) → words ≡ length (table_of (read image))
       → (table : List ℕ) → table ≡ table_of (read image)
-      → (Words words ≡ (compile_of image area).answer) × (table ++ drop words area ≡ (compile_of image area).area)
+      → (Ok words ≡ (compile_of image area).answer) × (table ++ drop words area ≡ (compile_of image area).area)
   unfolding over
   compile_words e fits words n table t =
       let c = compile_accepted image area (refusal-none image area e fits) in

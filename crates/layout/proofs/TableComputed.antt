@@ -2,7 +2,7 @@
 -- Assumes nothing.
 use Prim.Native.Nat.{ℕ}
 use mathlib.Core.Path.{◌≡◌, refl}
-use Rattle.std.specs.Prelude.{Some}
+use Rattle.std.specs.Prelude.{Some, Ok, Err}
 use Rattle.std.specs.Option.{option_or}
 use mathlib.Core.List.{List, [], ◌∷◌, ◌++◌, flat_map}
 use lib.ListN.{length, replicate}
@@ -14,7 +14,6 @@ use Rattle.layout.specs.Image.{image_of}
 use Rattle.layout.specs.Refusals.{refusal}
 use Rattle.layout.proofs.Image.{read_image}
 use Rattle.layout.proofs.ImageComputed.{sample-valid, longer_refused}
-use Rattle.layout.specs.declared.Compiled.TheVariants.{Words, Refused}
 use Rattle.layout.specs.States.{
   mark,
   pattern,
@@ -63,22 +62,22 @@ pub sample_words : length (table_of sample) ≡ 32
 sample_words = rw sample_table_lem
 
 -- compile of it into 32 words
-pub sample-compiled : compile_of (image_of sample) (replicate 32 9) ≡ record { answer = Words 32; area = sample_table }
+pub sample-compiled : compile_of (image_of sample) (replicate 32 9) ≡ record { answer = Ok 32; area = sample_table }
 unfolding compile_of compile_checks compiled refusal over
 sample-compiled = rw (sample-valid, read_image sample, sample_table_lem)
 
 -- into 33 words: the last word stays
-pub sample_beyond : compile_of (image_of sample) (replicate 33 9) ≡ record { answer = Words 32; area = sample_table ++ 9 ∷ [] }
+pub sample_beyond : compile_of (image_of sample) (replicate 33 9) ≡ record { answer = Ok 32; area = sample_table ++ 9 ∷ [] }
 unfolding compile_of compile_checks compiled refusal over
 sample_beyond = rw (sample-valid, read_image sample, sample_table_lem)
 
 -- into 31 words: refused, and nothing is written
-pub sample_too_short : compile_of (image_of sample) (replicate 31 9) ≡ record { answer = Refused 8; area = replicate 31 9 }
+pub sample_too_short : compile_of (image_of sample) (replicate 31 9) ≡ record { answer = Err 8; area = replicate 31 9 }
 unfolding compile_of compile_checks compiled refusal
 sample_too_short = rw (sample-valid, read_image sample, sample_table_lem)
 
 -- a broken image is refused by 7 whatever the area, and so also where 8 would refuse it
-pub broken_refused : (area : List ℕ) → compile_of (image_of sample ++ 0 ∷ []) area ≡ record { answer = Refused 7; area = area }
+pub broken_refused : (area : List ℕ) → compile_of (image_of sample ++ 0 ∷ []) area ≡ record { answer = Err 7; area = area }
 unfolding compile_of compile_checks compiled refusal
 broken_refused area = rw (longer_refused 0)
 

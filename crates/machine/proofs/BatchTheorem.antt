@@ -4,7 +4,7 @@ use Prim.Native.Nat.{ℕ, suc, ◌+◌, ◌*◌, ◌≤◌, ◌<◌}
 use mathlib.Core.Path.{◌≡◌, refl, ap}
 use mathlib.Core.Bool.{Bool, true, false, not, cond}
 use mathlib.Core.Logic.{◌⊎◌, inl, inr, ⊎_elim}
-use Rattle.std.specs.Prelude.{Option, None, Some}
+use Rattle.std.specs.Prelude.{Option, None, Some, is_none}
 use mathlib.Core.List.{List, [], ◌∷◌, map, Memᴰ}
 use native.Mathlib.Omega.{arith}
 use native.Mathlib.Nat.{suc-mul, mul-le-mul}
@@ -15,36 +15,17 @@ use Rattle.rewriting.specs.Lists.{prefix, over}
 use Rattle.rewriting.specs.Rules.{RuleSet}
 use Rattle.rewriting.proofs.Lists.{and_left}
 use Rattle.layout.specs.Image.{read, valid}
-use Rattle.layout.specs.Refusals.{Check, refusal}
+use Rattle.layout.specs.Refusals.{Check, refusal, refused_by}
 use Rattle.layout.proofs.Refusals.{refusal_passed, refusal_rest, refusal_none_left, refusal_none_right, refusal-number}
 use Rattle.layout.specs.Table.{table_of}
 use Rattle.machine.specs.Areas.{Head, Monitor, state_of}
 use Rattle.machine.specs.declared.Counts.{Counts}
 use Rattle.machine.specs.Run.{Run, no_counts, plus, run}
-use Rattle.machine.specs.Calls.{
-  Call,
-  Offer,
-  Outcome,
-  lent_checks,
-  is_none,
-  fuel_check,
-  verdict_check,
-  call_checks,
-  fuel_of,
-  offered,
-  outcome,
-  decided,
-  refusal_of,
-  call_of,
-  offer_of,
-  refused_by,
-  answer_number,
-}
+use Rattle.machine.specs.Calls.{Call, Offer, Outcome, lent_checks, fuel_check, verdict_check, call_checks, fuel_of, offered, outcome, decided, refusal_of, call_of, offer_of, answer_number}
 use Rattle.machine.specs.Batch.{Offers, stopped, and_then, in_turn, offers, batch_checks, batched, batch_of}
 use Rattle.machine.specs.Play.{no_calls, events_of, logged, play, offers_of}
 use Rattle.machine.specs.Promise.{Ended, BatchEnded, BatchIsOffers}
 use Rattle.machine.proofs.Sums.{none-plus}
-use Rattle.machine.proofs.Runs.{ran, stopped_accepted}
 use Rattle.machine.proofs.Calls.{Holding, passed_holding, replies, next}
 use Rattle.machine.proofs.Logs.{after, play-after}
 use Rattle.machine.proofs.CallTheorem.{call_theorem}
@@ -95,13 +76,7 @@ module _ (capacity : ℕ) (image table : List ℕ) (good : valid image ≡ true)
 
       go : (o : Option ℕ) → refused_by (outcome (read image) capacity m o r).answer ≡ Some n → o ≡ Some n
       go (Some k) p = p
-      go None p =
-          let a : refused_by r.answer ≡ None =
-          stopped_accepted (read image).rules capacity (fuel_of c) r.counts r.state r.answer
-          (ran (read image).rules capacity (fuel_of c) (offered (state_of m) c)).stops
-          in
-          let z : ◌≡◌ {A = ℕ} 0 1 = cc in
-          absurd (omega arith)
+      go None p = let z : ◌≡◌ {A = ℕ} 0 1 = cc in absurd (omega arith)
 
   offers-offered : (fuel : ℕ) → leb fuel 65535 ≡ true → (events : List ℕ) (m : Monitor) → Holding (read image) capacity m
       → Offered capacity image table m events fuel (offers capacity image table m events fuel)

@@ -3,7 +3,7 @@
 use Prim.Native.Nat.{ℕ, ◌+◌, ◌-◌, ◌≤◌, ◌<◌}
 use mathlib.Core.Path.{◌≡◌, refl, sym, ap, ◌∙◌, subst}
 use mathlib.Core.Bool.{Bool, true, false, not, cond, ◌||◌}
-use Rattle.std.specs.Prelude.{None, Some}
+use Rattle.std.specs.Prelude.{None, Some, Option, is_none}
 use mathlib.Core.List.{List, [], ◌∷◌, ◌++◌, append-nil}
 use native.Mathlib.Omega.{arith}
 use lib.Dec.{eqb, ltb}
@@ -17,7 +17,6 @@ use Rattle.layout.specs.Image.{read, valid}
 use Rattle.layout.specs.Refusals.{Check, refusal}
 use Rattle.layout.proofs.Image.{valid-in_range}
 use Rattle.layout.proofs.Refusals.{refusal_passed, refusal_rest, refusal_append_some}
-use Rattle.machine.specs.declared.Standing.{Standing}
 use Rattle.machine.specs.declared.Counts.{Counts}
 use Rattle.machine.specs.Areas.{Head, Monitor, head_of, monitor_of, state_of}
 use Rattle.machine.specs.State.{State, empty}
@@ -33,7 +32,6 @@ use Rattle.machine.specs.Calls.{
   Outcome,
   fuel_check,
   verdict_check,
-  is_none,
   call_checks,
   fuel_of,
   offered,
@@ -70,34 +68,33 @@ module _ (set : RuleSet) (capacity : ℕ) (head : Head) (event fuel : ℕ) where
   refuses_fuel false h f = rw (lt-leb fuel 65535 f)
 
   module _ (taken : fuel ≤ 65535) where
-    pub refuses_verdict : (offering : Bool) → (not offering || ltb event set.events) ≡ true → (v : ℕ) → head.verdict ≡ Standing.Verdict v
+    pub refuses_verdict : (offering : Bool) → (not offering || ltb event set.events) ≡ true → (v : ℕ) → head.verdict ≡ Some v
         → refusal (call_checks set capacity head (offer_or_go_on offering event fuel)) ≡ Some 14
-    unfolding call_checks refusal fuel_check verdict_check is_none offer_or_go_on
+    unfolding call_checks refusal fuel_check verdict_check offer_or_go_on
     refuses_verdict true h v e = rw (h, le-leb fuel 65535 taken, e)
     refuses_verdict false h v e = rw (le-leb fuel 65535 taken, e)
 
-    pub refuses_room : (offering : Bool) → (not offering || ltb event set.events) ≡ true → head.verdict ≡ Standing.None
+    pub refuses_room : (offering : Bool) → (not offering || ltb event set.events) ≡ true → head.verdict ≡ None
         → (not offering || not (eqb (head.settled + head.waiting) capacity)) ≡ false
         → refusal (call_checks set capacity head (offer_or_go_on offering event fuel)) ≡ Some 15
-    unfolding call_checks refusal fuel_check verdict_check is_none offer_or_go_on
+    unfolding call_checks refusal fuel_check verdict_check offer_or_go_on
     refuses_room true h v r = rw (h, le-leb fuel 65535 taken, v, r)
     refuses_room false h v r = let z : ◌≡◌ {A = ℕ} 0 1 = cc in absurd (omega arith)
 
-    pub refuses_none : (offering : Bool) → (not offering || ltb event set.events) ≡ true → head.verdict ≡ Standing.None
+    pub refuses_none : (offering : Bool) → (not offering || ltb event set.events) ≡ true → head.verdict ≡ None
         → (not offering || not (eqb (head.settled + head.waiting) capacity)) ≡ true
         → refusal (call_checks set capacity head (offer_or_go_on offering event fuel)) ≡ None
-    unfolding call_checks refusal fuel_check verdict_check is_none offer_or_go_on
+    unfolding call_checks refusal fuel_check verdict_check offer_or_go_on
     refuses_none true h v r = rw (h, le-leb fuel 65535 taken, v, r)
     refuses_none false h v r = rw (le-leb fuel 65535 taken, v)
 
 -- What a call that its checks do not refuse tells: no verdict stands, and there is room for the event of an offer.
-is-none : (v : Standing) → is_none v ≡ true → v ≡ Standing.None
-unfolding is_none
-is-none Standing.None e = refl
-is-none (Standing.Verdict v) e = let z : ◌≡◌ {A = ℕ} 0 1 = cc in absurd (omega arith)
+is-none : (v : Option ℕ) → is_none v ≡ true → v ≡ None
+is-none None e = refl
+is-none (Some v) e = let z : ◌≡◌ {A = ℕ} 0 1 = cc in absurd (omega arith)
 
 module _ (set : RuleSet) (capacity : ℕ) (head : Head) (event fuel : ℕ) where
-  pub accepted_none : (offering : Bool) → refusal (call_checks set capacity head (offer_or_go_on offering event fuel)) ≡ None → head.verdict ≡ Standing.None
+  pub accepted_none : (offering : Bool) → refusal (call_checks set capacity head (offer_or_go_on offering event fuel)) ≡ None → head.verdict ≡ None
   unfolding call_checks fuel_check verdict_check offer_or_go_on
   accepted_none true e = is-none head.verdict (refusal_passed _ _ _ (refusal_rest _ _ _ (refusal_rest _ _ _ e)))
   accepted_none false e = is-none head.verdict (refusal_passed _ _ _ (refusal_rest _ _ _ e))
@@ -120,7 +117,7 @@ is-run set capacity m m' c checks s before o e f g = rw e (g ∙ rw f)
 
 -- "the event becomes the last waiting symbol"
 module _ (capacity : ℕ) (image table : List ℕ) (m : Monitor) (ok : Passed capacity image table m) (event fuel from : ℕ)
-    (v : m.head.verdict ≡ Standing.None) (room : m.head.settled + m.head.waiting ≡ capacity → ⊥) (place : from ≡ capacity - m.head.waiting) where
+    (v : m.head.verdict ≡ None) (room : m.head.settled + m.head.waiting ≡ capacity → ⊥) (place : from ≡ capacity - m.head.waiting) where
   facts : Held (read image) capacity m
   facts = held capacity image table m ok
 
@@ -130,7 +127,7 @@ module _ (capacity : ℕ) (image table : List ℕ) (m : Monitor) (ok : Passed ca
   unfolding offered state_of
   is-offered =
       let s : State = state_of m in
-      holds-state (read image).rules capacity s.settled (s.waiting ++ event ∷ []) Standing.None 0 m.head.settled (m.head.waiting + 1)
+      holds-state (read image).rules capacity s.settled (s.waiting ++ event ∷ []) None 0 m.head.settled (m.head.waiting + 1)
       (appended capacity event from m.bytes) m.words facts.settled_count
       (rw (length-append s.waiting (event ∷ [])) (omega (arith, facts.waiting_count)))
       (ap (appended capacity event from) facts.bytes_are
@@ -172,7 +169,7 @@ module _ (capacity : ℕ) (image table : List ℕ) (m : Monitor) (ok : Passed ca
 module _ (capacity : ℕ) (image table : List ℕ) (head : Head) (bytes words : List ℕ) (ok : Passed capacity image table (monitor_in head bytes words))
     (event fuel : ℕ) (offering : Bool)
     (accepted : refusal (call_checks (read image) capacity head (offer_or_go_on offering event fuel)) ≡ None) where
-  none_stands : head.verdict ≡ Standing.None
+  none_stands : head.verdict ≡ None
   none_stands = accepted_none (read image) capacity head event fuel offering accepted
 
   -- a go-on takes the head as it is

@@ -14,7 +14,6 @@ use Rattle.rewriting.proofs.Ranges.{length_right, Ranges, rule_at_lem}
 use Rattle.layout.specs.States.{after, next, matching}
 use Rattle.layout.specs.Table.{match_word}
 use Rattle.layout.proofs.Table.{few_matching}
-use Rattle.machine.specs.declared.Standing.{Standing}
 use Rattle.machine.specs.declared.Counts.{Counts}
 use Rattle.machine.specs.State.{State, Step, active, replace, settle, step}
 use Rattle.machine.specs.Run.{no_counts, plus, counts_of}
@@ -23,11 +22,11 @@ use Rattle.machine.proofs.Sums.{none-plus, plus_none, plus_assoc}
 -- from s, steps with the counts c lead to a state: each finds no verdict and a waiting symbol
 pub data Reaches (rules : List Rule) (s : State) : Counts → State → Type 0 where
   Stay : Reaches rules s no_counts s
-  On : {c : Counts} {t : State} (a : ℕ) (q : List ℕ) → Reaches rules s c t → t.verdict ≡ Standing.None → t.waiting ≡ a ∷ q
+  On : {c : Counts} {t : State} (a : ℕ) (q : List ℕ) → Reaches rules s c t → t.verdict ≡ None → t.waiting ≡ a ∷ q
       → Reaches rules s (plus c (counts_of (step rules t.settled a q))) (step rules t.settled a q).to
 
 -- one step
-pub reaches_one : (rules : List Rule) (s : State) (a : ℕ) (q : List ℕ) → s.verdict ≡ Standing.None → s.waiting ≡ a ∷ q
+pub reaches_one : (rules : List Rule) (s : State) (a : ℕ) (q : List ℕ) → s.verdict ≡ None → s.waiting ≡ a ∷ q
     → Reaches rules s (counts_of (step rules s.settled a q)) (step rules s.settled a q).to
 reaches_one rules s a q v w =
     let t : Step = step rules s.settled a q in

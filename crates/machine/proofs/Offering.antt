@@ -15,11 +15,11 @@ use borrow.Author.Tests.{eqb-true}
 use Rattle.rewriting.specs.Lists.{over}
 use Rattle.rewriting.proofs.Lists.{and_left, and_right, get_d_map}
 use Rattle.layout.specs.Image.{read}
-use Rattle.layout.specs.Refusals.{refusal}
+use Rattle.layout.specs.Refusals.{refusal, refused_by}
 use Rattle.machine.specs.declared.Counts.{Counts}
 use Rattle.machine.specs.Run.{no_counts, plus}
 use Rattle.machine.specs.Areas.{Monitor}
-use Rattle.machine.specs.Calls.{Call, GoOn, Outcome, sized, call_checks, decided, fuel_of, call_of, refused_by, refusal_of, answer_number}
+use Rattle.machine.specs.Calls.{Call, GoOn, Outcome, sized, call_checks, decided, fuel_of, call_of, refusal_of, answer_number}
 use Rattle.machine.specs.Batch.{Offers, stopped, and_then, in_turn, batched}
 use Rattle.machine.specs.Lent.{Passed, upon, offer_or_go_on, offers_or_goes_on}
 use Rattle.machine.specs.Promise.{Ended}

@@ -3,7 +3,7 @@
 use Prim.Native.Nat.{ℕ, suc, ◌<◌}
 use mathlib.Core.Path.{◌≡◌, refl, sym, ap, ◌∙◌}
 use mathlib.Core.Bool.{true}
-use Rattle.std.specs.Prelude.{Option, None, Some}
+use Rattle.std.specs.Prelude.{Option, None, Some, Ok, Err}
 use mathlib.Core.List.{List, [], ◌∷◌, Memᴰ}
 use native.Mathlib.Omega.{arith}
 use lib.Dec.{ltb}
@@ -12,10 +12,11 @@ use borrow.Author.Tests.{ltb-true}
 use Rattle.rewriting.specs.Lists.{all, over}
 use Rattle.rewriting.proofs.Lists.{and_left, and_right}
 use Rattle.layout.specs.Image.{read}
+use Rattle.layout.specs.Refusals.{refused_by}
 use Rattle.machine.specs.declared.Answer.{Answer}
 use Rattle.machine.specs.Run.{no_counts, plus}
 use Rattle.machine.specs.Areas.{Monitor}
-use Rattle.machine.specs.Calls.{Call, Offer, GoOn, Outcome, call_of, refused_by, refusal_of, answer_number}
+use Rattle.machine.specs.Calls.{Call, Offer, GoOn, Outcome, call_of, refusal_of, answer_number}
 use Rattle.machine.specs.Batch.{Offers, stopped, and_then, in_turn, Batched, batched}
 use Rattle.machine.specs.Lent.{monitor_in, answer_from}
 use Rattle.machine.specs.Promise.{Ended, refusals_of}
@@ -73,7 +74,7 @@ module _ (capacity : ℕ) (image table : List ℕ) (m : Monitor) (c : Call) (b :
   -- the call is refused
   pub single_refused : (b.stop ≡ 0 → ⊥)
       → ◌≡◌ {A = Outcome} (record {
-        answer = Answer.Refused b.stop;
+        answer = Err b.stop;
         counts = no_counts;
         monitor = monitor_in m.head b.monitor.bytes b.monitor.words;
       }) (call_of capacity image table m c)
@@ -81,26 +82,28 @@ module _ (capacity : ℕ) (image table : List ℕ) (m : Monitor) (c : Call) (b :
     where
       go : (x : Option ℕ) → refused_by o.answer ≡ x
           → ◌≡◌ {A = Outcome} (record {
-            answer = Answer.Refused b.stop;
+            answer = Err b.stop;
             counts = no_counts;
             monitor = monitor_in m.head b.monitor.bytes b.monitor.words;
           }) o
       go None r = absurd (z (is_accepted r).stop)
       go (Some n) r =
           let k = is-stopped n r in
-          (λ i. record { answer = Answer.Refused (k.0 i); counts = no_counts; monitor = monitor_in m.head (k.1 i).bytes (k.1 i).words })
+          (λ i. record { answer = Err (k.0 i); counts = no_counts; monitor = monitor_in m.head (k.1 i).bytes (k.1 i).words })
           ∙ sym k.2
 
   -- the call is accepted, and its answer has the number a
   pub single_taken : b.stop ≡ 0 → (a : ℕ) → ((k : ℕ) → b.accepted ≡ suc k → get_or b.answers k 0 ≡ a)
-      → ◌≡◌ {A = Outcome} (record { answer = answer_from a; counts = b.counts; monitor = b.monitor }) (call_of capacity image table m c)
+      → ◌≡◌ {A = Outcome} (record { answer = Ok (answer_from a); counts = b.counts; monitor = b.monitor }) (call_of capacity image table m c)
   single_taken z a last = go (refused_by o.answer) refl
     where
       go : (x : Option ℕ) → refused_by o.answer ≡ x
-          → ◌≡◌ {A = Outcome} (record { answer = answer_from a; counts = b.counts; monitor = b.monitor }) o
+          → ◌≡◌ {A = Outcome} (record { answer = Ok (answer_from a); counts = b.counts; monitor = b.monitor }) o
       go None r =
           let k : Accepted = is_accepted r in
-          let n : answer_from a ≡ o.answer = ap answer_from (sym (last 0 k.accepted) ∙ k.answer) ∙ answer_back o.answer r in
+          let n : Ok (answer_from a) ≡ o.answer =
+          ap (λ (x : ℕ). Ok (answer_from x)) (sym (last 0 k.accepted) ∙ k.answer) ∙ answer_back o.answer r
+          in
           λ i. record { answer = n i; counts = k.counts i; monitor = k.monitor i }
       go (Some n) r =
           let k = is-stopped n r in

@@ -1,11 +1,11 @@
 -- Batch, as a function of all that is lent to it.
 use Rattle.std.specs.Prelude.{ℕ, ◌&&◌, List, [], ◌∷◌, ◌++◌, leb, length, Option, None, Some}
 use Rattle.rewriting.specs.Lists.{over}
-use Rattle.layout.specs.Refusals.{Check, refusal}
+use Rattle.layout.specs.Refusals.{Check, refusal, refused_by}
 use Rattle.machine.specs.declared.Counts.{Counts}
 use Rattle.machine.specs.Run.{no_counts, plus}
 use Rattle.machine.specs.Areas.{Monitor}
-use Rattle.machine.specs.Calls.{Call, Outcome, lent_checks, fuel_check, call_of, refused_by, answer_number}
+use Rattle.machine.specs.Calls.{Call, Outcome, lent_checks, fuel_check, call_of, answer_number}
 use Rattle.machine.specs.Play.{offers_of}
 
 -- Offers, or other calls, one after another: what stopped them (0: nothing did), an answer byte for each accepted, the summed counts, and

@@ -1,27 +1,22 @@
 -- Lists of calls: "A list of calls holds offers and goes-on in any order, refused ones among them, and may be empty."
-use Rattle.std.specs.Prelude.{ℕ, List, [], ◌∷◌, ◌++◌, map, Option, None, Some}
-use Rattle.machine.specs.declared.Standing.{Standing}
+use Rattle.std.specs.Prelude.{ℕ, List, [], ◌∷◌, ◌++◌, map, Option, None, Some, Result}
 use Rattle.machine.specs.declared.Answer.{Answer}
 use Rattle.machine.specs.declared.Counts.{Counts}
 use Rattle.machine.specs.Run.{no_counts, plus}
 use Rattle.machine.specs.Areas.{Monitor, state_of}
-use Rattle.machine.specs.Calls.{Call, Offer, GoOn, Outcome, call_of, refused_by}
+use Rattle.machine.specs.Calls.{Call, Offer, GoOn, Outcome, call_of}
+use Rattle.layout.specs.Refusals.{refused_by}
 
 -- the string that a monitor holds: "settled, then waiting"
 unfoldable pub string_of : Monitor → List ℕ
 string_of m = (state_of m).settled ++ (state_of m).waiting
-
--- the verdict that stands, if one does
-unfoldable pub verdict_of : Standing → Option ℕ
-verdict_of Standing.None = None
-verdict_of (Standing.Verdict v) = Some v
 
 -- A list of calls so far: the monitor that it leaves, the accepted events, each call's answer, and the sums of the counts
 -- that the calls reported.
 pub record Log : Type 0 where
   pub monitor : Monitor
   pub events : List ℕ
-  pub answers : List Answer
+  pub answers : List (Result Answer ℕ)
   pub counts : Counts
 
 -- nothing called yet

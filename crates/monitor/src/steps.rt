@@ -1,6 +1,6 @@
 // One step, and a call's run.
 // The module is private: what its functions ask, the checks of a call have shown.
-ghost use Rattle.std.specs.Prelude.{◌+◌, ◌*◌, ◌<◌, ◌≡◌, length, None};
+ghost use Rattle.std.specs.Prelude.{◌+◌, ◌*◌, ◌<◌, ◌≡◌, length, None, Ok};
 ghost use Rattle.layout.specs.Image.{read};
 ghost use Rattle.machine.specs.Run.{run};
 ghost use Rattle.machine.specs.Areas.{state_of};
@@ -126,7 +126,7 @@ impl Flat {
             (active self bytes.old words.old) None
             (run (read image.now).rules (length bytes.old) fuel
             (state_of (active self bytes.old words.old)))) }
-        ensures number { answer_number (answer_from result.answer) ≡ result.answer }
+        ensures number { answer_number (Ok (answer_from result.answer)) ≡ result.answer }
     {
         if self.waiting == 0 {
             return self.ended(QUIET, 0, 0);

@@ -14,11 +14,12 @@ use Rattle.rewriting.proofs.Lists.{between_high, below_weaken}
 use Rattle.rewriting.proofs.Ranges.{ranges}
 use Rattle.layout.specs.Image.{read}
 use Rattle.layout.proofs.Image.{valid-in_range}
+use Rattle.layout.specs.Refusals.{refused_by}
 use Rattle.machine.specs.declared.Answer.{Answer}
 use Rattle.monitor.specs.declared.Returned.{Returned}
 use Rattle.machine.specs.Run.{fits}
 use Rattle.machine.specs.Areas.{Monitor, document_capacity, head_of, monitor_of, state_of}
-use Rattle.machine.specs.Calls.{Offer, fuel_of, Outcome, offer_of, call_of, refused_by}
+use Rattle.machine.specs.Calls.{Offer, fuel_of, Outcome, offer_of, call_of}
 use Rattle.machine.specs.Play.{string_of}
 use Rattle.monitor.specs.Lent.{outcome_from}
 use Rattle.machine.specs.Promise.{Stopped}

@@ -10,7 +10,7 @@ ghost use Rattle.printing.specs.Turns.{line_most, Events, offering, next_of, tur
 ghost use Rattle.report.specs.Lent.{walk_in, begun_in, turn_from};
 
 use grammar::{Found, NAMES_BYTES, Read};
-use layout::{Compiled, IMAGE_BYTES, TABLE_WORDS};
+use layout::{IMAGE_BYTES, TABLE_WORDS};
 use machine::CAPACITY;
 use monitor::Head;
 
@@ -97,8 +97,8 @@ fn make_ready(
     ensures words { words.new ≡ fresh_monitor.words }
 {
     match table::compile(image, table) {
-        Compiled::Refused(_) => Begun::Message(0),
-        Compiled::Words(size) => {
+        Err(_) => Begun::Message(0),
+        Ok(size) => {
             let begun = monitor::fresh(bytes, words);
             let head = begun.head;
             Begun::Events(Walk {

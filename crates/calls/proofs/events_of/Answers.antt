@@ -4,7 +4,7 @@ use mathlib.Core.Path.{◌≡◌, refl}
 use Rattle.std.specs.Prelude.{Option, None, Some}
 use native.Mathlib.Omega.{arith}
 use lib.ListN.{length}
-use Rattle.machine.specs.Calls.{refused_by}
+use Rattle.layout.specs.Refusals.{refused_by}
 use Rattle.machine.specs.Play.{events_of}
 use Rattle.calls.specs.Encoding.{decoded_call}
 use Rattle.calls.proofs.events_of.Goals as goal

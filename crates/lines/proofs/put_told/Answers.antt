@@ -4,8 +4,9 @@ use mathlib.Core.Path.{◌≡◌, refl}
 use Rattle.std.specs.Prelude.{None}
 use mathlib.Core.List.{List}
 use native.Mathlib.Omega.{arith}
+use Rattle.layout.specs.Refusals.{refused_by}
 use Rattle.machine.specs.declared.Answer.{Answer}
-use Rattle.machine.specs.Calls.{Outcome, refused_by}
+use Rattle.machine.specs.Calls.{Outcome}
 use Rattle.machine.proofs.AnswerKinds.{not_refused}
 use Rattle.printing.specs.Lines.{answer_word, counted, told}
 use Rattle.lines.proofs.put_told.Goals as goal
