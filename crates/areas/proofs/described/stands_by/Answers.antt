@@ -10,15 +10,15 @@ returns-in-None c =
 
 pub returns-in-Put : goal.returns-in-Put
 returns-in-Put c =
-    stands_put (read c.args.image.now).rules c.args.rule c.right_side.ensures _ c.in-Verdict.is
+    stands_put (read c.args.image.now).rules c.args.rule c.right_side.ensures _ c.in-Some.is
     _ c.in-Put.is
 
 pub returns-in-Close : goal.returns-in-Close
 returns-in-Close c =
-    stands_close (read c.args.image.now).rules c.args.rule c.right_side.ensures _ c.in-Verdict.is
+    stands_close (read c.args.image.now).rules c.args.rule c.right_side.ensures _ c.in-Some.is
     _ c.in-Close.is (omega (arith, c.if-rule-rules.true, c.rules.ensures))
 
 pub returns-else-rule-rules : goal.returns-else-rule-rules
 returns-else-rule-rules c =
-    stands_no_rule (read c.args.image.now).rules c.args.rule _ c.in-Verdict.is
+    stands_no_rule (read c.args.image.now).rules c.args.rule _ c.in-Some.is
     (omega (arith, c.if-rule-rules.false, c.rules.ensures))
