@@ -1,6 +1,6 @@
 // A head in numbers alone, as the loops over steps and calls keep it. A head with an enum has unused bytes beside its verdict, and is
 // copied through memory with them; a struct of words stays in registers. Only this crate uses it.
-ghost use Rattle.std.specs.Prelude.{ℕ, ◌<◌, ◌≡◌};
+ghost use Rattle.std.specs.Prelude.{ℕ, ◌<◌, ◌≡◌, true, not, eqb};
 ghost use Rattle.machine.specs.declared.Standing.{Standing};
 ghost use Rattle.machine.specs.Run.{no_counts};
 ghost use Rattle.machine.specs.Lent.{answer_from, standing_after};
@@ -47,10 +47,11 @@ fn standing_after(number: u64) -> Standing
     Standing::Verdict(number - VERDICT)
 }
 
-// A number of an answer after which this verdict stands.
-fn number_of(verdict: Standing) -> u64
+// A number of an answer after which this verdict stands. It is not that of Full.
+pub(crate) fn number_of(verdict: Standing) -> u64
     requires { (v : ℕ) → verdict ≡ Standing.Verdict v → v < 16 }
-    ensures { standing_after result ≡ verdict }
+    ensures stands { standing_after result ≡ verdict }
+    ensures fits { not (eqb result 2) ≡ true }
 {
     match verdict {
         Standing::None => 0,
