@@ -1,5 +1,7 @@
 -- `areas::described::stands_by` meets its contract, by what the image has for the rule.
+use mathlib.Core.Path.{◌∙◌}
 use native.Mathlib.Omega.{arith}
+use borrow.Author.Tests.{le-ltb}
 use Rattle.layout.specs.Image.{read}
 use Rattle.machine.proofs.VerdictRule.{stands_none, stands_no_rule, stands_put, stands_close}
 use Rattle.areas.proofs.described.stands_by.Goals as goal
@@ -20,5 +22,6 @@ returns-in-Close c =
 
 pub returns-else-rule-rules : goal.returns-else-rule-rules
 returns-else-rule-rules c =
-    stands_no_rule (read c.args.image.now).rules c.args.rule _ c.in-Some.is
+    le-ltb c.args.rule c.rules.result c.if-rule-rules.false
+    ∙ stands_no_rule (read c.args.image.now).rules c.args.rule _ c.in-Some.is
     (omega (arith, c.if-rule-rules.false, c.rules.ensures))
