@@ -1,153 +1,95 @@
--- The tests on bytes, and what a run is by its first byte and its length, by the cases that the code takes apart.
+-- What a run is, by its first byte, the one behind it and its length.
 -- Assumes nothing.
-use Prim.Native.Nat.{ℕ, suc, ◌-◌, ◌≤◌, ◌<◌}
-use mathlib.Core.Path.{◌≡◌, refl, sym, ap}
-use mathlib.Core.Bool.{Bool, true, false, cond}
+use Prim.Native.Nat.{ℕ, suc, ◌≤◌, ◌<◌}
+use mathlib.Core.Path.{◌≡◌, refl}
+use mathlib.Core.Bool.{Bool, true, false, cond, ◌&&◌, and-true, and-false}
 use mathlib.Core.List.{List, [], ◌∷◌}
 use native.Mathlib.Omega.{arith}
-use native.Mathlib.Nat.{not-suc-le-zero}
 use lib.Dec.{eqb, leb}
-use lib.ListN.{length, get_or, drop, length-drop}
-use lib.Seq.{drop-cons}
-use borrow.Author.Tests.{ne_eqb, le-leb, lt-leb}
-use Rattle.rewriting.specs.Lists.{same, between}
+use lib.ListN.{length, get_or, drop, get_or-eq_default}
+use borrow.Author.Tests.{eqb-true, ne_eqb, le-leb, lt-leb}
+use Rattle.std.specs.Prelude.{Option, Some, None}
+use Rattle.rewriting.specs.Lists.{same}
 use Rattle.tokens.specs.declared.Kind.{Kind}
 use Rattle.tokens.specs.declared.Kind.TheVariants as kinds
-use Rattle.grammar.specs.Tokens.{separator, letter}
+use Rattle.grammar.specs.Tokens.{letter}
 use Rattle.tokens.specs.Scanned.{lead, named_as, kind_of}
 
--- A byte between two others.
-pub between_from : (low b high : ℕ) → low ≤ b → leb b high ≡ between low b high
-between_from low b high h = rw (le-leb low b h)
+-- how many bytes stand before a name
+pub lead_is :
+    (t : List ℕ)
+    → lead t
+    ≡ cond (eqb (get_or t 0 0) 35) 1
+      (cond (eqb (get_or t 0 0) 46) 1 (cond (eqb (get_or t 0 0) 94) 1 (cond (eqb (get_or t 0 0) 45 && eqb 62 (get_or t 1 0)) 2 0)))
+unfolding lead
+lead_is [] = refl
+lead_is (b ∷ []) = refl
+lead_is (b ∷ y ∷ t) = rw (and-true (eqb 62 y))
 
-pub between_before : (low b high : ℕ) → b < low → false ≡ between low b high
-between_before low b high h = rw (lt-leb low b h)
+-- behind the last byte, 0 is read
+pub first_past : (t : List ℕ) → length t < 1 → get_or t 0 0 ≡ 0
+first_past t h = get_or-eq_default t 0 {n = 0} (omega arith)
 
-pub false-true : false ≡ true → ⊥
-false-true e = let z : ◌≡◌ {A = ℕ} 0 1 = ap (λ (b : Bool). cond b 1 0) e in absurd (omega arith)
+pub second_past : (t : List ℕ) → length t < 2 → get_or t 1 0 ≡ 0
+second_past t h = get_or-eq_default t 0 {n = 1} (omega arith)
 
-module _ (b : ℕ) where
-  pub separator-space : b ≡ 32 → true ≡ separator b
-  unfolding separator
-  separator-space e = rw e
-
-  pub separator_tab : b ≡ 9 → true ≡ separator b
-  unfolding separator
-  separator_tab e = rw e
-
-  pub separator_cr : b ≡ 13 → true ≡ separator b
-  unfolding separator
-  separator_cr e = rw e
-
-  pub separator_else : (b ≡ 32 → ⊥) → (b ≡ 9 → ⊥) → (b ≡ 13 → ⊥) → eqb b 10 ≡ separator b
-  unfolding separator
-  separator_else f g h = rw (ne_eqb b 32 f, ne_eqb b 9 g, ne_eqb b 13 h)
-
-  pub letter_large : between 65 b 90 ≡ true → true ≡ letter b
-  unfolding letter
-  letter_large e = rw e
-
-  pub letter_small : between 65 b 90 ≡ false → between 97 b 122 ≡ letter b
-  unfolding letter
-  letter_small e = rw e
-
--- The kind of a run whose name begins at `at`.
-module _ (kind : Kind) (run : List ℕ) (at : ℕ) where
-  pub named-nothing : length run - at < 1 → kinds.None ≡ named_as kind (drop at run)
-  unfolding named_as
-  named-nothing h = go (drop at run) (omega (arith, length-drop at run))
+-- The kind of a run with the name x.
+module _ (kind : Kind) (x : List ℕ) where
+  named_is : named_as kind x ≡ cond (leb (length x) 24 && letter (get_or x 0 0)) (Some kind) None
+  unfolding named_as letter
+  named_is = go x
     where
-      go : (x : List ℕ) → length x < 1 → kinds.None ≡ named_as kind x
-      go [] l = refl
-      go (b ∷ t) l = absurd (omega (arith, l))
+      go : (x : List ℕ) → named_as kind x ≡ cond (leb (length x) 24 && letter (get_or x 0 0)) (Some kind) None
+      go [] = refl
+      go (b ∷ t) = refl
 
-  pub named_long : 24 < length run - at → kinds.None ≡ named_as kind (drop at run)
-  unfolding named_as
-  named_long h = go (drop at run) (omega (arith, length-drop at run))
-    where
-      go : (x : List ℕ) → 24 < length x → kinds.None ≡ named_as kind x
-      go [] l = refl
-      go (b ∷ t) l = rw (lt-leb (length (b ∷ t)) 24 l)
+  pub named_letter : length x ≤ 24 → letter (get_or x 0 0) ≡ true → Some kind ≡ named_as kind x
+  named_letter few e = rw (named_is, le-leb (length x) 24 few, e)
 
-  pub named_by :
-      (l : Bool) → at < length run → length run - at ≤ 24 → letter (get_or run at 0) ≡ l
-      → cond l kind kinds.None ≡ named_as kind (drop at run)
-  unfolding named_as
-  named_by l some few e =
-      let size : length (get_or run at 0 ∷ drop (suc at) run) ≤ 24 = omega (arith, length-drop (suc at) run) in
-      rw (drop-cons run at 0 some, le-leb (length (get_or run at 0 ∷ drop (suc at) run)) 24 size, e)
+  pub named_long : 24 < length x → None ≡ named_as kind x
+  named_long many = rw (named_is, lt-leb (length x) 24 many)
 
--- How many bytes stand before a name, by the first byte and the one behind it.
-pub lead-hash : (t : List ℕ) → get_or t 0 32 ≡ 35 → 1 ≡ lead t
-unfolding lead
-lead-hash [] e = absurd (omega (arith, e))
-lead-hash (b ∷ t) e = rw e
+  pub named_other : letter (get_or x 0 0) ≡ false → None ≡ named_as kind x
+  named_other e = rw (named_is, e, and-false (leb (length x) 24))
 
-pub lead-stop : (t : List ℕ) → get_or t 0 32 ≡ 46 → 1 ≡ lead t
-unfolding lead
-lead-stop [] e = absurd (omega (arith, e))
-lead-stop (b ∷ t) e = rw e
+  pub named-nothing : length x < 1 → None ≡ named_as kind x
+  unfolding letter
+  named-nothing none = named_other (rw (first_past x none))
 
-pub lead-mark : (t : List ℕ) → get_or t 0 32 ≡ 94 → 1 ≡ lead t
-unfolding lead
-lead-mark [] e = absurd (omega (arith, e))
-lead-mark (b ∷ t) e = rw e
+-- what stands behind `-` in an arrow
+arrow : (t : List ℕ) → same t (62 ∷ []) ≡ (eqb (suc (length t)) 2 && eqb (get_or t 0 0) 62)
+arrow [] = refl
+arrow (y ∷ []) = and-true (eqb y 62)
+arrow (y ∷ z ∷ u) = rw (ne_eqb (suc (suc (suc (length u)))) 2 (λ e. omega arith)) (and-false (eqb y 62))
 
-pub lead-none :
-    (t : List ℕ) → (get_or t 0 32 ≡ 35 → ⊥) → (get_or t 0 32 ≡ 46 → ⊥) → (get_or t 0 32 ≡ 94 → ⊥) → (get_or t 0 32 ≡ 45 → ⊥)
-    → 0 ≡ lead t
-unfolding lead
-lead-none [] hash stop mark dash = refl
-lead-none (b ∷ t) hash stop mark dash = rw (ne_eqb b 35 hash, ne_eqb b 46 stop, ne_eqb b 94 mark, ne_eqb b 45 dash)
+-- what a run is
+pub kind_is :
+    (run : List ℕ)
+    → kind_of run
+    ≡ cond (eqb (length run) 1 && eqb (get_or run 0 0) 46) (Some kinds.Stop)
+      (cond (eqb (length run) 2 && (eqb (get_or run 0 0) 45 && eqb (get_or run 1 0) 62)) (Some kinds.Arrow)
+      (cond (eqb (length run) 1 && eqb (get_or run 0 0) 94) (Some kinds.Mark)
+      (cond (eqb (get_or run 0 0) 35) (named_as kinds.Word (drop 1 run)) (named_as kinds.Name run))))
+unfolding kind_of named_as letter
+kind_is [] = refl
+kind_is (b ∷ t) = stop (eqb b 46) refl
+  where
+    P : ℕ → Type 0
+    P b =
+        kind_of (b ∷ t)
+        ≡ cond (eqb (length (b ∷ t)) 1 && eqb b 46) (Some kinds.Stop)
+          (cond (eqb (length (b ∷ t)) 2 && (eqb b 45 && eqb (get_or t 0 0) 62)) (Some kinds.Arrow)
+          (cond (eqb (length (b ∷ t)) 1 && eqb b 94) (Some kinds.Mark)
+          (cond (eqb b 35) (named_as kinds.Word t) (named_as kinds.Name (b ∷ t)))))
 
-pub lead-arrow : (t : List ℕ) → get_or t 0 32 ≡ 45 → get_or t 1 32 ≡ 62 → 2 ≡ lead t
-unfolding lead
-lead-arrow [] e f = absurd (omega (arith, e))
-lead-arrow (b ∷ []) e f = absurd (omega (arith, f))
-lead-arrow (b ∷ y ∷ t) e f = rw (e, f)
+    mark : (h : Bool) → eqb b 94 ≡ h → eqb b 46 ≡ false → eqb b 45 ≡ false → P b
+    mark true e f g = rw (eqb-true b 94 e) (simp (and-false, and-true))
+    mark false e f g = rw (e, f, g) (simp (and-false, and-true))
 
-pub lead-dash : (t : List ℕ) → get_or t 0 32 ≡ 45 → (get_or t 1 32 ≡ 62 → ⊥) → 0 ≡ lead t
-unfolding lead
-lead-dash [] e f = refl
-lead-dash (b ∷ []) e f = rw e
-lead-dash (b ∷ y ∷ t) e f = rw (e, ne_eqb 62 y (λ (g : 62 ≡ y). f (sym g)))
+    dash : (h : Bool) → eqb b 45 ≡ h → eqb b 46 ≡ false → P b
+    dash true e f = rw (eqb-true b 45 e) (simp (and-false, and-true) (rw (arrow t)))
+    dash false e f = mark (eqb b 94) refl f e
 
--- What a run is, by its first byte.
-pub kind-stop : (run : List ℕ) → get_or run 0 0 ≡ 46 → length run ≡ 1 → kinds.Stop ≡ kind_of run
-unfolding kind_of
-kind-stop [] e one = absurd (omega (arith, one))
-kind-stop (b ∷ t) e one = rw (e, one)
-
-pub kind_no_stop : (run : List ℕ) → get_or run 0 0 ≡ 46 → (length run ≡ 1 → ⊥) → kinds.None ≡ kind_of run
-unfolding kind_of
-kind_no_stop [] e one = refl
-kind_no_stop (b ∷ t) e one = rw (e, ne_eqb (length (b ∷ t)) 1 one)
-
-pub kind-dash :
-    (run : List ℕ) (a : Bool) → get_or run 0 0 ≡ 45 → same run (45 ∷ 62 ∷ []) ≡ a
-    → cond a kinds.Arrow kinds.None ≡ kind_of run
-unfolding kind_of
-kind-dash [] a e arrow = absurd (omega (arith, e))
-kind-dash (b ∷ t) a e arrow = rw (e, ← arrow, e)
-
-pub kind-word : (run : List ℕ) → get_or run 0 0 ≡ 35 → named_as kinds.Word (drop 1 run) ≡ kind_of run
-unfolding kind_of
-kind-word [] e = absurd (omega (arith, e))
-kind-word (b ∷ t) e = rw e
-
-pub kind-mark : (run : List ℕ) → get_or run 0 0 ≡ 94 → length run ≡ 1 → kinds.Mark ≡ kind_of run
-unfolding kind_of
-kind-mark [] e one = absurd (omega (arith, one))
-kind-mark (b ∷ t) e one = rw (e, one)
-
-pub kind_no_mark : (run : List ℕ) → get_or run 0 0 ≡ 94 → (length run ≡ 1 → ⊥) → kinds.None ≡ kind_of run
-unfolding kind_of
-kind_no_mark [] e one = refl
-kind_no_mark (b ∷ t) e one = rw (e, ne_eqb (length (b ∷ t)) 1 one)
-
-pub kind-name :
-    (run : List ℕ) → 1 ≤ length run → (get_or run 0 0 ≡ 46 → ⊥) → (get_or run 0 0 ≡ 45 → ⊥) → (get_or run 0 0 ≡ 35 → ⊥)
-    → (get_or run 0 0 ≡ 94 → ⊥) → named_as kinds.Name (drop 0 run) ≡ kind_of run
-unfolding kind_of
-kind-name [] some stop dash hash mark = absurd (not-suc-le-zero some)
-kind-name (b ∷ t) some stop dash hash mark = rw (ne_eqb b 46 stop, ne_eqb b 45 dash, ne_eqb b 35 hash, ne_eqb b 94 mark)
+    stop : (h : Bool) → eqb b 46 ≡ h → P b
+    stop true e = rw (eqb-true b 46 e) (simp (and-false, and-true))
+    stop false e = dash (eqb b 45) refl e

@@ -1,7 +1,7 @@
 -- Laws, in reading order.
 pub mod ByteTests
 pub mod Classes
-pub mod Same
+pub mod Firsts
 pub mod TokenOf
 pub mod RunBytes
 pub mod Numbering

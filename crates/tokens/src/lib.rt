@@ -5,20 +5,19 @@ ghost use Rattle.std.specs.Prelude.{◌≡◌};
 ghost use Rattle.grammar.specs.FirstRun.{first_run};
 ghost use Rattle.grammar.specs.Lookup.{symbol_named, found_as};
 
-use grammar::{Found, NAME_BYTES, Run, SLOT_BYTES, SYMBOLS_BYTES};
+use grammar::{Found, NAME_BYTES, Run, SYMBOLS_BYTES};
 
 pub mod bytes;
 pub mod names;
 
-// What a run of bytes is; None where it is no token.
-#[derive(Clone, Copy)]
+// What a run of bytes is.
+#[derive(Clone, Copy, PartialEq, Eq)]
 pub enum Kind {
     Name,
     Word,
     Arrow,
     Stop,
     Mark,
-    None,
 }
 
 // The number of a name, and how many names there are then.
@@ -35,7 +34,7 @@ pub fn first_run(part: &[u8]) -> Run
     let start = bytes::gap_of(part);
     let size = bytes::unbroken_length(&part[start..]);
     Run {
-        start: start,
+        start,
         end: start + size,
     }
 }
@@ -44,20 +43,11 @@ pub fn first_run(part: &[u8]) -> Run
 pub fn symbol(names: &[u8], x: &[u8]) -> Found
     ensures { found_as result ≡ symbol_named names.now x.now }
 {
-    if x.len() < 1 {
+    if x.is_empty() || NAME_BYTES < x.len() || names.len() < SYMBOLS_BYTES {
         return Found::None;
     }
-    if NAME_BYTES < x.len() {
-        return Found::None;
+    match names::find(names, 32, &names::slot_of(x), x.len()) {
+        Some(i) => Found::Symbol(i),
+        None => Found::None,
     }
-    if names.len() < SYMBOLS_BYTES {
-        return Found::None;
-    }
-    let mut key: [u8; SLOT_BYTES] = [0; SLOT_BYTES];
-    names::make_slot(&mut key, x);
-    let i = names::find(names, 32, &key, x.len());
-    if i < 32 {
-        return Found::Symbol(i);
-    }
-    Found::None
 }
