@@ -11,7 +11,6 @@ ghost use Rattle.machine.specs.Lent.{monitor_with, Settled};
 use crate::held;
 use image::wide;
 use layout::RightSide;
-use machine::Standing;
 
 // A quarter of n, rounded up to a multiple of 32: a loop of so many turns becomes vector code with nothing left over. From 384 on
 // three of them fit into n.
@@ -81,13 +80,13 @@ fn zero_words(words: &[u16]) -> bool
 }
 
 // Whether the verdict is that of its rule; with none the rule is 0.
-fn stands_by(image: &[u8], verdict: Standing, rule: usize) -> bool
+fn stands_by(image: &[u8], verdict: Option<u64>, rule: usize) -> bool
     requires { valid image.now ≡ true }
     ensures { result ≡ stands_by (read image.now).rules verdict rule }
 {
     match verdict {
-        Standing::None => rule == 0,
-        Standing::Verdict(v) => {
+        None => rule == 0,
+        Some(v) => {
             if rule < image::rules(image) {
                 match image::right_side(image, rule) {
                     RightSide::Put(_) => false,
@@ -131,7 +130,7 @@ fn settled_right(image: &[u8], table: &[u16], symbols: &[u8], words: &[u16]) -> 
 pub fn as_described(
     settled: usize,
     waiting: usize,
-    verdict: Standing,
+    verdict: Option<u64>,
     rule: usize,
     image: &[u8],
     table: &[u16],

@@ -2,10 +2,8 @@
 // their caller, the checks of a call have shown; the crate monitor is the only one that calls them.
 #![tactic(auto)]
 
-ghost use Rattle.std.specs.Prelude.{◌≡◌, length};
-ghost use Rattle.std.proofs.Math.Option.{some};
+ghost use Rattle.std.specs.Prelude.{◌≡◌, length, Some, None};
 ghost use Rattle.layout.specs.Image.{read};
-ghost use Rattle.machine.specs.declared.Standing.{Standing};
 ghost use Rattle.machine.specs.Areas.{state_of};
 ghost use Rattle.machine.specs.Lent.{monitor_with, Passed, Starts, Matches, step_of, tried};
 ghost use Rattle.areas.specs.Rewritten.{rewritten_from};
@@ -40,13 +38,13 @@ pub fn rewrite(
     words: &mut [u16],
     i: usize,
 ) -> Rewritten
-    requires lent { Passed (length bytes.old) image.now table.now (monitor_with settled waiting Standing.None 0 bytes.old words.old) }
+    requires lent { Passed (length bytes.old) image.now table.now (monitor_with settled waiting None 0 bytes.old words.old) }
     requires starts { Starts image.now starts.now }
-    requires next { Matches (read image.now).rules (state_of (monitor_with settled waiting Standing.None 0 bytes.old words.old)) (some i) }
+    requires next { Matches (read image.now).rules (state_of (monitor_with settled waiting None 0 bytes.old words.old)) (Some i) }
     ensures { rewritten_from result bytes.new words.new
         ≡ tried (read image.now).rules (length bytes.old)
-        (monitor_with settled waiting Standing.None 0 bytes.old words.old)
-        (step_of (read image.now).rules (state_of (monitor_with settled waiting Standing.None 0 bytes.old words.old))) }
+        (monitor_with settled waiting None 0 bytes.old words.old)
+        (step_of (read image.now).rules (state_of (monitor_with settled waiting None 0 bytes.old words.old))) }
 {
     let first = bytes.len() - waiting;
     let size = image::left_length(image, i);

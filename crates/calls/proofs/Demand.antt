@@ -3,7 +3,7 @@
 use Prim.Native.Nat.{ℕ}
 use mathlib.Core.Path.{◌≡◌, refl, sym, ap, subst, ◌∙◌}
 use mathlib.Core.Bool.{Bool, true, false, cond}
-use mathlib.Core.Option.{none, some}
+use Rattle.std.specs.Prelude.{None, Some}
 use mathlib.Core.List.{List}
 use native.Mathlib.Omega.{arith}
 use Rattle.rewriting.specs.Lists.{prefix}
@@ -26,42 +26,42 @@ use Rattle.calls.specs.Played.{PlayEnded, played_from, logged, play_checks, play
 module _ (capacity : ℕ) (image table bytes words numbers : List ℕ) where
   -- 30
   pub not_a_list : encodes numbers ≡ false
-      → record { refused = some 30; monitor = monitor_in (head_of empty) bytes words; accepted = 0; counts = no_counts }
+      → record { refused = Some 30; monitor = monitor_in (head_of empty) bytes words; accepted = 0; counts = no_counts }
       ≡ play_of capacity image table bytes words numbers
   unfolding play_of play_ended play_checks refusal
   not_a_list e = rw e
 
   module _ (list : encodes numbers ≡ true) (f : Fresh) (is : f ≡ fresh_of capacity bytes words) where
     -- 10, from fresh
-    pub not-fresh : (n : ℕ) → f.refused ≡ some n
-        → record { refused = some n; monitor = monitor_in (head_of empty) f.monitor.bytes f.monitor.words; accepted = 0; counts = no_counts }
+    pub not-fresh : (n : ℕ) → f.refused ≡ Some n
+        → record { refused = Some n; monitor = monitor_in (head_of empty) f.monitor.bytes f.monitor.words; accepted = 0; counts = no_counts }
         ≡ play_of capacity image table bytes words numbers
     unfolding play_of play_ended play_checks fresh_of freshened refusal
     not-fresh n e = rw list (rw is (go (sized capacity bytes words) (ap (λ (x : Fresh). x.refused) (sym is) ∙ e)))
       where
-        go : (b : Bool) → (freshened capacity bytes words (cond b none (some 10))).refused ≡ some n
+        go : (b : Bool) → (freshened capacity bytes words (cond b None (Some 10))).refused ≡ Some n
             → record {
-              refused = some n;
-              monitor = monitor_in (head_of empty) (freshened capacity bytes words (cond b none (some 10))).monitor.bytes
-                  (freshened capacity bytes words (cond b none (some 10))).monitor.words;
+              refused = Some n;
+              monitor = monitor_in (head_of empty) (freshened capacity bytes words (cond b None (Some 10))).monitor.bytes
+                  (freshened capacity bytes words (cond b None (Some 10))).monitor.words;
               accepted = 0;
               counts = no_counts;
             }
-            ≡ play_ended (cond b none (some 10)) bytes words
-            (play capacity image table (no_calls (freshened capacity bytes words (cond b none (some 10))).monitor) (decoded_calls numbers))
+            ≡ play_ended (cond b None (Some 10)) bytes words
+            (play capacity image table (no_calls (freshened capacity bytes words (cond b None (Some 10))).monitor) (decoded_calls numbers))
         go true p = let z : ◌≡◌ {A = ℕ} 0 1 = cc in absurd (omega arith)
         go false p = rw p
 
     -- none: the list is played
-    pub is_played : f.refused ≡ none
+    pub is_played : f.refused ≡ None
         → logged (play capacity image table (no_calls f.monitor) (decoded_calls numbers)) ≡ play_of capacity image table bytes words numbers
     unfolding play_of play_ended play_checks fresh_of freshened refusal
     is_played e = rw list (rw is (go (sized capacity bytes words) (ap (λ (x : Fresh). x.refused) (sym is) ∙ e)))
       where
-        go : (b : Bool) → (freshened capacity bytes words (cond b none (some 10))).refused ≡ none
-            → logged (play capacity image table (no_calls (freshened capacity bytes words (cond b none (some 10))).monitor) (decoded_calls numbers))
-            ≡ play_ended (cond b none (some 10)) bytes words
-            (play capacity image table (no_calls (freshened capacity bytes words (cond b none (some 10))).monitor) (decoded_calls numbers))
+        go : (b : Bool) → (freshened capacity bytes words (cond b None (Some 10))).refused ≡ None
+            → logged (play capacity image table (no_calls (freshened capacity bytes words (cond b None (Some 10))).monitor) (decoded_calls numbers))
+            ≡ play_ended (cond b None (Some 10)) bytes words
+            (play capacity image table (no_calls (freshened capacity bytes words (cond b None (Some 10))).monitor) (decoded_calls numbers))
         go true p = refl
         go false p = let z : ◌≡◌ {A = ℕ} 0 1 = cc in absurd (omega arith)
 
@@ -73,7 +73,7 @@ kept true false p q k = let z : ◌≡◌ {A = ℕ} 0 1 = cc in absurd (omega ar
 kept false t p q k = let z : ◌≡◌ {A = ℕ} 0 1 = cc in absurd (omega arith)
 
 pub demand : (capacity : ℕ) (image table bytes words : List ℕ) (calls : List Call) (r : Played) (bytes' words' : List ℕ) (f : Fresh)
-    → f ≡ fresh_of capacity bytes words → f.refused ≡ none
+    → f ≡ fresh_of capacity bytes words → f.refused ≡ None
     → played_from r bytes' words' ≡ logged (play capacity image table (no_calls f.monitor) calls)
     → DemandThreeOf capacity image table bytes words calls r bytes' words'
 unfolding logged

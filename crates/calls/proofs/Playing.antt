@@ -3,7 +3,7 @@
 use Prim.Native.Nat.{ℕ, zero, suc, ◌+◌, ◌*◌, ◌≤◌, ◌<◌}
 use mathlib.Core.Path.{◌≡◌, refl, sym, ap, subst, ◌∙◌}
 use mathlib.Core.Bool.{true}
-use mathlib.Core.Option.{Option, none, some}
+use Rattle.std.specs.Prelude.{Option, None, Some}
 use mathlib.Core.List.{List, ◌∷◌, ◌++◌}
 use native.Mathlib.Omega.{arith}
 use native.Mathlib.Nat.{mul-le-mul, add-mul}
@@ -11,12 +11,12 @@ use lib.ListN.{length, get_or, drop, length-append}
 use borrow.Author.Tests.{leb-true}
 use Rattle.rewriting.specs.Rules.{RuleSet}
 use Rattle.layout.specs.Image.{read}
-use Rattle.layout.specs.Refusals.{Check, refusal}
+use Rattle.layout.specs.Refusals.{Check, refusal, refused_by}
 use Rattle.layout.proofs.Refusals.{refusal_passed, refusal_rest, refusal_none_right}
 use Rattle.machine.specs.declared.Counts.{Counts}
 use Rattle.machine.specs.Run.{Run, no_counts, plus, run}
 use Rattle.machine.specs.Areas.{Head, Monitor, state_of}
-use Rattle.machine.specs.Calls.{Call, Offer, GoOn, Outcome, fuel_of, lent_checks, fuel_check, call_checks, offered, outcome, decided, call_of, refused_by}
+use Rattle.machine.specs.Calls.{Call, Offer, GoOn, Outcome, fuel_of, lent_checks, fuel_check, call_checks, offered, outcome, decided, call_of}
 use Rattle.machine.specs.Play.{Log, no_calls, events_of, logged, play}
 use Rattle.machine.specs.Promise.{Ended}
 use Rattle.machine.proofs.Runs.{ran}
@@ -26,7 +26,7 @@ use Rattle.calls.proofs.Numbers.{few, paired, CallAt, call_at, calls_end}
 use Rattle.calls.specs.Played as Played
 
 -- the fuel of an accepted call
-fuel_taken : (set : RuleSet) (capacity : ℕ) (head : Head) (c : Call) → refusal (call_checks set capacity head c) ≡ none
+fuel_taken : (set : RuleSet) (capacity : ℕ) (head : Head) (c : Call) → refusal (call_checks set capacity head c) ≡ None
     → fuel_of c ≤ 65535
 unfolding call_checks fuel_check fuel_of
 fuel_taken set capacity head (Offer event fuel) e = leb-true _ _ (refusal_passed _ _ _ (refusal_rest _ _ _ e))
@@ -44,8 +44,8 @@ call_steps capacity image table m c = go (refusal checks) refl
     r = run (read image).rules capacity (fuel_of c) (offered (state_of m) c)
 
     go : (o : Option ℕ) → refusal checks ≡ o → (outcome (read image) capacity m o r).counts.steps ≤ 65535
-    go (some n) e = omega arith
-    go none e =
+    go (Some n) e = omega arith
+    go None e =
         let fuel : fuel_of c ≤ 65535 =
         fuel_taken (read image) capacity m.head c (refusal_none_right (lent_checks capacity image table m) _ e)
         in
@@ -58,15 +58,15 @@ call_steps capacity image table m c = go (refusal checks) refl
 pub events_number : (o : Option ℕ) (first fuel : ℕ)
     → length (events_of o (decoded_call first fuel)) ≡ length (events_of o (decoded_call first 0))
 unfolding events_of decoded_call
-events_number (some n) first fuel = refl
-events_number none zero fuel = refl
-events_number none (suc event) fuel = refl
+events_number (Some n) first fuel = refl
+events_number None zero fuel = refl
+events_number None (suc event) fuel = refl
 
 events_few : (o : Option ℕ) (c : Call) → length (events_of o c) ≤ 1
 unfolding events_of
-events_few (some n) c = omega arith
-events_few none (Offer event fuel) = omega arith
-events_few none (GoOn fuel) = omega arith
+events_few (Some n) c = omega arith
+events_few None (Offer event fuel) = omega arith
+events_few None (GoOn fuel) = omega arith
 
 -- one call
 play_call : (capacity : ℕ) (image table : List ℕ) (g : Log) (c : Call) (calls : List Call)
@@ -121,7 +121,7 @@ module _ {capacity : ℕ} {image table : List ℕ} {m : Monitor} {numbers : List
     (now : Playing capacity image table m numbers n a c k) where
   -- All calls have been made.
   pub playing_all : length numbers ≤ k
-      → record { refused = none; monitor = n; accepted = a; counts = c }
+      → record { refused = None; monitor = n; accepted = a; counts = c }
       ≡ Played.logged (play capacity image table (no_calls m) (decoded_calls numbers))
   unfolding Played.logged play
   playing_all h = rw (now.whole, calls_end numbers k h, now.monitor, now.events, now.counts)

@@ -1,9 +1,8 @@
 -- What play gives back, for everything that may be lent to it, and demand 3 of the code's own values.
-use Rattle.std.specs.Prelude.{ℕ, ◌≡◌, true, List, [], ◌∷◌, length}
-use Rattle.std.proofs.Math.Option.{Option, none, some}
+use Rattle.std.specs.Prelude.{ℕ, ◌≡◌, true, List, [], ◌∷◌, length, Option, None, Some}
 use Rattle.rewriting.specs.Lists.{prefix}
 use Rattle.layout.specs.Image.{read, valid}
-use Rattle.layout.specs.Refusals.{Check, refusal, refused_as}
+use Rattle.layout.specs.Refusals.{Check, refusal, refused_by, numbered}
 use Rattle.layout.specs.Table.{table_of}
 use Rattle.machine.specs.declared.Counts.{Counts}
 use Rattle.machine.specs.State.{empty}
@@ -28,7 +27,7 @@ pub record PlayEnded : Type 0 where
 abbrev pub played_from : Played → List ℕ → List ℕ → PlayEnded
 played_from r bytes words =
     record {
-      refused = refused_as r.refusal;
+      refused = refused_by (numbered r.answer);
       monitor = lent r.head bytes words;
       accepted = r.accepted;
       counts = r.counts;
@@ -37,7 +36,7 @@ played_from r bytes words =
 -- a list that was played
 unfoldable pub logged : Log → PlayEnded
 logged g =
-    record { refused = none; monitor = g.monitor; accepted = length g.events; counts = g.counts }
+    record { refused = None; monitor = g.monitor; accepted = length g.events; counts = g.counts }
 
 -- in order: 30, the numbers are no list of calls; 10, an area of another length
 unfoldable pub play_checks : ℕ → List ℕ → List ℕ → List ℕ → List Check
@@ -45,9 +44,9 @@ play_checks capacity bytes words numbers = (encodes numbers, 30) ∷ (sized capa
 
 -- a refusal changes nothing lent, and has the empty head beside it
 unfoldable pub play_ended : Option ℕ → List ℕ → List ℕ → Log → PlayEnded
-play_ended (some n) bytes words g =
-    record { refused = some n; monitor = monitor_in (head_of empty) bytes words; accepted = 0; counts = no_counts }
-play_ended none bytes words g = logged g
+play_ended (Some n) bytes words g =
+    record { refused = Some n; monitor = monitor_in (head_of empty) bytes words; accepted = 0; counts = no_counts }
+play_ended None bytes words g = logged g
 
 -- the calls that the numbers are, from the head and areas that fresh leaves
 unfoldable pub play_of : ℕ → List ℕ → List ℕ → List ℕ → List ℕ → List ℕ → PlayEnded

@@ -2,21 +2,19 @@
 // monitor. Two numbers a call: the first is 0 for a go-on and 1 + e for an offer of event e; the second is the fuel.
 #![tactic(auto)]
 
-ghost use Rattle.std.specs.Prelude.{◌≤◌, ◌≡◌, true, length};
-ghost use Rattle.std.proofs.Math.Option.{none};
-ghost use Rattle.layout.specs.declared.Checked.{Checked};
+ghost use Rattle.std.specs.Prelude.{◌≤◌, ◌≡◌, true, length, None, Err};
 ghost use Rattle.machine.specs.State as State;
 ghost use Rattle.machine.specs.Areas.{document_capacity, head_of};
 ghost use Rattle.machine.specs.Run.{no_counts};
-ghost use Rattle.machine.specs.Calls.{call_of, refused_by};
+ghost use Rattle.machine.specs.Calls.{call_of};
 ghost use Rattle.machine.specs.Play.{events_of, no_calls, play};
 ghost use Rattle.monitor.specs.Lent.{head_out, lent, outcome_from};
-ghost use Rattle.layout.specs.Refusals.{refused_as};
+ghost use Rattle.layout.specs.Refusals.{refused_by, numbered};
 ghost use Rattle.calls.specs.Encoding.{decoded_call, encodes, decoded_calls};
 ghost use Rattle.calls.specs.Played.{logged, played_from, play_of, DemandThreeOf};
 
-use layout::Checked;
-use machine::{Answer, Counts, Standing};
+use layout::Refusal;
+use machine::{Answer, Counts};
 use monitor::{Head, Returned};
 
 // What play gives back: the head that the calls leave, whether the list was refused, how many events were accepted, and
@@ -24,23 +22,23 @@ use monitor::{Head, Returned};
 #[derive(Clone, Copy)]
 pub struct Played {
     pub head: Head,
-    pub refusal: Checked,
+    pub answer: Result<(), Refusal>,
     pub accepted: u64,
     pub counts: Counts,
 }
 
 // A refusal of the list, beside the empty head.
-fn refused(n: u32) -> Played
-    ensures { result ≡ record { head = head_out (head_of State.empty); refusal = Checked.Refused n; accepted = 0; counts = no_counts } }
+fn refused(refusal: Refusal) -> Played
+    ensures { result ≡ record { head = head_out (head_of State.empty); answer = Err refusal; accepted = 0; counts = no_counts } }
 {
     Played {
         head: Head {
             settled: 0,
             waiting: 0,
-            verdict: Standing::None,
+            verdict: None,
             rule: 0,
         },
-        refusal: Checked::Refused(n),
+        answer: Err(refusal),
         accepted: 0,
         counts: Counts {
             steps: 0,
@@ -92,18 +90,15 @@ fn made(
 }
 
 // How many events a call with this answer adds to the accepted ones.
-fn events_of(answer: Answer, first: u32) -> u64
-    ensures { result ≡ length (events_of (refused_by answer) (decoded_call first 0)) }
+fn events_of(answer: Result<Answer, Refusal>, first: u32) -> u64
+    ensures { result ≡ length (events_of (refused_by (numbered answer)) (decoded_call first 0)) }
 {
     if first == 0 {
         return 0;
     }
     match answer {
-        Answer::Quiet => 1,
-        Answer::Spent => 1,
-        Answer::Full => 1,
-        Answer::Verdict(_) => 1,
-        Answer::Refused(_) => 0,
+        Ok(_) => 1,
+        Err(_) => 0,
     }
 }
 
@@ -140,7 +135,7 @@ fn made_all(
     }
     Played {
         head: head,
-        refusal: Checked::Passed,
+        answer: Ok(()),
         accepted: accepted,
         counts: Counts {
             steps: steps,
@@ -160,18 +155,17 @@ pub fn play(
 ) -> Played
     ensures outcome { played_from result bytes.new words.new
         ≡ play_of document_capacity image.now table.now bytes.old words.old numbers.now }
-    ensures promise { refused_as result.refusal ≡ none
+    ensures promise { refused_by (numbered result.answer) ≡ None
         → DemandThreeOf document_capacity image.now table.now bytes.old words.old
         (decoded_calls numbers.now)
         result bytes.new words.new }
 {
     if !is_list(numbers) {
-        return refused(30);
+        return refused(Refusal::NoCalls);
     }
     let begun = monitor::fresh(bytes, words);
-    let refusal = begun.refusal;
-    match refusal {
-        Checked::Refused(n) => refused(n),
-        Checked::Passed => made_all(begun.head, image, table, bytes, words, numbers),
+    match begun.answer {
+        Err(refusal) => refused(refusal),
+        Ok(()) => made_all(begun.head, image, table, bytes, words, numbers),
     }
 }

@@ -2,13 +2,14 @@
 -- Assumes nothing.
 use mathlib.Core.Path.{◌≡◌, refl}
 use mathlib.Core.List.{[], ◌∷◌, map, flat_map}
-use mathlib.Core.Option.{none, some, or_else}
+use Rattle.std.specs.Prelude.{None, Some}
+use Rattle.std.specs.Option.{option_or}
 use Rattle.rewriting.specs.Lists.{over}
 use Rattle.rewriting.specs.Rules.{symbols_of, rule, right_in_range, rule_in_range, in_range}
 use Rattle.rewriting.specs.Occurrences.{lowest, spanning, tie, ending}
 use Rattle.rewriting.specs.Sample.{sample}
 use Rattle.layout.specs.Image.{kind, length_or_verdict, mark_byte, contents, body, image_of, read_right, read_rule, read_rules, read, valid}
-use Rattle.layout.specs.Refusals.{refusal}
+use Rattle.layout.specs.Refusals.{refusal, refused_by}
 use Rattle.layout.specs.States.{
   pattern,
   is_prefix,
@@ -44,24 +45,7 @@ use Rattle.machine.specs.Areas.{
   holds,
   described,
 }
-use Rattle.machine.specs.Calls.{
-  sized,
-  freshened,
-  fresh_of,
-  fuel_of,
-  lent_checks,
-  is_none,
-  fuel_check,
-  verdict_check,
-  call_checks,
-  offered,
-  outcome,
-  decided,
-  call_of,
-  offer_of,
-  refused_by,
-  answer_number,
-}
+use Rattle.machine.specs.Calls.{sized, freshened, fresh_of, fuel_of, lent_checks, is_none, fuel_check, verdict_check, call_checks, offered, outcome, decided, call_of, offer_of, answer_number}
 use Rattle.machine.specs.Batch.{stopped, and_then, in_turn, offers, batch_checks, batched, batch_of}
 use Rattle.machine.specs.Play.{string_of, no_calls, events_of, logged, play, offers_of}
 use Rattle.cases.specs.Cases.{Case, fresh, found_in, find, worked, abcd, cases}
@@ -92,7 +76,7 @@ use Rattle.cases.specs.Edges.{
 -- every definition that a computed case goes through
 computes : Unit {0}
 unfolding
-    or_else flat_map rule right_in_range rule_in_range in_range lowest spanning tie ending sample kind length_or_verdict mark_byte symbols_of contents
+    flat_map rule right_in_range rule_in_range in_range lowest spanning tie ending sample kind length_or_verdict mark_byte symbols_of contents
     body image_of read_right read_rule read_rules read valid refusal pattern is_prefix state next starts symbols_in matching prefixes known numbered
     has_mark first_states states number match_word row table_of empty active replace settle step no_counts plus counts_of ended counted fits
     proceed tests run head_of area_of bytes_of states_after words_of monitor_of state_of no_match unmatched closes_with stands_by holds described sized
@@ -133,16 +117,17 @@ refusals_in_order = refl
 
 -- batches
 pub batches_found : map find_batch batches ≡ map (λ (c : BatchCase). c.found) batches
-unfolding computes over stopped and_then in_turn offers_of offers offer_of answer_number batch_checks batched batch_of find_batch batch holding growing tripling batches
+unfolding computes over stopped and_then in_turn offers_of offers offer_of answer_number batch_checks batched batch_of
+    find_batch batch holding growing tripling batches
 batches_found = refl
 
-pub many_events_lem : (many_events 65535 ≡ none) × (many_events 65536 ≡ some 16)
+pub many_events_lem : (many_events 65535 ≡ None) × (many_events 65536 ≡ Some 16)
 unfolding computes batch_checks many_events
 many_events_lem = (refl, refl)
 
 -- fresh refuses a byte too few and a word too many, and leaves the areas
 pub fresh_refuses : (fresh_of 2 (7 ∷ []) (7 ∷ 7 ∷ [])
-    ≡ record { refused = some 10; monitor = record { head = head_of empty; bytes = 7 ∷ []; words = 7 ∷ 7 ∷ [] } })
-    × ((fresh_of 1 (7 ∷ []) (7 ∷ 7 ∷ [])).refused ≡ some 10)
+    ≡ record { refused = Some 10; monitor = record { head = head_of empty; bytes = 7 ∷ []; words = 7 ∷ 7 ∷ [] } })
+    × ((fresh_of 1 (7 ∷ []) (7 ∷ 7 ∷ [])).refused ≡ Some 10)
 unfolding computes
 fresh_refuses = (refl, refl)

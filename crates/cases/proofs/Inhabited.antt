@@ -5,7 +5,7 @@
 use Prim.Native.Nat.{ℕ}
 use mathlib.Core.Path.{◌≡◌, refl}
 use mathlib.Core.Bool.{true}
-use mathlib.Core.Option.{none}
+use Rattle.std.specs.Prelude.{None}
 use mathlib.Core.List.{List, [], ◌∷◌, ◌++◌, append-nil}
 use lib.ListN.{replicate}
 use Rattle.rewriting.specs.Lists.{prefix}
@@ -26,7 +26,7 @@ abbrev area : List ℕ
 area = replicate document_capacity 7
 
 -- a fresh that is not refused
-fresh-taken : (fresh_of document_capacity area area).refused ≡ none
+fresh-taken : (fresh_of document_capacity area area).refused ≡ None
 unfolding fresh_of freshened sized refusal
 fresh-taken = refl
 

@@ -3,34 +3,33 @@
 -- Assumes nothing.
 use Prim.Native.Nat.{ℕ, zero, suc, ◌-◌, ◌≤◌, ◌<◌}
 use mathlib.Core.Path.{◌≡◌, refl, ap, ◌∙◌}
-use mathlib.Core.Option.{Option, none, some}
+use Rattle.std.specs.Prelude.{Option, None, Some}
 use mathlib.Core.List.{List, [], ◌∷◌}
 use native.Mathlib.Omega.{arith}
-use Rattle.layout.specs.Refusals.{refusal, refusal_number}
-use Rattle.machine.specs.declared.Standing.{Standing}
+use Rattle.layout.specs.Refusals.{refusal, refusal_number, refused_by}
 use Rattle.machine.specs.State.{empty, active}
 use Rattle.machine.specs.Areas.{Monitor, head_of}
-use Rattle.machine.specs.Calls.{Call, Fresh, Outcome, fresh_of, freshened, sized, call_of, refused_by, answer_number}
+use Rattle.machine.specs.Calls.{Call, Fresh, Outcome, fresh_of, freshened, sized, call_of, answer_number}
 use Rattle.machine.specs.Batch.{Batched, batch_of}
 use Rattle.machine.proofs.AnswerNumbers.{answer_number-below, accepted_verdict, batch_verdict}
 use Rattle.ffi.specs.Heads.{standing_from, standing_word, head_words, head_after, fresh_made, call_words, call_made, batch_made}
 
 -- the verdict that a word is
-pub standing_none : (w : ℕ) → w ≡ 0 → Standing.None ≡ standing_from w
+pub standing_none : (w : ℕ) → w ≡ 0 → None ≡ standing_from w
 unfolding standing_from
 standing_none zero e = refl
 standing_none (suc v) e = absurd (omega (arith, e))
 
-pub standing_verdict : (w : ℕ) → (w ≡ 0 → ⊥) → Standing.Verdict (w - 1) ≡ standing_from w
+pub standing_verdict : (w : ℕ) → (w ≡ 0 → ⊥) → Some (w - 1) ≡ standing_from w
 unfolding standing_from
 standing_verdict zero h = absurd (h refl)
 standing_verdict (suc v) h = let e : suc v - 1 ≡ v = omega arith in rw e
 
 -- a verdict below 16 as a word
-word_below : (s : Standing) → ((v : ℕ) → s ≡ Standing.Verdict v → v < 16) → standing_word s ≤ 16
+word_below : (s : Option ℕ) → ((v : ℕ) → s ≡ Some v → v < 16) → standing_word s ≤ 16
 unfolding standing_word
-word_below Standing.None h = omega arith
-word_below (Standing.Verdict v) h = let low : v < 16 = h v refl in omega arith
+word_below None h = omega arith
+word_below (Some v) h = let low : v < 16 = h v refl in omega arith
 
 -- fresh
 pub fresh-word : (capacity : ℕ) (bytes words : List ℕ) (f : Fresh) → f ≡ fresh_of capacity bytes words
@@ -39,8 +38,8 @@ unfolding fresh_of freshened head_of empty active standing_word
 fresh-word capacity bytes words f e = rw e (go (refusal ((sized capacity bytes words, 10) ∷ [])))
   where
     go : (o : Option ℕ) → standing_word (freshened capacity bytes words o).monitor.head.verdict ≤ 16
-    go none = omega arith
-    go (some n) = omega arith
+    go None = omega arith
+    go (Some n) = omega arith
 
 pub fresh_made_lem : {f g : Fresh} → f ≡ g → (r : ℕ) (head : List ℕ) → r ≡ refusal_number f.refused
     → head ≡ head_words f.monitor.head
@@ -52,7 +51,7 @@ fresh_made_lem {f = f} e r head p q =
 
 -- a call
 pub call_words_lem : (capacity : ℕ) (image table : List ℕ) (m : Monitor) (c : Call) (o : Outcome) → o ≡ call_of capacity image table m c
-    → (answer_number o.answer < 256) × (refused_by o.answer ≡ none → standing_word o.monitor.head.verdict ≤ 16)
+    → (answer_number o.answer < 256) × (refused_by o.answer ≡ None → standing_word o.monitor.head.verdict ≤ 16)
 call_words_lem capacity image table m c o e = rw e (
   answer_number-below capacity image table m c,
   λ a. word_below (call_of capacity image table m c).monitor.head.verdict (accepted_verdict capacity image table m c a),
@@ -68,7 +67,7 @@ call_made_lem w {o = o} e r head out x y z =
 
 -- a batch
 pub batch-word : (capacity : ℕ) (image table : List ℕ) (m : Monitor) (events : List ℕ) (fuel : ℕ) (answers : List ℕ) (b : Batched)
-    → b ≡ batch_of capacity image table m events fuel answers → b.refused ≡ none
+    → b ≡ batch_of capacity image table m events fuel answers → b.refused ≡ None
     → standing_word b.monitor.head.verdict ≤ 16
 batch-word capacity image table m events fuel answers b e h =
     word_below b.monitor.head.verdict (rw e (batch_verdict capacity image table m events fuel answers (rw e at h)))

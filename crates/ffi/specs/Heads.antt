@@ -1,23 +1,21 @@
 -- A head as four words: settled count, waiting count, verdict + 1 or 0 for none, the verdict's rule. What the monitor's
 -- functions return and leave, in words.
-use Rattle.std.specs.Prelude.{ℕ, zero, suc, List, [], ◌∷◌, get_or}
-use Rattle.std.proofs.Math.Option.{Option, none, some}
-use Rattle.layout.specs.Refusals.{refusal_number}
-use Rattle.machine.specs.declared.Standing.{Standing}
+use Rattle.std.specs.Prelude.{ℕ, zero, suc, List, [], ◌∷◌, get_or, Option, None, Some, Result}
+use Rattle.layout.specs.Refusals.{refusal_number, refused_by}
 use Rattle.monitor.specs.declared.Head.{Head}
 use Rattle.machine.specs.declared.Answer.{Answer}
 use Rattle.machine.specs.declared.Counts.{Counts}
 use Rattle.machine.specs.Areas as Areas
-use Rattle.machine.specs.Calls.{Fresh, Outcome, refused_by, answer_number}
+use Rattle.machine.specs.Calls.{Fresh, Outcome, answer_number}
 use Rattle.machine.specs.Batch.{Batched}
 
-unfoldable pub standing_from : ℕ → Standing
-standing_from zero = Standing.None
-standing_from (suc v) = Standing.Verdict v
+unfoldable pub standing_from : ℕ → Option ℕ
+standing_from zero = None
+standing_from (suc v) = Some v
 
-unfoldable pub standing_word : Standing → ℕ
-standing_word Standing.None = 0
-standing_word (Standing.Verdict v) = suc v
+unfoldable pub standing_word : Option ℕ → ℕ
+standing_word None = 0
+standing_word (Some v) = suc v
 
 -- the head that four words are, and the four words that a head is
 unfoldable pub head_from : List ℕ → Head
@@ -29,8 +27,8 @@ head_words h = h.settled ∷ h.waiting ∷ standing_word h.verdict ∷ h.rule �
 
 -- the head's words behind a call: as they were beside a refusal, else those of the new head
 unfoldable pub head_after : Option ℕ → List ℕ → Areas.Head → List ℕ
-head_after (some n) w h = w
-head_after none w h = head_words h
+head_after (Some n) w h = w
+head_after None w h = head_words h
 
 -- what fresh returns, and all that is lent to it, at its exit: the empty head beside 10, too
 pub record FreshMade : Type 0 where
@@ -57,7 +55,7 @@ pub record CallMade : Type 0 where
   pub out : List ℕ
 
 -- answer, steps, rewrites, symbols put back: a refusal has no counts, and its answer's number is 0
-unfoldable pub call_words : Answer → Counts → List ℕ
+unfoldable pub call_words : Result Answer ℕ → Counts → List ℕ
 call_words answer c = answer_number answer ∷ c.steps ∷ c.rewrites ∷ c.put ∷ []
 
 unfoldable pub call_made : List ℕ → Outcome → CallMade

@@ -1,23 +1,22 @@
 // The C interface of the watcher. Each function calls the library function of its name and spells the answer in numbers.
 #![tactic(auto)]
 
-ghost use Rattle.std.specs.Prelude.{◌≡◌, ◌≤◌, ◌<◌, [], ◌∷◌};
-ghost use Rattle.std.proofs.Math.Option.{none};
-ghost use Rattle.layout.specs.Refusals.{refusal_number};
+ghost use Rattle.std.specs.Prelude.{◌≡◌, ◌≤◌, ◌<◌, [], ◌∷◌, None};
+ghost use Rattle.layout.specs.Refusals.{refusal_number, refused_by, numbered};
 ghost use Rattle.layout.specs.Compile.{compile_of, word_count};
 ghost use Rattle.layout.specs.TableCheck.{check_of};
 ghost use Rattle.grammar.specs.Read.{read_of};
 ghost use Rattle.grammar.specs.Lookup.{number_or, symbol_named};
 ghost use Rattle.machine.specs.Areas.{document_capacity};
-ghost use Rattle.machine.specs.Calls.{fresh_of, offer_of, go_on_of, refused_by, answer_number};
+ghost use Rattle.machine.specs.Calls.{fresh_of, offer_of, go_on_of, answer_number};
 ghost use Rattle.machine.specs.Batch.{batch_of};
-ghost use Rattle.monitor.specs.Lent.{head_in, lent};
-ghost use Rattle.ffi.specs.Numbers.{read_number, read_words, compiled_number, checked_number};
+ghost use Rattle.monitor.specs.Lent.{head_in, lent, stop_number};
+ghost use Rattle.ffi.specs.Numbers.{read_number, read_words, refused_number};
 ghost use Rattle.ffi.specs.Heads.{standing_word, head_from, head_words, head_after, call_words, fresh_made, call_made, batch_made};
 
-use grammar::{Found, Read};
-use layout::{Checked, Compiled};
-use machine::{Answer, Standing};
+use grammar::Read;
+use layout::Refusal;
+use machine::Answer;
 use monitor::{Head, Returned};
 
 // read_rules: 0, or the refusal's number; in `out` the image's length and 0, beside a refusal 0 and its place.
@@ -51,26 +50,26 @@ pub extern "C" fn watcher_symbol(names: &[u8], name: &[u8]) -> u32
     ensures { result ≡ number_or 32 (symbol_named names.now name.now) }
 {
     match tokens::symbol(names, name) {
-        Found::Symbol(i) => i as u32,
-        Found::None => 32,
+        Some(i) => i as u32,
+        None => 32,
     }
 }
 
 // compile: 0, or the refusal's number; in `out` the number of words written, 0 beside a refusal.
 #[unsafe(no_mangle)]
 pub extern "C" fn watcher_compile(image: &[u8], table: &mut [u16], out: &mut [u64; 1]) -> u32
-    ensures refusal { result ≡ compiled_number (compile_of image.now table.old).answer }
+    ensures refusal { result ≡ refused_number (compile_of image.now table.old).answer }
     ensures area { table.new ≡ (compile_of image.now table.old).area }
     ensures words { out.new ≡ word_count (compile_of image.now table.old).answer ∷ [] }
 {
     match table::compile(image, table) {
-        Compiled::Words(n) => {
+        Ok(n) => {
             *out = [n as u64];
             0
         }
-        Compiled::Refused(n) => {
+        Err(refusal) => {
             *out = [0];
-            n
+            refusal.number()
         }
     }
 }
@@ -78,11 +77,18 @@ pub extern "C" fn watcher_compile(image: &[u8], table: &mut [u16], out: &mut [u6
 // The check of a lent image and table that each call begins with: 0, or refusal 7 or 9.
 #[unsafe(no_mangle)]
 pub extern "C" fn watcher_check_table(image: &[u8], table: &[u16]) -> u32
-    ensures { result ≡ checked_number (check_of image.now table.now) }
+    ensures { result ≡ refused_number (check_of image.now table.now) }
 {
-    match table::check(image, table) {
-        Checked::Passed => 0,
-        Checked::Refused(number) => number,
+    refusal_of(table::check(image, table))
+}
+
+// A refusal's number, and 0 where there is none.
+fn refusal_of<A: Copy>(answer: Result<A, Refusal>) -> u32
+    ensures { result ≡ refused_number (numbered answer) }
+{
+    match answer {
+        Ok(_) => 0,
+        Err(refusal) => refusal.number(),
     }
 }
 
@@ -97,26 +103,26 @@ fn head_from(words: &[u64; 4]) -> Head
         return Head {
             settled: settled,
             waiting: waiting,
-            verdict: Standing::None,
+            verdict: None,
             rule: rule,
         };
     }
     Head {
         settled: settled,
         waiting: waiting,
-        verdict: Standing::Verdict(words[2] - 1),
+        verdict: Some(words[2] - 1),
         rule: rule,
     }
 }
 
 // A verdict as a word.
-fn standing_word(verdict: Standing) -> u64
+fn standing_word(verdict: Option<u64>) -> u64
     requires { standing_word verdict ≤ 16 }
     ensures { result ≡ standing_word verdict }
 {
     match verdict {
-        Standing::None => 0,
-        Standing::Verdict(v) => v + 1,
+        None => 0,
+        Some(v) => v + 1,
     }
 }
 
@@ -136,37 +142,46 @@ fn set_head(words: &mut [u64; 4], head: Head)
 }
 
 // An answer as a word.
-fn answer_word(answer: Answer) -> u64
-    requires { answer_number answer < 256 }
-    ensures { result ≡ answer_number answer }
+fn answer_word(answer: Result<Answer, Refusal>) -> u64
+    requires { answer_number (numbered answer) < 256 }
+    ensures { result ≡ answer_number (numbered answer) }
 {
     match answer {
-        Answer::Quiet => 0,
-        Answer::Spent => 1,
-        Answer::Full => 2,
-        Answer::Verdict(v) => 16 + v,
-        Answer::Refused(_) => 0,
+        Ok(Answer::Quiet) => 0,
+        Ok(Answer::Spent) => 1,
+        Ok(Answer::Full) => 2,
+        Ok(Answer::Verdict(v)) => 16 + v,
+        Err(_) => 0,
+    }
+}
+
+// What stopped a batch, as a word: 0 where nothing did.
+fn stop_word(stop: Option<Refusal>) -> u64
+    ensures { result ≡ stop_number stop }
+{
+    match stop {
+        None => 0,
+        Some(refusal) => refusal.number() as u64,
     }
 }
 
 // What a call gave back: the new head, unless the call is refused; the answer and the counts; the refusal's number or 0.
 fn told(called: Returned, head: &mut [u64; 4], out: &mut [u64; 4]) -> u32
-    requires answer { answer_number called.answer < 256 }
-    requires verdict { refused_by called.answer ≡ none → standing_word called.head.verdict ≤ 16 }
-    ensures refusal { result ≡ refusal_number (refused_by called.answer) }
-    ensures head { head.new ≡ head_after (refused_by called.answer) head.old (head_in called.head) }
-    ensures out { out.new ≡ call_words called.answer called.counts }
+    requires answer { answer_number (numbered called.answer) < 256 }
+    requires verdict { refused_by (numbered called.answer) ≡ None → standing_word called.head.verdict ≤ 16 }
+    ensures refusal { result ≡ refusal_number (refused_by (numbered called.answer)) }
+    ensures head { head.new ≡ head_after (refused_by (numbered called.answer)) head.old (head_in called.head) }
+    ensures out { out.new ≡ call_words (numbered called.answer) called.counts }
 {
-    let answer = called.answer;
     *out = [
-        answer_word(answer),
+        answer_word(called.answer),
         called.counts.steps,
         called.counts.rewrites,
         called.counts.put,
     ];
-    match answer {
-        Answer::Refused(n) => n,
-        _ => {
+    match called.answer {
+        Err(refused) => refused.number(),
+        Ok(_) => {
             set_head(head, called.head);
             0
         }
@@ -181,11 +196,7 @@ pub extern "C" fn watcher_fresh(head: &mut [u64; 4], bytes: &mut [u8], words: &m
 {
     let begun = monitor::fresh(bytes, words);
     set_head(head, begun.head);
-    let refusal = begun.refusal;
-    if let Checked::Refused(n) = refusal {
-        return n;
-    }
-    0
+    refusal_of(begun.answer)
 }
 
 // offer: 0 or the refusal's number; in `out` the answer and the counts.
@@ -253,18 +264,15 @@ pub extern "C" fn watcher_batch(
 {
     let batched = head_from(head).batch(image, table, bytes, words, events, fuel, answers);
     *out = [
-        batched.stop as u64,
+        stop_word(batched.stop),
         batched.accepted as u64,
         batched.counts.steps,
         batched.counts.rewrites,
         batched.counts.put,
     ];
-    let refusal = batched.refusal;
-    match refusal {
-        Checked::Refused(n) => n,
-        Checked::Passed => {
-            set_head(head, batched.head);
-            0
-        }
+    if let Err(refusal) = batched.answer {
+        return refusal.number();
     }
+    set_head(head, batched.head);
+    0
 }

@@ -3,7 +3,7 @@
 use Prim.Native.Nat.{ℕ, zero, suc, ◌+◌, ◌*◌, ◌-◌, ◌≤◌, ◌<◌}
 use mathlib.Core.Path.{◌≡◌, refl, sym, ap, ◌∙◌}
 use mathlib.Core.Bool.{Bool, true, false, cond, ◌&&◌}
-use mathlib.Core.Option.{Option, none, some, map}
+use Rattle.std.specs.Prelude.{Option, None, Some, option_map}
 use mathlib.Core.List.{List, [], ◌∷◌, ◌++◌, append_assoc, flat_map}
 use mathlib.Core.Logic.{◌⊎◌, inl, inr}
 use native.Mathlib.Omega.{arith}
@@ -60,66 +60,66 @@ use Rattle.grammar.proofs.Slots.{name-some, name_short, length-slot, length-slot
 use Rattle.grammar.proofs.Sound.{cond_either, NamedToken, number-below, text_keeps, read_sound}
 
 -- A number found is the place of the name among the names.
-pub number_at : (names : List (List ℕ)) (x : List ℕ) (i : ℕ) → number_of names x ≡ some i → get_or names i [] ≡ x
+pub number_at : (names : List (List ℕ)) (x : List ℕ) (i : ℕ) → number_of names x ≡ Some i → get_or names i [] ≡ x
 unfolding number_of
 number_at [] x i e = let z : ◌≡◌ {A = ℕ} 0 1 = cc in absurd (omega arith)
 number_at (y ∷ names) x i e = first (same y x) refl (number_at names x) e
   where
     later :
-        (o : Option ℕ) → ((j : ℕ) → o ≡ some j → get_or names j [] ≡ x) → map suc o ≡ some i
+        (o : Option ℕ) → ((j : ℕ) → o ≡ Some j → get_or names j [] ≡ x) → option_map suc o ≡ Some i
         → get_or (y ∷ names) i [] ≡ x
-    later none ih p = let z : ◌≡◌ {A = ℕ} 0 1 = cc in absurd (omega arith)
-    later (some j) ih p = let q : suc j ≡ i = cc in rw (← q) (ih j refl)
+    later None ih p = let z : ◌≡◌ {A = ℕ} 0 1 = cc in absurd (omega arith)
+    later (Some j) ih p = let q : suc j ≡ i = cc in rw (← q) (ih j refl)
 
     first :
-        (b : Bool) → same y x ≡ b → ((j : ℕ) → number_of names x ≡ some j → get_or names j [] ≡ x)
-        → cond b (some 0) (map suc (number_of names x)) ≡ some i → get_or (y ∷ names) i [] ≡ x
+        (b : Bool) → same y x ≡ b → ((j : ℕ) → number_of names x ≡ Some j → get_or names j [] ≡ x)
+        → cond b (Some 0) (option_map suc (number_of names x)) ≡ Some i → get_or (y ∷ names) i [] ≡ x
     first true s ih p = let q : 0 ≡ i = cc in rw (← q) (same_eq y x s)
     first false s ih p = later (number_of names x) ih p
 
 -- Among names, a number is found of a name only.
 pub number-named :
-    (names : List (List ℕ)) (x : List ℕ) (i : ℕ) → all is_name names ≡ true → number_of names x ≡ some i → is_name x ≡ true
+    (names : List (List ℕ)) (x : List ℕ) (i : ℕ) → all is_name names ≡ true → number_of names x ≡ Some i → is_name x ≡ true
 number-named names x i named e =
     rw (number_at names x i e) at (all_at is_name names [] named i (number-below names x i e))
 
 -- More names behind change no number found, and a new name has the next one.
 pub number_kept :
-    (names more : List (List ℕ)) (x : List ℕ) (i : ℕ) → number_of names x ≡ some i → number_of (names ++ more) x ≡ some i
+    (names more : List (List ℕ)) (x : List ℕ) (i : ℕ) → number_of names x ≡ Some i → number_of (names ++ more) x ≡ Some i
 unfolding number_of
 number_kept [] more x i e = let z : ◌≡◌ {A = ℕ} 0 1 = cc in absurd (omega arith)
 number_kept (y ∷ names) more x i e = first (same y x) (number_kept names more x) e
   where
     later :
-        (o : Option ℕ) → ((j : ℕ) → o ≡ some j → number_of (names ++ more) x ≡ some j) → map suc o ≡ some i
-        → map suc (number_of (names ++ more) x) ≡ some i
-    later none ih p = let z : ◌≡◌ {A = ℕ} 0 1 = cc in absurd (omega arith)
-    later (some j) ih p = rw (ih j refl) p
+        (o : Option ℕ) → ((j : ℕ) → o ≡ Some j → number_of (names ++ more) x ≡ Some j) → option_map suc o ≡ Some i
+        → option_map suc (number_of (names ++ more) x) ≡ Some i
+    later None ih p = let z : ◌≡◌ {A = ℕ} 0 1 = cc in absurd (omega arith)
+    later (Some j) ih p = rw (ih j refl) p
 
     first :
-        (b : Bool) → ((j : ℕ) → number_of names x ≡ some j → number_of (names ++ more) x ≡ some j)
-        → cond b (some 0) (map suc (number_of names x)) ≡ some i
-        → cond b (some 0) (map suc (number_of (names ++ more) x)) ≡ some i
+        (b : Bool) → ((j : ℕ) → number_of names x ≡ Some j → number_of (names ++ more) x ≡ Some j)
+        → cond b (Some 0) (option_map suc (number_of names x)) ≡ Some i
+        → cond b (Some 0) (option_map suc (number_of (names ++ more) x)) ≡ Some i
     first true ih p = p
     first false ih p = later (number_of names x) ih p
 
 pub number-next :
-    (names more : List (List ℕ)) (x : List ℕ) → number_of names x ≡ none
-    → number_of (names ++ x ∷ more) x ≡ some (length names)
+    (names more : List (List ℕ)) (x : List ℕ) → number_of names x ≡ None
+    → number_of (names ++ x ∷ more) x ≡ Some (length names)
 unfolding number_of
 number-next [] more x e = rw (same_refl x)
 number-next (y ∷ names) more x e = first (same y x) (number-next names more x) e
   where
     later :
-        (o : Option ℕ) → (o ≡ none → number_of (names ++ x ∷ more) x ≡ some (length names)) → map suc o ≡ none
-        → map suc (number_of (names ++ x ∷ more) x) ≡ some (suc (length names))
-    later none ih p = rw (ih refl)
-    later (some j) ih p = let z : ◌≡◌ {A = ℕ} 0 1 = cc in absurd (omega arith)
+        (o : Option ℕ) → (o ≡ None → number_of (names ++ x ∷ more) x ≡ Some (length names)) → option_map suc o ≡ None
+        → option_map suc (number_of (names ++ x ∷ more) x) ≡ Some (suc (length names))
+    later None ih p = rw (ih refl)
+    later (Some j) ih p = let z : ◌≡◌ {A = ℕ} 0 1 = cc in absurd (omega arith)
 
     first :
-        (b : Bool) → (number_of names x ≡ none → number_of (names ++ x ∷ more) x ≡ some (length names))
-        → cond b (some 0) (map suc (number_of names x)) ≡ none
-        → cond b (some 0) (map suc (number_of (names ++ x ∷ more) x)) ≡ some (suc (length names))
+        (b : Bool) → (number_of names x ≡ None → number_of (names ++ x ∷ more) x ≡ Some (length names))
+        → cond b (Some 0) (option_map suc (number_of names x)) ≡ None
+        → cond b (Some 0) (option_map suc (number_of (names ++ x ∷ more) x)) ≡ Some (suc (length names))
     first true ih p = let z : ◌≡◌ {A = ℕ} 0 1 = cc in absurd (omega arith)
     first false ih p = later (number_of names x) ih p
 
@@ -135,7 +135,7 @@ slot_unused x area h = rw (ne_eqb (length x) 0 (λ e. omega arith))
 -- The slots of names, and k more that do not have x: the slot with x is the one with its number.
 pub slots_then :
     (x : List ℕ) (names : List (List ℕ)) (m k : ℕ) (rest : List ℕ) → all is_name names ≡ true → m ≡ k + length names
-    → slot_at (slot x) k rest ≡ none → slot_at (slot x) m (flat_map slot names ++ rest) ≡ number_of names x
+    → slot_at (slot x) k rest ≡ None → slot_at (slot x) m (flat_map slot names ++ rest) ≡ number_of names x
 unfolding slot_at number_of flat_map
 slots_then x [] m k rest named size e = let p : m ≡ k = omega arith in rw p e
 slots_then x (y ∷ names) zero k rest named size e = absurd (omega arith)
@@ -153,7 +153,7 @@ slots_then x (y ∷ names) (suc m) k rest named size e =
 
 -- no unused slot has a name
 pub slots_unused :
-    (x : List ℕ) (k n : ℕ) (rest : List ℕ) → 1 ≤ length x → k ≤ n → slot_at (slot x) k (replicate (25 * n) 0 ++ rest) ≡ none
+    (x : List ℕ) (k n : ℕ) (rest : List ℕ) → 1 ≤ length x → k ≤ n → slot_at (slot x) k (replicate (25 * n) 0 ++ rest) ≡ None
 unfolding slot_at
 slots_unused x zero n rest some_x h = refl
 slots_unused x (suc k) zero rest some_x h = absurd (not-suc-le-zero h)
@@ -176,7 +176,7 @@ unfolding slots
 slots-number x m n names rest named few fits some_x =
     let k : ℕ = m - length names in
     let behind : List ℕ = replicate (25 * (n - length names)) 0 ++ rest in
-    let unused : slot_at (slot x) k behind ≡ none = slots_unused x k (n - length names) rest some_x (omega arith) in
+    let unused : slot_at (slot x) k behind ≡ None = slots_unused x k (n - length names) rest some_x (omega arith) in
     rw append_assoc (slots_then x names m k behind named (omega arith) unused)
 
 -- As many slots as there are names have them, also for an x of no bytes.
@@ -206,9 +206,9 @@ lookup_slots s rest x h = rw long (go (between 1 (length x) 24) refl)
           length-slots 32 s.symbols h.few_symbols h.symbols_named,
         ))
 
-    unnamed : (o : Option ℕ) → number_of s.symbols x ≡ o → between 1 (length x) 24 ≡ false → none ≡ o
-    unnamed none e b = refl
-    unnamed (some i) e b =
+    unnamed : (o : Option ℕ) → number_of s.symbols x ≡ o → between 1 (length x) 24 ≡ false → None ≡ o
+    unnamed None e b = refl
+    unnamed (Some i) e b =
         let nx : is_name x ≡ true = number-named s.symbols x i h.symbols_named e in
         let t : between 1 (length x) 24 ≡ true =
         and_both (le-leb 1 (length x) (name-some x nx)) (le-leb (length x) 24 (name_short x nx))
@@ -216,7 +216,7 @@ lookup_slots s rest x h = rw long (go (between 1 (length x) 24) refl)
         let z : ◌≡◌ {A = ℕ} 0 1 = cc in
         absurd (omega arith)
 
-    go : (b : Bool) → between 1 (length x) 24 ≡ b → cond (b && true) (slot_at (slot x) 32 area) none ≡ number_of s.symbols x
+    go : (b : Bool) → between 1 (length x) 24 ≡ b → cond (b && true) (slot_at (slot x) 32 area) None ≡ number_of s.symbols x
     go true e =
         slots-number x 32 32 s.symbols rest h.symbols_named h.few_symbols (omega arith)
         (between_low 1 (length x) 24 e)
@@ -240,51 +240,51 @@ lookup_read text s area x e = lookup_over s area x (read_sound text s e).0
 
 -- No name has two numbers: each has the number of its place.
 abbrev pub Distinct : List (List ℕ) → Type 0
-Distinct names = (i : ℕ) → i < length names → number_of names (get_or names i []) ≡ some i
+Distinct names = (i : ℕ) → i < length names → number_of names (get_or names i []) ≡ Some i
 
 -- two places have two names
 pub names_differ :
     (names : List (List ℕ)) (i j : ℕ) → Distinct names → i < length names → j < length names
     → get_or names i [] ≡ get_or names j [] → i ≡ j
 names_differ names i j d hi hj e =
-    let p : number_of names (get_or names i []) ≡ some i = d i hi in
-    let q : number_of names (get_or names j []) ≡ some j = d j hj in
+    let p : number_of names (get_or names i []) ≡ Some i = d i hi in
+    let q : number_of names (get_or names j []) ≡ Some j = d j hj in
     cc
 
 pub distinct_added :
-    (names : List (List ℕ)) (x : List ℕ) → Distinct names → number_of names x ≡ none → Distinct (names ++ x ∷ [])
+    (names : List (List ℕ)) (x : List ℕ) → Distinct names → number_of names x ≡ None → Distinct (names ++ x ∷ [])
 distinct_added names x d new i h = go (ltb i (length names)) refl
   where
-    go : (b : Bool) → ltb i (length names) ≡ b → number_of (names ++ x ∷ []) (get_or (names ++ x ∷ []) i []) ≡ some i
+    go : (b : Bool) → ltb i (length names) ≡ b → number_of (names ++ x ∷ []) (get_or (names ++ x ∷ []) i []) ≡ Some i
     go true e =
         let lt : i < length names = ltb-true i (length names) e in
         rw (get_or-append names (x ∷ []) [] i lt) (number_kept names (x ∷ []) (get_or names i []) i (d i lt))
     go false e =
         let last : length names ≡ i = omega (arith, simp length-append at h, ltb-false i (length names) e) in
-        rw (get_or_at names x [] [] i last) (number-next names [] x new ∙ ap some last)
+        rw (get_or_at names x [] [] i last) (number-next names [] x new ∙ ap Some last)
 
 -- the names are as before, or have one new name behind them
 abbrev pub Adds : List (List ℕ) → List (List ℕ) → Type 0
-Adds names more = (more ≡ names) ⊎ ((x : List ℕ) × (number_of names x ≡ none) × (more ≡ names ++ x ∷ []))
+Adds names more = (more ≡ names) ⊎ ((x : List ℕ) × (number_of names x ≡ None) × (more ≡ names ++ x ∷ []))
 
 pub adds_numbered :
-    (most : ℕ) (names : List (List ℕ)) (x : List ℕ) (n : Numbered) → numbered most names x ≡ some n
+    (most : ℕ) (names : List (List ℕ)) (x : List ℕ) (n : Numbered) → numbered most names x ≡ Some n
     → Adds names n.names
 unfolding numbered or_new
 adds_numbered most names x n e = go (number_of names x) refl e
   where
-    last : (b : Bool) → number_of names x ≡ none
-        → cond b (some (record { number = length names; names = names ++ x ∷ [] })) none ≡ some n → Adds names n.names
+    last : (b : Bool) → number_of names x ≡ None
+        → cond b (Some (record { number = length names; names = names ++ x ∷ [] })) None ≡ Some n → Adds names n.names
     last true new p =
         let q : record { number = length names; names = names ++ x ∷ [] } ≡ n = cc in
         inr (x, new, sym (ap (λ (m : Numbered). m.names) q))
     last false new p = let z : ◌≡◌ {A = ℕ} 0 1 = cc in absurd (omega arith)
 
-    go : (o : Option ℕ) → number_of names x ≡ o → or_new most names x o ≡ some n → Adds names n.names
-    go (some i) found p =
+    go : (o : Option ℕ) → number_of names x ≡ o → or_new most names x o ≡ Some n → Adds names n.names
+    go (Some i) found p =
         let q : record { number = i; names = names } ≡ n = cc in
         inl (sym (ap (λ (m : Numbered). m.names) q))
-    go none found p = last (ltb (length names) most) found p
+    go None found p = last (ltb (length names) most) found p
 
 pub distinct_adds : (names more : List (List ℕ)) → Distinct names → Adds names more → Distinct more
 distinct_adds names more d (inl e) = rw e d
@@ -309,8 +309,8 @@ unfolding symbol with_symbol
 added-symbol s x to = go (numbered 32 s.symbols x) refl
   where
     go : (o : Option Numbered) → numbered 32 s.symbols x ≡ o → Added s (with_symbol s to o)
-    go none e = added_breaks s 5
-    go (some n) e = added_goes s _ (adds_numbered 32 s.symbols x n e) (inl refl)
+    go None e = added_breaks s 5
+    go (Some n) e = added_goes s _ (adds_numbered 32 s.symbols x n e) (inl refl)
 
 added_side : (s : Reading) (x side : List ℕ) (to : List ℕ → Place) → Added s (side_symbol s x side to)
 unfolding side_symbol
@@ -319,8 +319,8 @@ added_side s x side to =
 
 added-event : (s : Reading) (x : List ℕ) (o : Option ℕ) → Added s (event s x o)
 unfolding event
-added-event s x none = added-symbol s x (λ i. Events)
-added-event s x (some i) = added_breaks s 6
+added-event s x None = added-symbol s x (λ i. Events)
+added-event s x (Some i) = added_breaks s 6
 
 added-first_symbol : (s : Reading) (x : List ℕ) (m : Bool) → Added s (first_symbol s x m)
 unfolding first_symbol
@@ -343,8 +343,8 @@ unfolding with_verdict
 added_verdict s x m l = go (numbered 16 s.words x) refl
   where
     go : (o : Option Numbered) → numbered 16 s.words x ≡ o → Added s (with_verdict s m l o)
-    go none e = added_breaks s 5
-    go (some n) e = added_goes s _ (inl refl) (adds_numbered 16 s.words x n e)
+    go None e = added_breaks s 5
+    go (Some n) e = added_goes s _ (inl refl) (adds_numbered 16 s.words x n e)
 
 added-word : (s : Reading) (x : List ℕ) (p : Place) → Added s (word s x p)
 unfolding word right_word
@@ -457,13 +457,13 @@ read_names text s e = (text_keeps NamesKept names_after names_begun text s e).0
 -- Each symbol of a text is found by its name, and what is found by a name has it.
 pub lookup_symbol :
     (text : List ℕ) (s : Reading) (area : List ℕ) (i : ℕ) → read_text text ≡ Good s → i < length s.symbols
-    → symbol_named (over (names_of s) area) (get_or s.symbols i []) ≡ some i
+    → symbol_named (over (names_of s) area) (get_or s.symbols i []) ≡ Some i
 lookup_symbol text s area i e h =
     lookup_read text s area (get_or s.symbols i []) e ∙ (read_names text s e).symbols_differ i h
 
 pub lookup_found :
     (text : List ℕ) (s : Reading) (area x : List ℕ) (i : ℕ) → read_text text ≡ Good s
-    → symbol_named (over (names_of s) area) x ≡ some i → (i < length s.symbols) × (get_or s.symbols i [] ≡ x)
+    → symbol_named (over (names_of s) area) x ≡ Some i → (i < length s.symbols) × (get_or s.symbols i [] ≡ x)
 lookup_found text s area x i e found =
-    let p : number_of s.symbols x ≡ some i = sym (lookup_read text s area x e) ∙ found in
+    let p : number_of s.symbols x ≡ Some i = sym (lookup_read text s area x e) ∙ found in
     (number-below s.symbols x i p, number_at s.symbols x i p)

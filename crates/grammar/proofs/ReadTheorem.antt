@@ -4,7 +4,7 @@
 use Prim.Native.Nat.{ℕ, suc, ◌+◌, ◌≤◌}
 use mathlib.Core.Path.{◌≡◌, refl}
 use mathlib.Core.Bool.{Bool, true, false, cond, ◌&&◌}
-use mathlib.Core.Option.{Option, none, some}
+use Rattle.std.specs.Prelude.{Option, None, Some}
 use mathlib.Core.List.{List, [], ◌∷◌, Memᴰ}
 use native.Mathlib.Omega.{arith}
 use lib.Dec.{leb, ltb}
@@ -100,13 +100,13 @@ unfolding symbol with_symbol
 by_symbol s x to = go (numbered 32 s.symbols x)
   where
     go : (o : Option Numbered) → BreaksBy (with_symbol s to o)
-    go none = by_5
-    go (some n) = tt
+    go None = by_5
+    go (Some n) = tt
 
 by_event : (s : Reading) (x : List ℕ) (o : Option ℕ) → BreaksBy (event s x o)
 unfolding event
-by_event s x none = by_symbol s x (λ i. Events)
-by_event s x (some i) = by_6
+by_event s x None = by_symbol s x (λ i. Events)
+by_event s x (Some i) = by_6
 
 by_side : (s : Reading) (x side : List ℕ) (to : List ℕ → Place) → BreaksBy (side_symbol s x side to)
 unfolding side_symbol
@@ -129,8 +129,8 @@ by_name s x (Ending m l r) = by_4
 
 by_verdict : (s : Reading) (m : Bool) (l : List ℕ) (o : Option Numbered) → BreaksBy (with_verdict s m l o)
 unfolding with_verdict
-by_verdict s m l none = by_5
-by_verdict s m l (some n) = tt
+by_verdict s m l None = by_5
+by_verdict s m l (Some n) = tt
 
 by_word : (s : Reading) (x : List ℕ) (p : Place) → BreaksBy (word s x p)
 unfolding word right_word
@@ -181,12 +181,12 @@ by_stop s (Ending m l r) = tt
 
 by_run : (s : Reading) (o : Option Token) → BreaksBy (after_run s o)
 unfolding after_run after_token
-by_run s none = by_3
-by_run s (some (Name x)) = by_name s x s.place
-by_run s (some (Word x)) = by_word s x s.place
-by_run s (some Arrow) = by_arrow s s.place
-by_run s (some Stop) = by_stop s s.place
-by_run s (some Mark) = by_mark s s.place
+by_run s None = by_3
+by_run s (Some (Name x)) = by_name s x s.place
+by_run s (Some (Word x)) = by_word s x s.place
+by_run s (Some Arrow) = by_arrow s s.place
+by_run s (Some Stop) = by_stop s s.place
+by_run s (Some Mark) = by_mark s s.place
 
 -- A text that breaks does so by one of these numbers, inside the text or at its end.
 abbrev BreaksAt : ℕ → Result → Type 0
@@ -240,7 +240,7 @@ read_theorem text image names =
         → ReadEnded text image names (written (Bad n place) image names)
     refused n place known inside zero =
         record {
-          refused = λ k (p : some n ≡ some k).
+          refused = λ k (p : Some n ≡ Some k).
               let q : n ≡ k = cc in
               rw (← q)
               (record {
@@ -251,7 +251,7 @@ read_theorem text image names =
                 image_stays = refl;
                 names_stay = refl;
               });
-          taken = λ (p : some n ≡ none). let z : ◌≡◌ {A = ℕ} 0 1 = cc in absurd (omega arith);
+          taken = λ (p : Some n ≡ None). let z : ◌≡◌ {A = ℕ} 0 1 = cc in absurd (omega arith);
           size = (refl, refl);
         }
 
@@ -262,7 +262,7 @@ read_theorem text image names =
         let few = read_image_short text s e in
         let n = read_length_names text s e in
         record {
-          refused = λ k (p : none ≡ some k). let z : ◌≡◌ {A = ℕ} 0 1 = cc in absurd (omega arith);
+          refused = λ k (p : None ≡ Some k). let z : ◌≡◌ {A = ℕ} 0 1 = cc in absurd (omega arith);
           taken = λ _.
               record {
                 short_text = short;

@@ -4,7 +4,7 @@
 use Prim.Native.Nat.{ℕ, suc, ◌≤◌, ◌<◌}
 use mathlib.Core.Path.{◌≡◌, refl, subst}
 use mathlib.Core.Bool.{Bool, true, false, cond, ◌&&◌}
-use mathlib.Core.Option.{Option, none, some, map}
+use Rattle.std.specs.Prelude.{Option, None, Some, option_map}
 use mathlib.Core.List.{List, [], ◌∷◌, ◌++◌}
 use native.Mathlib.Omega.{arith}
 use lib.Dec.{eqb, leb, ltb}
@@ -74,8 +74,8 @@ NamedToken Stop = Unit {0}
 NamedToken Mark = Unit {0}
 
 abbrev NamedIn : Option Token → Type 0
-NamedIn none = Unit {0}
-NamedIn (some t) = NamedToken t
+NamedIn None = Unit {0}
+NamedIn (Some t) = NamedToken t
 
 token_named : (bytes : List ℕ) → NamedIn (token_of bytes)
 unfolding token_of
@@ -88,19 +88,19 @@ token_named (b ∷ t) =
     cond_either NamedIn (same (b ∷ t) (94 ∷ [])) _ _ (λ _. tt) (λ _. tt)
 
 -- A run of bytes that is a token has such a name.
-pub named-is_name : (bytes : List ℕ) (t : Token) → token_of bytes ≡ some t → NamedToken t
+pub named-is_name : (bytes : List ℕ) (t : Token) → token_of bytes ≡ Some t → NamedToken t
 named-is_name bytes t e = rw e at (token_named bytes)
 
 -- found at the head of a list, or in the rest, which has n
 pub next-below :
-    (b : Bool) (o : Option ℕ) (n i : ℕ) → ((j : ℕ) → o ≡ some j → j < n) → cond b (some 0) (map suc o) ≡ some i
+    (b : Bool) (o : Option ℕ) (n i : ℕ) → ((j : ℕ) → o ≡ Some j → j < n) → cond b (Some 0) (option_map suc o) ≡ Some i
     → i < suc n
 next-below true o n i rest p = let q : 0 ≡ i = cc in omega arith
-next-below false none n i rest p = let z : ◌≡◌ {A = ℕ} 0 1 = cc in absurd (omega arith)
-next-below false (some j) n i rest p = let q : suc j ≡ i = cc in omega (arith, rest j refl)
+next-below false None n i rest p = let z : ◌≡◌ {A = ℕ} 0 1 = cc in absurd (omega arith)
+next-below false (Some j) n i rest p = let q : suc j ≡ i = cc in omega (arith, rest j refl)
 
 -- A number found is that of one of the names.
-pub number-below : (names : List (List ℕ)) (x : List ℕ) (i : ℕ) → number_of names x ≡ some i → i < length names
+pub number-below : (names : List (List ℕ)) (x : List ℕ) (i : ℕ) → number_of names x ≡ Some i → i < length names
 unfolding number_of
 number-below [] x i e = let z : ◌≡◌ {A = ℕ} 0 1 = cc in absurd (omega arith)
 number-below (y ∷ names) x i e = next-below (same y x) (number_of names x) (length names) i (number-below names x) e
@@ -114,14 +114,14 @@ pub record Kept (most : ℕ) (names : List (List ℕ)) (n : Numbered) : Type 0 w
 
 pub numbered_kept :
     (most : ℕ) (names : List (List ℕ)) (x : List ℕ) (n : Numbered) → length names ≤ most → all is_name names ≡ true
-    → is_name x ≡ true → numbered most names x ≡ some n → Kept most names n
+    → is_name x ≡ true → numbered most names x ≡ Some n → Kept most names n
 unfolding numbered or_new
 numbered_kept most names x n few named nx e = go (number_of names x) refl e
   where
     added : Numbered
     added = record { number = length names; names = names ++ x ∷ [] }
 
-    last : (b : Bool) → ltb (length names) most ≡ b → cond b (some added) none ≡ some n → Kept most names n
+    last : (b : Bool) → ltb (length names) most ≡ b → cond b (Some added) None ≡ Some n → Kept most names n
     last true room p =
         let q : added ≡ n = cc in
         let lt : length names < most = ltb-true (length names) most room in
@@ -135,8 +135,8 @@ numbered_kept most names x n few named nx e = go (number_of names x) refl e
         })
     last false room p = let z : ◌≡◌ {A = ℕ} 0 1 = cc in absurd (omega arith)
 
-    go : (o : Option ℕ) → number_of names x ≡ o → or_new most names x o ≡ some n → Kept most names n
-    go (some i) found p =
+    go : (o : Option ℕ) → number_of names x ≡ o → or_new most names x o ≡ Some n → Kept most names n
+    go (Some i) found p =
         let q : record { number = i; names = names } ≡ n = cc in
         rw (← q)
         (record {
@@ -145,7 +145,7 @@ numbered_kept most names x n few named nx e = go (number_of names x) refl e
           few_names = few;
           all_named = named;
         })
-    go none found p = last (ltb (length names) most) refl p
+    go None found p = last (ltb (length names) most) refl p
 
 -- A rule in range is so too where there are more symbols and more verdicts.
 pub right_grows :
@@ -301,16 +301,16 @@ unfolding symbol with_symbol
 sound_symbol s x to h nx sound_at = go (numbered 32 s.symbols x) refl
   where
     go : (o : Option Numbered) → numbered 32 s.symbols x ≡ o → KeepsSound (with_symbol s to o)
-    go none e = keeps_breaks 5
-    go (some n) e =
+    go None e = keeps_breaks 5
+    go (Some n) e =
         let k : Kept 32 s.symbols n = numbered_kept 32 s.symbols x n h.few_symbols h.symbols_named nx e in
         keeps_goes (with_names s n (to n.number)) (sound_names s n (to n.number) h k (sound_at n k))
 
 -- One more event.
 pub sound_event : (s : Reading) (x : List ℕ) (o : Option ℕ) → Sound s → is_name x ≡ true → KeepsSound (event s x o)
 unfolding event
-sound_event s x none h nx = sound_symbol s x (λ i. Events) h nx (λ n k. tt)
-sound_event s x (some i) h nx = keeps_breaks 6
+sound_event s x None h nx = sound_symbol s x (λ i. Events) h nx (λ n k. tt)
+sound_event s x (Some i) h nx = keeps_breaks 6
 
 -- One more symbol of a side.
 pub sound_side :
@@ -461,8 +461,8 @@ unfolding with_verdict right_in_range rule_set_of
 sound_verdict s x m l h nx b = go (numbered 16 s.words x) refl
   where
     go : (o : Option Numbered) → numbered 16 s.words x ≡ o → KeepsSound (with_verdict s m l o)
-    go none e = keeps_breaks 5
-    go (some n) e =
+    go None e = keeps_breaks 5
+    go (Some n) e =
         let k : Kept 16 s.words n = numbered_kept 16 s.words x n h.few_words h.words_named nx e in
         let p : Place = Ending m l (Close n.number) in
         let s' : Reading = with_words s n p in
@@ -614,8 +614,8 @@ module _
   after_run_lem s bytes h = go (token_of bytes) (token_named bytes)
     where
       go : (o : Option Token) → NamedIn o → (s' : Reading) → after_run s o ≡ Goes s' → P s'
-      go none nx s' e = let z : ◌≡◌ {A = ℕ} 0 1 = cc in absurd (omega arith)
-      go (some t) nx s' e = step s t h nx s' e
+      go None nx s' e = let z : ◌≡◌ {A = ℕ} 0 1 = cc in absurd (omega arith)
+      go (Some t) nx s' e = step s t h nx s' e
 
   pub runs_keep :
       (size : ℕ) (s : Reading) (rs : List Run) (s' : Reading) → P s → read_runs size s rs ≡ Good s'

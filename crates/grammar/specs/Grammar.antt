@@ -4,8 +4,7 @@
 --     NAME NAME ..  ->  NAME NAME ..  .
 --     NAME NAME ..  ->  #word  .
 --     ^ NAME NAME ..  ->  ..  .
-use Rattle.std.specs.Prelude.{ℕ, Bool, true, false, cond, List, [], ◌∷◌, ◌++◌, ltb, length}
-use Rattle.std.proofs.Math.Option.{Option, none, some}
+use Rattle.std.specs.Prelude.{ℕ, Bool, true, false, cond, List, [], ◌∷◌, ◌++◌, ltb, length, Option, None, Some}
 use Rattle.rewriting.specs.Lists.{same}
 use Rattle.rewriting.specs.Rules.{Right, Put, Close, Rule, RuleSet}
 use Rattle.grammar.specs.Tokens.{Token, Name, Word, Arrow, Stop, Mark}
@@ -64,8 +63,8 @@ placed s p = record { symbols = s.symbols; words = s.words; events = s.events; r
 
 -- "names their symbol likewise"; 5 is "the 33rd symbol". The place behind a name may depend on its symbol.
 unfoldable pub with_symbol : Reading → (ℕ → Place) → Option Numbered → Taken
-with_symbol s to none = Breaks 5
-with_symbol s to (some n) =
+with_symbol s to None = Breaks 5
+with_symbol s to (Some n) =
     Goes (record { symbols = n.names; words = s.words; events = s.events; rules = s.rules; place = to n.number })
 
 unfoldable pub symbol : Reading → List ℕ → (ℕ → Place) → Taken
@@ -73,8 +72,8 @@ symbol s x to = with_symbol s to (numbered 32 s.symbols x)
 
 -- "6, an event named twice"
 unfoldable pub event : Reading → List ℕ → Option ℕ → Taken
-event s x none = symbol s x (λ i. Events)
-event s x (some i) = Breaks 6
+event s x None = symbol s x (λ i. Events)
+event s x (Some i) = Breaks 6
 
 -- one more symbol of a side; 5 is "the ninth name of a side"
 unfoldable pub side_symbol : Reading → List ℕ → List ℕ → (List ℕ → Place) → Taken
@@ -96,8 +95,8 @@ name s x (Ending m l r) = Breaks 4
 
 -- "other words get 2 to 15 by first appearance"; 5 is "the 15th other word"
 unfoldable pub with_verdict : Reading → Bool → List ℕ → Option Numbered → Taken
-with_verdict s m l none = Breaks 5
-with_verdict s m l (some n) =
+with_verdict s m l None = Breaks 5
+with_verdict s m l (Some n) =
     Goes
     (record {
       symbols = s.symbols;
@@ -186,8 +185,8 @@ after_token s Mark = mark s s.place
 
 -- a run of bytes: "3, not a token"
 unfoldable pub after_run : Reading → Option Token → Taken
-after_run s none = Breaks 3
-after_run s (some t) = after_token s t
+after_run s None = Breaks 3
+after_run s (Some t) = after_token s t
 
 -- a text may end behind a `.`
 unfoldable pub complete : Place → Bool

@@ -1,13 +1,12 @@
 -- Names, numbered by first appearance, and the slots that keep them.
-use Rattle.std.specs.Prelude.{ℕ, suc, ◌*◌, ◌-◌, cond, ltb, length, replicate}
-use Rattle.std.proofs.Math.Option.{Option, none, some, map}
+use Rattle.std.specs.Prelude.{ℕ, suc, ◌*◌, ◌-◌, cond, ltb, length, replicate, Option, None, Some, option_map}
 use mathlib.Core.List.{List, [], ◌∷◌, ◌++◌, flat_map}
 use Rattle.rewriting.specs.Lists.{same}
 
 -- the number of the name x: its place among the names, if it is one of them
 unfoldable pub number_of : List (List ℕ) → List ℕ → Option ℕ
-number_of [] x = none
-number_of (y ∷ names) x = cond (same y x) (some 0) (map suc (number_of names x))
+number_of [] x = None
+number_of (y ∷ names) x = cond (same y x) (Some 0) (option_map suc (number_of names x))
 
 -- a name's number, and the names with it
 pub record Numbered : Type 0 where
@@ -16,9 +15,9 @@ pub record Numbered : Type 0 where
 
 -- a name that is not among the names comes last, where there is room
 unfoldable pub or_new : ℕ → List (List ℕ) → List ℕ → Option ℕ → Option Numbered
-or_new most names x (some i) = some (record { number = i; names = names })
-or_new most names x none =
-    cond (ltb (length names) most) (some (record { number = length names; names = names ++ x ∷ [] })) none
+or_new most names x (Some i) = Some (record { number = i; names = names })
+or_new most names x None =
+    cond (ltb (length names) most) (Some (record { number = length names; names = names ++ x ∷ [] })) None
 
 -- "by first appearance": the number of x, among at most so many names; none where x would be one too many
 unfoldable pub numbered : ℕ → List (List ℕ) → List ℕ → Option Numbered

@@ -1,6 +1,5 @@
 -- The reader, as a function of the text and the two areas lent to it.
-use Rattle.std.specs.Prelude.{ℕ, ◌≤◌, ◌≡◌, true, cond, ◌&&◌, leb, length, take, drop}
-use Rattle.std.proofs.Math.Option.{Option, none, some}
+use Rattle.std.specs.Prelude.{ℕ, ◌≤◌, ◌≡◌, true, cond, ◌&&◌, leb, length, take, drop, Option, None, Some}
 use mathlib.Core.List.{List, [], ◌∷◌, ◌++◌, Memᴰ}
 use Rattle.rewriting.specs.Lists.{over}
 use Rattle.layout.specs.Image.{image_most, image_of, read, valid}
@@ -65,16 +64,16 @@ written (Bad n place) image names = record { answer = Refused n place; image = i
 
 -- "The place returned is .. 0 for 1 and 2."
 unfoldable pub unless : Option ℕ → Result → Result
-unless none r = r
-unless (some n) r = Bad n 0
+unless None r = r
+unless (Some n) r = Bad n 0
 
 unfoldable pub read_of : List ℕ → List ℕ → List ℕ → Outcome
 read_of text image names = written (unless (refusal (read_checks text image names)) (read_text text)) image names
 
 -- the refusal that an answer is, if it is one; its place, 0 where there is none; the image's length, 0 beside a refusal
 unfoldable pub refused_by : Read → Option ℕ
-refused_by (Image n) = none
-refused_by (Refused n place) = some n
+refused_by (Image n) = None
+refused_by (Refused n place) = Some n
 
 unfoldable pub refusal_place : Read → ℕ
 refusal_place (Image n) = 0
@@ -118,9 +117,9 @@ pub record ReadTaken (text image names : List ℕ) (o : Outcome) : Type 0 where
 -- What is promised of the reader on whatever text and areas: `read_theorem` (proofs/ReadTheorem.antt).
 pub record ReadEnded (text image names : List ℕ) (o : Outcome) : Type 0 where
   -- The text is refused, ..
-  pub refused : (n : ℕ) → refused_by o.answer ≡ some n → ReadRefused text image names o n
+  pub refused : (n : ℕ) → refused_by o.answer ≡ Some n → ReadRefused text image names o n
   -- .. or it is taken.
-  pub taken : refused_by o.answer ≡ none → ReadTaken text image names o
+  pub taken : refused_by o.answer ≡ None → ReadTaken text image names o
   -- Both areas keep their lengths.
   pub size : (length o.image ≡ length image) × (length o.names ≡ length names)
 

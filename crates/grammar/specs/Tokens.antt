@@ -1,6 +1,5 @@
 -- Tokens: "ASCII tokens separated by space, tab, CR or LF".
-use Rattle.std.specs.Prelude.{ℕ, suc, Bool, true, false, cond, ◌&&◌, ◌||◌, List, [], ◌∷◌, eqb, leb, length}
-use Rattle.std.proofs.Math.Option.{Option, none, some}
+use Rattle.std.specs.Prelude.{ℕ, suc, Bool, true, false, cond, ◌&&◌, ◌||◌, List, [], ◌∷◌, eqb, leb, length, Option, None, Some}
 use Rattle.rewriting.specs.Lists.{all, same, between}
 
 -- "space, tab, CR or LF"
@@ -34,13 +33,13 @@ pub data Token : Type 0 where
 
 -- the token that a run of bytes is, if it is one
 unfoldable pub token_of : List ℕ → Option Token
-token_of [] = none
+token_of [] = None
 token_of (b ∷ t) =
-    cond (is_name (b ∷ t)) (some (Name (b ∷ t)))
-    (cond (eqb b 35 && is_name t) (some (Word t))
-    (cond (same (b ∷ t) (45 ∷ 62 ∷ [])) (some Arrow)
-    (cond (same (b ∷ t) (46 ∷ [])) (some Stop)
-    (cond (same (b ∷ t) (94 ∷ [])) (some Mark) none))))
+    cond (is_name (b ∷ t)) (Some (Name (b ∷ t)))
+    (cond (eqb b 35 && is_name t) (Some (Word t))
+    (cond (same (b ∷ t) (45 ∷ 62 ∷ [])) (Some Arrow)
+    (cond (same (b ∷ t) (46 ∷ [])) (Some Stop)
+    (cond (same (b ∷ t) (94 ∷ [])) (Some Mark) None))))
 
 -- A run of bytes other than separators, as long as can be, and the place of its first byte in the text.
 pub record Run : Type 0 where

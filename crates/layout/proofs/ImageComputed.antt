@@ -4,7 +4,8 @@ use Prim.Native.Nat.{ℕ}
 use mathlib.Core.Path.{◌≡◌, refl}
 use mathlib.Core.Bool.{true, false}
 use mathlib.Core.List.{[], ◌∷◌, ◌++◌, flat_map}
-use mathlib.Core.Option.{some, or_else}
+use Rattle.std.specs.Prelude.{Some}
+use Rattle.std.specs.Option.{option_or}
 use lib.ListN.{length, take, set, replicate}
 use Rattle.rewriting.specs.Rules.{Put, ◌⇒◌, symbols_of, RuleSet, right_in_range, rule_in_range, in_range}
 use Rattle.rewriting.specs.Sample.{sample}
@@ -93,6 +94,6 @@ unfolding sample computes
 kind_two_refused = refl
 
 -- where two checks fail, the first decides
-pub first_decides : refusal ((true, 1) ∷ (false, 2) ∷ (false, 3) ∷ []) ≡ some 2
-unfolding refusal or_else
+pub first_decides : refusal ((true, 1) ∷ (false, 2) ∷ (false, 3) ∷ []) ≡ Some 2
+unfolding refusal
 first_decides = refl

@@ -4,7 +4,8 @@ use Prim.Native.Nat.{ℕ, ◌≤◌}
 use mathlib.Core.Path.{◌≡◌, refl, sym, ap, ◌∙◌}
 use mathlib.Core.Bool.{Bool, true, false, cond, ◌&&◌, ◌||◌}
 use mathlib.Core.Logic.{◌⊎◌, inl, inr}
-use mathlib.Core.Option.{none, or_else}
+use Rattle.std.specs.Prelude.{None}
+use Rattle.std.specs.Option.{option_or}
 use mathlib.Core.List.{List, [], ◌∷◌, ◌++◌, append-nil}
 use native.Mathlib.Omega.{arith}
 use lib.Dec.{eqb, ltb}
@@ -94,14 +95,14 @@ own-pattern r h = go r.marked refl r.left h
     go false m (x ∷ l) h = rw (plain_first x l h) (refl, refl)
 
 -- what is no prefix of a left side is no left side
-pub own_no_prefix : (rules : List Rule) (v : List ℕ) → is_prefix rules v ≡ false → own rules v ≡ none
+pub own_no_prefix : (rules : List Rule) (v : List ℕ) → is_prefix rules v ≡ false → own rules v ≡ None
 unfolding own is_prefix lowest
 own_no_prefix [] v e = refl
 own_no_prefix (r ∷ rules) v e = go (alike (starts v) r.marked && same r.left (symbols_in v)) refl (prefix v (pattern r)) refl e (own_no_prefix rules v)
   where
     go : (b : Bool) → (alike (starts v) r.marked && same r.left (symbols_in v)) ≡ b
         → (c : Bool) → prefix v (pattern r) ≡ c → (c || is_prefix rules v) ≡ false
-        → (is_prefix rules v ≡ false → own rules v ≡ none) → own (r ∷ rules) v ≡ none
+        → (is_prefix rules v ≡ false → own rules v ≡ None) → own (r ∷ rules) v ≡ None
     go b p true q h ih = let z : ◌≡◌ {A = ℕ} 0 1 = cc in absurd (omega arith)
     go true p false q h ih =
         let m : starts v ≡ r.marked = alike_eq (starts v) r.marked (and_left (alike (starts v) r.marked) (same r.left (symbols_in v)) p) in
@@ -123,7 +124,7 @@ matching-state rules (x ∷ p) h =
         → matching rules (state rules (x ∷ p)) ≡ ending rules false (x ∷ p)
     go true e ih = rw (e, plain_first x p h)
     go false e ih =
-        let no_own : lowest rules false (x ∷ p) ≡ none = rw (plain_first x p h) at (own_no_prefix rules (x ∷ p) e) in
+        let no_own : lowest rules false (x ∷ p) ≡ None = rw (plain_first x p h) at (own_no_prefix rules (x ∷ p) e) in
         rw (e, no_own, tie_later) ih
 
 -- and at the state after a string, that of the string at the start
@@ -134,7 +135,7 @@ matching-after rules s h = go (is_prefix rules (mark ∷ s)) refl
     go : (b : Bool) → is_prefix rules (mark ∷ s) ≡ b → matching rules (after rules s) ≡ ending rules true s
     go true e = rw e
     go false e =
-        let no_own : lowest rules true s ≡ none = own_no_prefix rules (mark ∷ s) e in
+        let no_own : lowest rules true s ≡ None = own_no_prefix rules (mark ∷ s) e in
         rw e (matching-state rules s h ∙ sym (ending_unmarked rules s no_own))
 
 -- and so is the match word of the next state
@@ -200,11 +201,11 @@ next_fail rules y p a e = state-drop rules y (p ++ a ∷ []) e ∙ sym (state_sn
 
 -- the match word of a state: its own rule, or that of its failure state
 pub matching_fail : (rules : List Rule) → NonEmpty rules → (y : ℕ) (p : List ℕ) → Plain p
-    → matching rules (y ∷ p) ≡ or_else (own rules (y ∷ p)) (matching rules (state rules p))
+    → matching rules (y ∷ p) ≡ option_or (own rules (y ∷ p)) (matching rules (state rules p))
 unfolding matching own starts symbols_in
 matching_fail rules some_left y p h = rw (matching-state rules p h) (go (eqb y mark) refl)
   where
     go : (b : Bool) → eqb y mark ≡ b
-        → ending rules b (cond b p (y ∷ p)) ≡ or_else (lowest rules b (cond b p (y ∷ p))) (ending rules false p)
+        → ending rules b (cond b p (y ∷ p)) ≡ option_or (lowest rules b (cond b p (y ∷ p))) (ending rules false p)
     go true e = ending_start rules some_left p
     go false e = ending_longer rules y p

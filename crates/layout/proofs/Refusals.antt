@@ -3,18 +3,18 @@
 use Prim.Native.Nat.{ℕ}
 use mathlib.Core.Path.{◌≡◌, refl}
 use mathlib.Core.Bool.{Bool, true, false, cond}
-use mathlib.Core.Option.{none, some}
+use Rattle.std.specs.Prelude.{None, Some}
 use mathlib.Core.List.{List, [], ◌∷◌, ◌++◌, map, Memᴰ}
 use native.Mathlib.Omega.{arith}
 use Rattle.layout.specs.Refusals.{Check, refusal}
 
 -- no check, no refusal
-pub refusal_nil : refusal [] ≡ none
+pub refusal_nil : refusal [] ≡ None
 unfolding refusal
 refusal_nil = refl
 
 -- the first check fails
-pub refusal_head : (b : Bool) (n : ℕ) (cs : List Check) → b ≡ false → refusal ((b, n) ∷ cs) ≡ some n
+pub refusal_head : (b : Bool) (n : ℕ) (cs : List Check) → b ≡ false → refusal ((b, n) ∷ cs) ≡ Some n
 unfolding refusal
 refusal_head b n cs e = rw e
 
@@ -24,19 +24,19 @@ unfolding refusal
 refusal_pass b n cs e = rw e
 
 -- nothing is refused: the first check holds
-pub refusal_passed : (b : Bool) (n : ℕ) (cs : List Check) → refusal ((b, n) ∷ cs) ≡ none → b ≡ true
+pub refusal_passed : (b : Bool) (n : ℕ) (cs : List Check) → refusal ((b, n) ∷ cs) ≡ None → b ≡ true
 unfolding refusal
 refusal_passed true n cs e = refl
 refusal_passed false n cs e = let z : ◌≡◌ {A = ℕ} 0 1 = cc in absurd (omega arith)
 
 -- nothing is refused: the other checks refuse nothing
-pub refusal_rest : (b : Bool) (n : ℕ) (cs : List Check) → refusal ((b, n) ∷ cs) ≡ none → refusal cs ≡ none
+pub refusal_rest : (b : Bool) (n : ℕ) (cs : List Check) → refusal ((b, n) ∷ cs) ≡ None → refusal cs ≡ None
 unfolding refusal
 refusal_rest true n cs e = e
 refusal_rest false n cs e = let z : ◌≡◌ {A = ℕ} 0 1 = cc in absurd (omega arith)
 
 -- the first checks refuse nothing: the others decide
-pub refusal_append_none : (cs ds : List Check) → refusal cs ≡ none → refusal (cs ++ ds) ≡ refusal ds
+pub refusal_append_none : (cs ds : List Check) → refusal cs ≡ None → refusal (cs ++ ds) ≡ refusal ds
 unfolding refusal
 refusal_append_none [] ds e = refl
 refusal_append_none (c ∷ cs) ds e =
@@ -44,37 +44,37 @@ refusal_append_none (c ∷ cs) ds e =
     rw p (refusal_append_none cs ds (refusal_rest c.0 c.1 cs e))
 
 -- the first checks refuse: the others are not asked
-pub refusal_append_some : (cs ds : List Check) (n : ℕ) → refusal cs ≡ some n → refusal (cs ++ ds) ≡ some n
+pub refusal_append_some : (cs ds : List Check) (n : ℕ) → refusal cs ≡ Some n → refusal (cs ++ ds) ≡ Some n
 unfolding refusal
 refusal_append_some [] ds n e = let z : ◌≡◌ {A = ℕ} 0 1 = cc in absurd (omega arith)
 refusal_append_some (c ∷ cs) ds n e = go c.0 refl (refusal_append_some cs ds n)
   where
     go :
-        (b : Bool) → c.0 ≡ b → (refusal cs ≡ some n → refusal (cs ++ ds) ≡ some n)
-        → refusal ((c ∷ cs) ++ ds) ≡ some n
+        (b : Bool) → c.0 ≡ b → (refusal cs ≡ Some n → refusal (cs ++ ds) ≡ Some n)
+        → refusal ((c ∷ cs) ++ ds) ≡ Some n
     go true p ih = rw p (ih (rw p at e))
     go false p ih = rw p (rw p at e)
 
 -- nothing is refused: neither the first checks nor the others refuse
-pub refusal_none_left : (cs ds : List Check) → refusal (cs ++ ds) ≡ none → refusal cs ≡ none
+pub refusal_none_left : (cs ds : List Check) → refusal (cs ++ ds) ≡ None → refusal cs ≡ None
 unfolding refusal
 refusal_none_left [] ds e = refl
 refusal_none_left (c ∷ cs) ds e =
     rw (refusal_passed c.0 c.1 (cs ++ ds) e)
     (refusal_none_left cs ds (refusal_rest c.0 c.1 (cs ++ ds) e))
 
-pub refusal_none_right : (cs ds : List Check) → refusal (cs ++ ds) ≡ none → refusal ds ≡ none
+pub refusal_none_right : (cs ds : List Check) → refusal (cs ++ ds) ≡ None → refusal ds ≡ None
 unfolding refusal
 refusal_none_right [] ds e = e
 refusal_none_right (c ∷ cs) ds e = refusal_none_right cs ds (refusal_rest c.0 c.1 (cs ++ ds) e)
 
 -- a refusal has the number of one of the checks
-pub refusal-number : (cs : List Check) (n : ℕ) → refusal cs ≡ some n → Memᴰ n (map (λ (c : Check). c.1) cs)
+pub refusal-number : (cs : List Check) (n : ℕ) → refusal cs ≡ Some n → Memᴰ n (map (λ (c : Check). c.1) cs)
 unfolding refusal
 refusal-number [] n e = let z : ◌≡◌ {A = ℕ} 0 1 = cc in absurd (omega arith)
 refusal-number (c ∷ cs) n e = go c.0 e (refusal-number cs n)
   where
-    go : (b : Bool) → cond b (refusal cs) (some c.1) ≡ some n
-        → (refusal cs ≡ some n → Memᴰ n (map (λ (d : Check). d.1) cs)) → Memᴰ n (c.1 ∷ map (λ (d : Check). d.1) cs)
+    go : (b : Bool) → cond b (refusal cs) (Some c.1) ≡ Some n
+        → (refusal cs ≡ Some n → Memᴰ n (map (λ (d : Check). d.1) cs)) → Memᴰ n (c.1 ∷ map (λ (d : Check). d.1) cs)
     go true p ih = Memᴰ.tail (ih p)
     go false p ih = let q : n ≡ c.1 = cc in Memᴰ.head q

@@ -3,7 +3,7 @@
 use Prim.Native.Nat.{ℕ, suc, ◌+◌, ◌*◌, ◌≤◌, ◌<◌}
 use mathlib.Core.Path.{◌≡◌, refl, sym, ap, ◌∙◌}
 use mathlib.Core.Bool.{true}
-use mathlib.Core.Option.{Option, none, some}
+use Rattle.std.specs.Prelude.{Option, None, Some}
 use mathlib.Core.List.{List, [], map, flat_map}
 use native.Mathlib.Omega.{arith}
 use native.Mathlib.Nat.{mul-le-mul}
@@ -157,8 +157,8 @@ unfolding matching match_word
 few_matching rules q = go (ending rules (starts q) (symbols_in q)) refl
   where
     go : (m : Option ℕ) → ending rules (starts q) (symbols_in q) ≡ m → match_word m ≤ length rules
-    go none e = omega arith
-    go (some i) e = (ending_left rules (starts q) (symbols_in q) i e).is-rule
+    go None e = omega arith
+    go (Some i) e = (ending_left rules (starts q) (symbols_in q) i e).is-rule
 
 row_fits : (set : RuleSet) → in_range set ≡ true → (q : List ℕ) → below 65536 (row set q) ≡ true
 unfolding row

@@ -2,7 +2,8 @@
 -- Assumes nothing.
 use Prim.Native.Nat.{ℕ}
 use mathlib.Core.Path.{◌≡◌, refl}
-use mathlib.Core.Option.{some, or_else}
+use Rattle.std.specs.Prelude.{Some, Ok, Err}
+use Rattle.std.specs.Option.{option_or}
 use mathlib.Core.List.{List, [], ◌∷◌, ◌++◌, flat_map}
 use lib.ListN.{length, replicate}
 use Rattle.rewriting.specs.Lists.{over}
@@ -13,7 +14,6 @@ use Rattle.layout.specs.Image.{image_of}
 use Rattle.layout.specs.Refusals.{refusal}
 use Rattle.layout.proofs.Image.{read_image}
 use Rattle.layout.proofs.ImageComputed.{sample-valid, longer_refused}
-use Rattle.layout.specs.declared.Compiled.TheVariants.{Words, Refused}
 use Rattle.layout.specs.States.{
   mark,
   pattern,
@@ -55,29 +55,29 @@ sample_table =
 pub sample_table_lem : table_of sample ≡ sample_table
 unfolding
     sample table_of match_word row states first_states has_mark numbered pattern prefixes known number next matching starts
-    symbols_in state is_prefix lowest spanning tie ending or_else flat_map
+    symbols_in state is_prefix lowest spanning tie ending flat_map
 sample_table_lem = refl
 
 pub sample_words : length (table_of sample) ≡ 32
 sample_words = rw sample_table_lem
 
 -- compile of it into 32 words
-pub sample-compiled : compile_of (image_of sample) (replicate 32 9) ≡ record { answer = Words 32; area = sample_table }
+pub sample-compiled : compile_of (image_of sample) (replicate 32 9) ≡ record { answer = Ok 32; area = sample_table }
 unfolding compile_of compile_checks compiled refusal over
 sample-compiled = rw (sample-valid, read_image sample, sample_table_lem)
 
 -- into 33 words: the last word stays
-pub sample_beyond : compile_of (image_of sample) (replicate 33 9) ≡ record { answer = Words 32; area = sample_table ++ 9 ∷ [] }
+pub sample_beyond : compile_of (image_of sample) (replicate 33 9) ≡ record { answer = Ok 32; area = sample_table ++ 9 ∷ [] }
 unfolding compile_of compile_checks compiled refusal over
 sample_beyond = rw (sample-valid, read_image sample, sample_table_lem)
 
 -- into 31 words: refused, and nothing is written
-pub sample_too_short : compile_of (image_of sample) (replicate 31 9) ≡ record { answer = Refused 8; area = replicate 31 9 }
+pub sample_too_short : compile_of (image_of sample) (replicate 31 9) ≡ record { answer = Err 8; area = replicate 31 9 }
 unfolding compile_of compile_checks compiled refusal
 sample_too_short = rw (sample-valid, read_image sample, sample_table_lem)
 
 -- a broken image is refused by 7 whatever the area, and so also where 8 would refuse it
-pub broken_refused : (area : List ℕ) → compile_of (image_of sample ++ 0 ∷ []) area ≡ record { answer = Refused 7; area = area }
+pub broken_refused : (area : List ℕ) → compile_of (image_of sample ++ 0 ∷ []) area ≡ record { answer = Err 7; area = area }
 unfolding compile_of compile_checks compiled refusal
 broken_refused area = rw (longer_refused 0)
 
@@ -87,8 +87,8 @@ unfolding states first_states has_mark numbered pattern prefixes known flat_map
 common_prefix = refl
 
 -- C5: the state b a a is no left side, and matches a a, which ends it
-pub inner_match : matching ((1 ∷ 0 ∷ 0 ∷ 2 ∷ [] ⇒ Close 0) ∷ (0 ∷ 0 ∷ [] ⇒ Put []) ∷ []) (1 ∷ 0 ∷ 0 ∷ []) ≡ some 1
-unfolding matching starts symbols_in ending tie spanning lowest or_else
+pub inner_match : matching ((1 ∷ 0 ∷ 0 ∷ 2 ∷ [] ⇒ Close 0) ∷ (0 ∷ 0 ∷ [] ⇒ Put []) ∷ []) (1 ∷ 0 ∷ 0 ∷ []) ≡ Some 1
+unfolding matching starts symbols_in ending tie spanning lowest
 inner_match = refl
 
 -- a marked rule behind another: `lock take -> held . ^ take -> #fail .`
@@ -112,12 +112,12 @@ pub marked_table : table_of (record { symbols = 3; events = 2; verdicts = 2; rul
     ∷ []
 unfolding
     table_of match_word row states first_states has_mark numbered pattern prefixes known number next matching starts symbols_in state is_prefix
-    lowest spanning tie ending or_else flat_map
+    lowest spanning tie ending flat_map
 marked_table = refl
 
 -- of `^ take` and `take`, which end together on the same span, the first
-pub marked_match : matching ((1 ∷ [] ⇒ Close 1) ∷ at_start (1 ∷ [] ⇒ Close 0) ∷ []) (mark ∷ 1 ∷ []) ≡ some 1
-unfolding matching starts symbols_in ending tie spanning lowest or_else
+pub marked_match : matching ((1 ∷ [] ⇒ Close 1) ∷ at_start (1 ∷ [] ⇒ Close 0) ∷ []) (mark ∷ 1 ∷ []) ≡ Some 1
+unfolding matching starts symbols_in ending tie spanning lowest
 marked_match = refl
 
 -- no rules: the empty string is the one state
@@ -126,5 +126,6 @@ unfolding states first_states has_mark numbered flat_map
 empty-states = refl
 
 pub empty_table : table_of (record { symbols = 1; events = 1; verdicts = 2; rules = [] }) ≡ 1 ∷ 1 ∷ 0 ∷ 0 ∷ []
-unfolding table_of match_word row states first_states has_mark numbered number next matching starts symbols_in state is_prefix lowest ending flat_map
+unfolding table_of match_word row states first_states has_mark numbered number next matching starts symbols_in state is_prefix
+    lowest ending flat_map
 empty_table = refl

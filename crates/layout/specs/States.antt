@@ -1,7 +1,6 @@
 -- States of the matching table. A state is a string here, and gets its number only where the table is written.
 -- Document 02, No. 1: "When an image has a marked rule, the mark counts in the table as a symbol that stands before the string".
-use Rattle.std.specs.Prelude.{ℕ, suc, Bool, false, cond, eqb}
-use Rattle.std.proofs.Math.Option.{Option}
+use Rattle.std.specs.Prelude.{ℕ, suc, Bool, false, cond, eqb, Option}
 use mathlib.Core.List.{List, [], ◌∷◌, ◌++◌, map, flat_map}
 use Rattle.rewriting.specs.Lists.{any, same, prefix}
 use Rattle.rewriting.specs.Rules.{Rule}

@@ -4,8 +4,7 @@
 --     word 1                          S
 --     word 2 + q                      the match word of state q
 --     word 2 + N + q × S + a          the next state of q on symbol a
-use Rattle.std.specs.Prelude.{ℕ, suc, length}
-use Rattle.std.proofs.Math.Option.{Option, none, some}
+use Rattle.std.specs.Prelude.{ℕ, suc, length, Option, None, Some}
 use mathlib.Core.List.{List, ◌∷◌, ◌++◌, map, flat_map}
 use Rattle.rewriting.specs.Lists.{up_to}
 use Rattle.rewriting.specs.Rules.{RuleSet}
@@ -13,8 +12,8 @@ use Rattle.layout.specs.States.{states, number, next, matching}
 
 -- "The match word is 1 + the rule ..; 0 if none."
 unfoldable pub match_word : Option ℕ → ℕ
-match_word none = 0
-match_word (some i) = suc i
+match_word None = 0
+match_word (Some i) = suc i
 
 -- the next states of q, one for each symbol, as numbers
 unfoldable pub row : RuleSet → List ℕ → List ℕ

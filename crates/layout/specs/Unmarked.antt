@@ -1,8 +1,6 @@
 -- Document 01's table, which knows no marks: its definitions word for word, over left sides alone. Document 02, No. 1: "Other images
 -- keep their table." (`unmarked_table`, proofs/Unmarked.antt)
-use Rattle.std.specs.Prelude.{ℕ, suc, Bool, cond, length}
-use Rattle.std.proofs.Math.Option
-use Rattle.std.proofs.Math.Option.{Option, none, some}
+use Rattle.std.specs.Prelude.{ℕ, suc, Bool, cond, length, Option, None, Some, option_map}
 use mathlib.Core.List.{List, [], ◌∷◌, ◌++◌, map, flat_map}
 use Rattle.rewriting.specs.Lists.{any, same, prefix, up_to}
 use Rattle.rewriting.specs.Rules.{Rule, RuleSet}
@@ -20,11 +18,11 @@ left_state rules (x ∷ p) = cond (is_left_prefix rules (x ∷ p)) (x ∷ p) (le
 
 -- "the rule with the longest left side that is a suffix of q's string, the lowest rule among equals"
 unfoldable pub lowest_left : List Rule → List ℕ → Option ℕ
-lowest_left [] v = none
-lowest_left (r ∷ rules) v = cond (same r.left v) (some 0) (Option.map suc (lowest_left rules v))
+lowest_left [] v = None
+lowest_left (r ∷ rules) v = cond (same r.left v) (Some 0) (option_map suc (lowest_left rules v))
 
 unfoldable pub longest_left : List Rule → List ℕ → Option ℕ
-longest_left rules [] = none
+longest_left rules [] = None
 longest_left rules (x ∷ p) = tie (lowest_left rules (x ∷ p)) (longest_left rules p)
 
 -- "State 0 is the empty string. Rules are walked in order, and each prefix of a left side, short before long, gets the next

@@ -1,6 +1,5 @@
 -- States by their numbers, and the words of rows and match words, as the code meets them.
-use Rattle.std.specs.Prelude.{ℕ, suc, ◌+◌, ◌*◌, ◌≤◌, ◌<◌, cond, List, [], eqb, length, get_or, drop}
-use Rattle.std.proofs.Math.Option.{Option}
+use Rattle.std.specs.Prelude.{ℕ, suc, ◌+◌, ◌*◌, ◌≤◌, ◌<◌, cond, List, [], eqb, length, get_or, drop, Option}
 use Rattle.rewriting.specs.Rules.{Rule, rule}
 use Rattle.rewriting.specs.Occurrences.{lowest}
 use Rattle.layout.specs.Image.{read, valid}

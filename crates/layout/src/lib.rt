@@ -1,5 +1,8 @@
-// The types that the definitions of specs/ share with the code above. It has no functions.
+// The types that the definitions of specs/ share with the code above.
 #![tactic(auto)]
+
+ghost use Rattle.std.specs.Prelude.{◌≡◌};
+ghost use Rattle.layout.specs.Refusals.{number};
 
 // Document 01's longest image, and its longest table.
 pub const IMAGE_BYTES: usize = 1284;
@@ -13,16 +16,38 @@ pub enum RightSide {
     Close(u64),
 }
 
-// What a check answers: it passed, or document 01's number for the refusal.
-#[derive(Clone, Copy)]
-pub enum Checked {
-    Passed,
-    Refused(u32),
+// Why a call is refused, by document 01's numbers. A list of calls that is none is refused by a number of its own, 30.
+#[derive(Clone, Copy, Debug, PartialEq, Eq)]
+pub enum Refusal {
+    // Of the reader: a text too long, an area too short, a run that is no token, a token in the wrong place, a limit exceeded, an
+    // event named twice.
+    LongText = 1,
+    ShortArea = 2,
+    NoToken = 3,
+    Misplaced = 4,
+    TooMany = 5,
+    Repeated = 6,
+    // Of the table: an image that breaks the layout or a range, a table area too short, a table that is not the image's.
+    BadImage = 7,
+    ShortTable = 8,
+    OtherTable = 9,
+    // Of the monitor: an area of another length, head and areas not as described, a number that is no event, too much fuel, a
+    // verdict that stands, no room for the event, too many events or too few answer bytes.
+    AreaLength = 10,
+    NotAsDescribed = 11,
+    NoEvent = 12,
+    TooMuchFuel = 13,
+    VerdictStands = 14,
+    NoRoom = 15,
+    BatchLength = 16,
+    NoCalls = 30,
 }
 
-// What compile answers: the number of words written, or the number of the refusal.
-#[derive(Clone, Copy)]
-pub enum Compiled {
-    Words(usize),
-    Refused(u32),
+impl Refusal {
+    // Document 01's number of the refusal.
+    pub fn number(self) -> u32
+        ensures { result ≡ number self }
+    {
+        self as u32
+    }
 }

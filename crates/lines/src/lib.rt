@@ -2,11 +2,10 @@
 // What they ask, that there is room above all, the crate report shows: it is the only one that calls them.
 #![tactic(auto)]
 
-ghost use Rattle.std.specs.Prelude.{◌+◌, ◌*◌, ◌≤◌, ◌<◌, ◌≡◌, true, length};
-ghost use Rattle.std.proofs.Math.Option.{none};
+ghost use Rattle.std.specs.Prelude.{◌+◌, ◌*◌, ◌≤◌, ◌<◌, ◌≡◌, true, length, None};
 ghost use mathlib.Core.List.{[], ◌∷◌, ◌++◌, flat_map};
 ghost use Rattle.rewriting.specs.Lists.{below};
-ghost use Rattle.machine.specs.Calls.{refused_by};
+ghost use Rattle.layout.specs.Refusals.{refused_by, numbered};
 ghost use Rattle.monitor.specs.Lent.{outcome_from};
 ghost use Rattle.printing.specs.Lines.{space, comma, newline, refused_word, decimal, name_in, joined, answer_word, counted, told, refused_line};
 ghost use Rattle.printing.specs.Turns.{line_most};
@@ -15,6 +14,7 @@ ghost use Rattle.grammar.specs.Names.{slot_size, names_size};
 ghost use Rattle.machine.specs.Areas.{document_capacity};
 
 use grammar::SLOT_BYTES;
+use layout::Refusal;
 use machine::{Answer, CAPACITY};
 use monitor::Returned;
 
@@ -66,21 +66,21 @@ fn put_name(line: &mut [u8], at: usize, names: &[u8], slot: usize) -> usize
 }
 
 // The word for an answer.
-fn put_answer(line: &mut [u8], at: usize, names: &[u8], answer: Answer) -> usize
+fn put_answer(line: &mut [u8], at: usize, names: &[u8], answer: Result<Answer, Refusal>) -> usize
     requires slot { HasSlot answer }
     requires names { length names.now ≡ names_size }
     requires room { at + slot_size ≤ length line.old }
-    ensures { Writes (answer_word names.now answer) line.old at line.new result }
+    ensures { Writes (answer_word names.now (numbered answer)) line.old at line.new result }
 {
     match answer {
-        Answer::Quiet => put(line, at, b"quiet"),
-        Answer::Spent => put(line, at, b"spent"),
-        Answer::Full => put(line, at, b"full"),
-        Answer::Verdict(v) => {
+        Ok(Answer::Quiet) => put(line, at, b"quiet"),
+        Ok(Answer::Spent) => put(line, at, b"spent"),
+        Ok(Answer::Full) => put(line, at, b"full"),
+        Ok(Answer::Verdict(v)) => {
             let end = put_byte(line, at, b'#');
             put_name(line, end, names, 32 + v as usize)
         }
-        Answer::Refused(_) => put(line, at, b"refused"),
+        Err(_) => put(line, at, b"refused"),
     }
 }
 
@@ -149,7 +149,7 @@ fn put_accepted(line: &mut [u8], at: usize, names: &[u8], called: Returned, byte
     requires names { length names.now ≡ names_size }
     requires bytes { length bytes.now ≡ document_capacity }
     requires room { (at ≤ slot_size) × (line_most ≤ length line.old) }
-    ensures { Writes (answer_word names.now called.answer
+    ensures { Writes (answer_word names.now (numbered called.answer)
         ++ space ∷ (counted names.now (outcome_from called bytes.now []) ++ newline ∷ []))
         line.old at line.new result }
 {
@@ -172,18 +172,18 @@ pub fn put_refused(line: &mut [u8], at: usize, n: u32) -> usize
 // The rest of the line for a name, from the answer on.
 pub fn put_told(line: &mut [u8], at: usize, names: &[u8], called: Returned, bytes: &[u8]) -> usize
     requires slot { HasSlot called.answer }
-    requires small { refused_by called.answer ≡ none → Small (outcome_from called bytes.now []) }
+    requires small { refused_by (numbered called.answer) ≡ None → Small (outcome_from called bytes.now []) }
     requires names { length names.now ≡ names_size }
     requires bytes { length bytes.now ≡ document_capacity }
     requires room { (at ≤ slot_size) × (line_most ≤ length line.old) }
-    ensures { Writes (answer_word names.now called.answer
-        ++ space ∷ (told names.now (outcome_from called bytes.now []) called.answer ++ newline ∷ []))
+    ensures { Writes (answer_word names.now (numbered called.answer)
+        ++ space ∷ (told names.now (outcome_from called bytes.now []) (numbered called.answer) ++ newline ∷ []))
         line.old at line.new result }
 {
     let answer = called.answer;
     match answer {
-        Answer::Refused(n) => put_refused(line, at, n),
-        _ => put_accepted(line, at, names, called, bytes),
+        Err(refusal) => put_refused(line, at, refusal.number()),
+        Ok(_) => put_accepted(line, at, names, called, bytes),
     }
 }
 

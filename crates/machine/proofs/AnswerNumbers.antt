@@ -1,9 +1,9 @@
 -- A verdict that stands after a call or a batch is below 16, so that an answer's number fits a byte.
 -- Assumes nothing.
 use Prim.Native.Nat.{ℕ, ◌≤◌, ◌<◌}
-use mathlib.Core.Path.{◌≡◌, refl}
+use mathlib.Core.Path.{◌≡◌, refl, ap}
 use mathlib.Core.Bool.{true}
-use mathlib.Core.Option.{Option, none, some}
+use Rattle.std.specs.Prelude.{Option, None, Some, Result, Ok, Err}
 use mathlib.Core.List.{List, [], ◌∷◌, ◌++◌}
 use native.Mathlib.Omega.{arith}
 use lib.Dec.{ltb}
@@ -14,15 +14,14 @@ use Rattle.rewriting.specs.Rules.{Right, Put, Close, RuleSet, rule, right_in_ran
 use Rattle.rewriting.proofs.Lists.{and_left, and_right}
 use Rattle.rewriting.proofs.Ranges.{Ranges, ranges, rule_at_lem}
 use Rattle.layout.specs.Image.{read, valid}
-use Rattle.layout.specs.Refusals.{Check, refusal}
+use Rattle.layout.specs.Refusals.{Check, refusal, refused_by}
 use Rattle.layout.proofs.Image.{valid-in_range}
 use Rattle.layout.proofs.Refusals.{refusal_none_left}
 use Rattle.layout.specs.Table.{table_of}
-use Rattle.machine.specs.declared.Standing.{Standing}
 use Rattle.machine.specs.declared.Answer.{Answer}
 use Rattle.machine.specs.Run.{Run, run}
 use Rattle.machine.specs.Areas.{Monitor, head_of, monitor_of, state_of, closes_with, stands_by}
-use Rattle.machine.specs.Calls.{Call, Offer, Outcome, lent_checks, call_checks, fuel_of, offered, outcome, decided, call_of, refused_by, answer_number}
+use Rattle.machine.specs.Calls.{Call, Offer, Outcome, lent_checks, call_checks, fuel_of, offered, outcome, decided, call_of, answer_number}
 use Rattle.machine.specs.Play.{offers_of}
 use Rattle.machine.specs.Batch.{stopped, and_then, in_turn, offers, batch_checks, batched, batch_of}
 use Rattle.machine.specs.Promise.{Stopped}
@@ -36,7 +35,7 @@ closes_below set v (Put u) e r = let z : ◌≡◌ {A = ℕ} 0 1 = cc in absurd 
 closes_below set v (Close u) e r = rw (eqb-true v u e) (ltb-true u set.verdicts r)
 
 -- a verdict that is that of its rule
-stands_below : (set : RuleSet) → Ranges set → (v i : ℕ) → stands_by set.rules (Standing.Verdict v) i ≡ true → v < 16
+stands_below : (set : RuleSet) → Ranges set → (v i : ℕ) → stands_by set.rules (Some v) i ≡ true → v < 16
 unfolding stands_by
 stands_below set h v i e =
     let closes : _ = closes_with v (rule set.rules i).right in
@@ -50,10 +49,10 @@ stands_below set h v i e =
 
 -- of what is held as described
 pub holding_verdict : (capacity : ℕ) (image : List ℕ) → valid image ≡ true → (m : Monitor) → Holding (read image) capacity m
-    → (v : ℕ) → m.head.verdict ≡ Standing.Verdict v → v < 16
+    → (v : ℕ) → m.head.verdict ≡ Some v → v < 16
 unfolding monitor_of head_of
 holding_verdict capacity image good m h v e =
-    let stands : h.state.verdict ≡ Standing.Verdict v = rw h.written at e in
+    let stands : h.state.verdict ≡ Some v = rw h.written at e in
     stands_below (read image) (ranges (read image) (valid-in_range image good)) v h.state.rule
     (rw stands at h.legal.stands)
 
@@ -63,7 +62,7 @@ pub record Lent (capacity : ℕ) (image table : List ℕ) (m : Monitor) : Type 0
   pub right : prefix (table_of (read image)) table ≡ true
   pub holding : Holding (read image) capacity m
 
-pub passed_lent : (capacity : ℕ) (image table : List ℕ) (m : Monitor) → refusal (lent_checks capacity image table m) ≡ none
+pub passed_lent : (capacity : ℕ) (image table : List ℕ) (m : Monitor) → refusal (lent_checks capacity image table m) ≡ None
     → Lent capacity image table m
 passed_lent capacity image table m e =
     record {
@@ -72,15 +71,15 @@ passed_lent capacity image table m e =
       holding = passed_holding capacity image table m e;
     }
 
-pub passed_verdict : (capacity : ℕ) (image table : List ℕ) (m : Monitor) → refusal (lent_checks capacity image table m) ≡ none
-    → (v : ℕ) → m.head.verdict ≡ Standing.Verdict v → v < 16
+pub passed_verdict : (capacity : ℕ) (image table : List ℕ) (m : Monitor) → refusal (lent_checks capacity image table m) ≡ None
+    → (v : ℕ) → m.head.verdict ≡ Some v → v < 16
 passed_verdict capacity image table m e =
     let l : Lent capacity image table m = passed_lent capacity image table m e in
     holding_verdict capacity image l.good m l.holding
 
 -- they have passed where a call is accepted
 pub accepted_passed : (capacity : ℕ) (image table : List ℕ) (m : Monitor) (c : Call)
-    → refused_by (call_of capacity image table m c).answer ≡ none → refusal (lent_checks capacity image table m) ≡ none
+    → refused_by (call_of capacity image table m c).answer ≡ None → refusal (lent_checks capacity image table m) ≡ None
 unfolding call_of decided outcome refused_by
 accepted_passed capacity image table m c e =
     refusal_none_left (lent_checks capacity image table m) _
@@ -89,14 +88,14 @@ accepted_passed capacity image table m c e =
     r : Run
     r = run (read image).rules capacity (fuel_of c) (offered (state_of m) c)
 
-    go : (o : Option ℕ) → refused_by (outcome (read image) capacity m o r).answer ≡ none → o ≡ none
-    go none p = refl
-    go (some n) p = let z : ◌≡◌ {A = ℕ} 0 1 = cc in absurd (omega arith)
+    go : (o : Option ℕ) → refused_by (outcome (read image) capacity m o r).answer ≡ None → o ≡ None
+    go None p = refl
+    go (Some n) p = let z : ◌≡◌ {A = ℕ} 0 1 = cc in absurd (omega arith)
 
 -- of an accepted call
 pub accepted_verdict : (capacity : ℕ) (image table : List ℕ) (m : Monitor) (c : Call)
-    → refused_by (call_of capacity image table m c).answer ≡ none
-    → (v : ℕ) → (call_of capacity image table m c).monitor.head.verdict ≡ Standing.Verdict v → v < 16
+    → refused_by (call_of capacity image table m c).answer ≡ None
+    → (v : ℕ) → (call_of capacity image table m c).monitor.head.verdict ≡ Some v → v < 16
 accepted_verdict capacity image table m c a v e =
     let l : Lent capacity image table m = passed_lent capacity image table m (accepted_passed capacity image table m c a) in
     holding_verdict capacity image l.good (call_of capacity image table m c).monitor
@@ -107,21 +106,21 @@ pub answer_number-below : (capacity : ℕ) (image table : List ℕ) (m : Monitor
     → answer_number (call_of capacity image table m c).answer < 256
 unfolding answer_number refused_by state_of
 answer_number-below capacity image table m c =
-    go o.answer (λ p. p) (call_theorem capacity image table m c).stopped
+    go o.answer refl (call_theorem capacity image table m c).stopped
   where
     o : Outcome
     o = call_of capacity image table m c
 
-    go : (a : Answer) → (refused_by a ≡ none → refused_by o.answer ≡ none)
-        → (refused_by a ≡ none → Stopped (read image).rules capacity (fuel_of c) o.counts (state_of o.monitor) a)
+    go : (a : Result Answer ℕ) → o.answer ≡ a
+        → ((b : Answer) → o.answer ≡ Ok b → Stopped (read image).rules capacity (fuel_of c) o.counts (state_of o.monitor) b)
         → answer_number a < 256
-    go Answer.Quiet f s = omega arith
-    go Answer.Spent f s = omega arith
-    go Answer.Full f s = omega arith
-    go (Answer.Verdict v) f s =
-        let low : v < 16 = accepted_verdict capacity image table m c (f refl) v (s refl) in
+    go (Ok Answer.Quiet) e s = omega arith
+    go (Ok Answer.Spent) e s = omega arith
+    go (Ok Answer.Full) e s = omega arith
+    go (Ok (Answer.Verdict v)) e s =
+        let low : v < 16 = accepted_verdict capacity image table m c (ap (λ (x : Result Answer ℕ). refused_by x) e) v (s (Answer.Verdict v) e) in
         omega arith
-    go (Answer.Refused n) f s = omega arith
+    go (Err n) e s = omega arith
 
 -- of a batch that is not refused
 offers-holding : (capacity : ℕ) (image table : List ℕ) → valid image ≡ true → prefix (table_of (read image)) table ≡ true
@@ -141,12 +140,12 @@ offers-holding capacity image table good right fuel (event ∷ events) m h =
     go : (x : Option ℕ) → Holding (read image) capacity o.monitor
         → Holding (read image) capacity (offers capacity image table o.monitor events fuel).monitor
         → Holding (read image) capacity (and_then o x (λ m'. offers capacity image table m' events fuel)).monitor
-    go (some n) k ih = k
-    go none k ih = ih
+    go (Some n) k ih = k
+    go None k ih = ih
 
 pub batch_verdict : (capacity : ℕ) (image table : List ℕ) (m : Monitor) (events : List ℕ) (fuel : ℕ) (answers : List ℕ)
-    → (batch_of capacity image table m events fuel answers).refused ≡ none
-    → (v : ℕ) → (batch_of capacity image table m events fuel answers).monitor.head.verdict ≡ Standing.Verdict v → v < 16
+    → (batch_of capacity image table m events fuel answers).refused ≡ None
+    → (v : ℕ) → (batch_of capacity image table m events fuel answers).monitor.head.verdict ≡ Some v → v < 16
 unfolding batch_of batched batch_checks
 batch_verdict capacity image table m events fuel answers = go (refusal checks) refl
   where
@@ -154,11 +153,11 @@ batch_verdict capacity image table m events fuel answers = go (refusal checks) r
     checks = batch_checks capacity image table m events fuel answers
 
     go : (o : Option ℕ) → refusal checks ≡ o
-        → (batched o m answers (offers capacity image table m events fuel)).refused ≡ none
-        → (v : ℕ) → (batched o m answers (offers capacity image table m events fuel)).monitor.head.verdict ≡ Standing.Verdict v
+        → (batched o m answers (offers capacity image table m events fuel)).refused ≡ None
+        → (v : ℕ) → (batched o m answers (offers capacity image table m events fuel)).monitor.head.verdict ≡ Some v
         → v < 16
-    go (some n) p e v s = let z : ◌≡◌ {A = ℕ} 0 1 = cc in absurd (omega arith)
-    go none p e v s =
+    go (Some n) p e v s = let z : ◌≡◌ {A = ℕ} 0 1 = cc in absurd (omega arith)
+    go None p e v s =
         let l : Lent capacity image table m =
         passed_lent capacity image table m (refusal_none_left (lent_checks capacity image table m) _ p)
         in

@@ -4,7 +4,7 @@
 use Prim.Native.Nat.{ℕ, zero, suc, ◌+◌, ◌-◌, ◌≤◌, ◌<◌}
 use mathlib.Core.Path.{◌≡◌, refl, ap, ◌∙◌}
 use mathlib.Core.Bool.{true}
-use mathlib.Core.Option.{Option, none, some}
+use Rattle.std.specs.Prelude.{Option, None, Some}
 use mathlib.Core.List.{List, [], ◌∷◌, ◌++◌, map, append_assoc, append-nil}
 use native.Mathlib.Omega.{arith}
 use native.Mathlib.Nat.{sub-zero, le_of_suc-le-suc, not-suc-le-zero}
@@ -100,12 +100,12 @@ unfolding area_of
 area_empty capacity = simp (sub-zero, append-nil)
 
 -- what is lent after fresh holds the empty state
-pub fresh-written : (rules : List Rule) (capacity : ℕ) (bytes words : List ℕ) → (fresh_of capacity bytes words).refused ≡ none
+pub fresh-written : (rules : List Rule) (capacity : ℕ) (bytes words : List ℕ) → (fresh_of capacity bytes words).refused ≡ None
     → (fresh_of capacity bytes words).monitor ≡ monitor_of rules capacity empty
 unfolding fresh_of freshened monitor_of bytes_of words_of states_after empty active
 fresh-written rules capacity bytes words h = go (refusal ((sized capacity bytes words, 10) ∷ [])) h
   where
-    go : (o : Option ℕ) → (freshened capacity bytes words o).refused ≡ none
+    go : (o : Option ℕ) → (freshened capacity bytes words o).refused ≡ None
         → (freshened capacity bytes words o).monitor ≡ monitor_of rules capacity empty
-    go none e = rw area_empty
-    go (some n) e = let z : ◌≡◌ {A = ℕ} 0 1 = cc in absurd (omega arith)
+    go None e = rw area_empty
+    go (Some n) e = let z : ◌≡◌ {A = ℕ} 0 1 = cc in absurd (omega arith)

@@ -3,7 +3,7 @@
 use Prim.Native.Nat.{ℕ, ◌≤◌, ◌<◌}
 use mathlib.Core.Path.{◌≡◌}
 use mathlib.Core.Bool.{true}
-use mathlib.Core.Option.{none, some}
+use Rattle.std.specs.Prelude.{None, Some}
 use mathlib.Core.List.{List}
 use lib.ListN.{length}
 use borrow.Author.Tests.{le-leb, lt-leb}
@@ -28,8 +28,8 @@ module _ (capacity : ℕ) (image table : List ℕ) (m : Monitor) where
 
   module _ (events : List ℕ) (fuel : ℕ) (answers : List ℕ) where
     -- 7, 9, 10 or 11
-    pub batch_lent_refused : (n : ℕ) → refusal (lent_checks capacity image table m) ≡ some n
-        → record { refused = some n; stop = 0; accepted = 0; counts = no_counts; answers = answers; monitor = m }
+    pub batch_lent_refused : (n : ℕ) → refusal (lent_checks capacity image table m) ≡ Some n
+        → record { refused = Some n; stop = 0; accepted = 0; counts = no_counts; answers = answers; monitor = m }
         ≡ batch_of capacity image table m events fuel answers
     unfolding batch_of batched batch_checks
     batch_lent_refused n e = rw (refusal_append_some _ _ n e)
@@ -37,7 +37,7 @@ module _ (capacity : ℕ) (image table : List ℕ) (m : Monitor) where
     module _ (passed : Passed capacity image table m) where
       -- 13
       pub batch_fuel_refused : 65535 < fuel
-          → record { refused = some 13; stop = 0; accepted = 0; counts = no_counts; answers = answers; monitor = m }
+          → record { refused = Some 13; stop = 0; accepted = 0; counts = no_counts; answers = answers; monitor = m }
           ≡ batch_of capacity image table m events fuel answers
       unfolding batch_of batched batch_checks fuel_check refusal
       batch_fuel_refused h = rw (refusal_append_none _ _ passed, lt-leb _ _ h)
@@ -45,20 +45,20 @@ module _ (capacity : ℕ) (image table : List ℕ) (m : Monitor) where
       module _ (taken : fuel ≤ 65535) where
         -- 16
         pub batch_many_refused : 65535 < length events
-            → record { refused = some 16; stop = 0; accepted = 0; counts = no_counts; answers = answers; monitor = m }
+            → record { refused = Some 16; stop = 0; accepted = 0; counts = no_counts; answers = answers; monitor = m }
             ≡ batch_of capacity image table m events fuel answers
         unfolding batch_of batched batch_checks fuel_check refusal
         batch_many_refused h = rw (refusal_append_none _ _ passed, le-leb _ _ taken, lt-leb _ _ h)
 
         pub batch_room_refused : length events ≤ 65535 → length answers < length events
-            → record { refused = some 16; stop = 0; accepted = 0; counts = no_counts; answers = answers; monitor = m }
+            → record { refused = Some 16; stop = 0; accepted = 0; counts = no_counts; answers = answers; monitor = m }
             ≡ batch_of capacity image table m events fuel answers
         unfolding batch_of batched batch_checks fuel_check refusal
         batch_room_refused few h = rw (refusal_append_none _ _ passed, le-leb _ _ taken, le-leb _ _ few, lt-leb _ _ h)
 
         -- none
         pub batch-taken : length events ≤ 65535 → length events ≤ length answers
-            → batched none m answers (offers capacity image table m events fuel)
+            → batched None m answers (offers capacity image table m events fuel)
             ≡ batch_of capacity image table m events fuel answers
         unfolding batch_of batch_checks fuel_check refusal
         batch-taken few room = rw (refusal_append_none _ _ passed, le-leb _ _ taken, le-leb _ _ few, le-leb _ _ room)

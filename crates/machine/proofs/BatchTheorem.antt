@@ -4,7 +4,7 @@ use Prim.Native.Nat.{ℕ, suc, ◌+◌, ◌*◌, ◌≤◌, ◌<◌}
 use mathlib.Core.Path.{◌≡◌, refl, ap}
 use mathlib.Core.Bool.{Bool, true, false, not, cond}
 use mathlib.Core.Logic.{◌⊎◌, inl, inr, ⊎_elim}
-use mathlib.Core.Option.{Option, none, some}
+use Rattle.std.specs.Prelude.{Option, None, Some, is_none}
 use mathlib.Core.List.{List, [], ◌∷◌, map, Memᴰ}
 use native.Mathlib.Omega.{arith}
 use native.Mathlib.Nat.{suc-mul, mul-le-mul}
@@ -15,48 +15,29 @@ use Rattle.rewriting.specs.Lists.{prefix, over}
 use Rattle.rewriting.specs.Rules.{RuleSet}
 use Rattle.rewriting.proofs.Lists.{and_left}
 use Rattle.layout.specs.Image.{read, valid}
-use Rattle.layout.specs.Refusals.{Check, refusal}
+use Rattle.layout.specs.Refusals.{Check, refusal, refused_by}
 use Rattle.layout.proofs.Refusals.{refusal_passed, refusal_rest, refusal_none_left, refusal_none_right, refusal-number}
 use Rattle.layout.specs.Table.{table_of}
 use Rattle.machine.specs.Areas.{Head, Monitor, state_of}
 use Rattle.machine.specs.declared.Counts.{Counts}
 use Rattle.machine.specs.Run.{Run, no_counts, plus, run}
-use Rattle.machine.specs.Calls.{
-  Call,
-  Offer,
-  Outcome,
-  lent_checks,
-  is_none,
-  fuel_check,
-  verdict_check,
-  call_checks,
-  fuel_of,
-  offered,
-  outcome,
-  decided,
-  refusal_of,
-  call_of,
-  offer_of,
-  refused_by,
-  answer_number,
-}
+use Rattle.machine.specs.Calls.{Call, Offer, Outcome, lent_checks, fuel_check, verdict_check, call_checks, fuel_of, offered, outcome, decided, refusal_of, call_of, offer_of, answer_number}
 use Rattle.machine.specs.Batch.{Offers, stopped, and_then, in_turn, offers, batch_checks, batched, batch_of}
 use Rattle.machine.specs.Play.{no_calls, events_of, logged, play, offers_of}
 use Rattle.machine.specs.Promise.{Ended, BatchEnded, BatchIsOffers}
 use Rattle.machine.proofs.Sums.{none-plus}
-use Rattle.machine.proofs.Runs.{ran, stopped_accepted}
 use Rattle.machine.proofs.Calls.{Holding, passed_holding, replies, next}
 use Rattle.machine.proofs.Logs.{after, play-after}
 use Rattle.machine.proofs.CallTheorem.{call_theorem}
 
 -- an offer with fuel that is taken, refused by the checks of its own, is refused with 12, 14 or 15
 offer_refusal : (set : RuleSet) (capacity : ℕ) (head : Head) (event fuel n : ℕ) → leb fuel 65535 ≡ true
-    → refusal (call_checks set capacity head (Offer event fuel)) ≡ some n → Memᴰ n (12 ∷ 14 ∷ 15 ∷ [])
+    → refusal (call_checks set capacity head (Offer event fuel)) ≡ Some n → Memᴰ n (12 ∷ 14 ∷ 15 ∷ [])
 unfolding call_checks fuel_check verdict_check refusal
 offer_refusal set capacity head event fuel n f e =
     go (ltb event set.events) (is_none head.verdict) (not (eqb (head.settled + head.waiting) capacity)) (rw f at e)
   where
-    go : (a b c : Bool) → cond a (cond b (cond c none (some 15)) (some 14)) (some 12) ≡ some n
+    go : (a b c : Bool) → cond a (cond b (cond c None (Some 15)) (Some 14)) (Some 12) ≡ Some n
         → Memᴰ n (12 ∷ 14 ∷ 15 ∷ [])
     go false b c p = let e : n ≡ 12 = cc in Memᴰ.head e
     go true false c p = let e : n ≡ 14 = cc in Memᴰ.tail (Memᴰ.head e)
@@ -84,7 +65,7 @@ record Offered (capacity : ℕ) (image table : List ℕ) (m : Monitor) (events :
 module _ (capacity : ℕ) (image table : List ℕ) (good : valid image ≡ true) (right : prefix (table_of (read image)) table ≡ true) where
   -- a refused call is refused by the checks of its own
   refused_by_lem : (m : Monitor) → Holding (read image) capacity m → (c : Call) (n : ℕ)
-      → call_of capacity image table m c ≡ refusal_of n m → refusal (call_checks (read image) capacity m.head c) ≡ some n
+      → call_of capacity image table m c ≡ refusal_of n m → refusal (call_checks (read image) capacity m.head c) ≡ Some n
   unfolding decided outcome refused_by
   refused_by_lem m h c n e =
       go (refusal (call_checks (read image) capacity m.head c))
@@ -93,15 +74,9 @@ module _ (capacity : ℕ) (image table : List ℕ) (good : valid image ≡ true)
       r : Run
       r = run (read image).rules capacity (fuel_of c) (offered (state_of m) c)
 
-      go : (o : Option ℕ) → refused_by (outcome (read image) capacity m o r).answer ≡ some n → o ≡ some n
-      go (some k) p = p
-      go none p =
-          let a : refused_by r.answer ≡ none =
-          stopped_accepted (read image).rules capacity (fuel_of c) r.counts r.state r.answer
-          (ran (read image).rules capacity (fuel_of c) (offered (state_of m) c)).stops
-          in
-          let z : ◌≡◌ {A = ℕ} 0 1 = cc in
-          absurd (omega arith)
+      go : (o : Option ℕ) → refused_by (outcome (read image) capacity m o r).answer ≡ Some n → o ≡ Some n
+      go (Some k) p = p
+      go None p = let z : ◌≡◌ {A = ℕ} 0 1 = cc in absurd (omega arith)
 
   offers-offered : (fuel : ℕ) → leb fuel 65535 ≡ true → (events : List ℕ) (m : Monitor) → Holding (read image) capacity m
       → Offered capacity image table m events fuel (offers capacity image table m events fuel)
@@ -135,7 +110,7 @@ module _ (capacity : ℕ) (image table : List ℕ) (good : valid image ≡ true)
           → Offered capacity image table o.monitor events fuel (offers capacity image table o.monitor events fuel)
           → Offered capacity image table m (event ∷ events) fuel
           (and_then o x (λ m'. offers capacity image table m' events fuel))
-      go (some n) e ih =
+      go (Some n) e ih =
           let refused : o ≡ refusal_of n m = (done.refused n e).1 in
           let stays : o.monitor ≡ m = ap (λ (p : Outcome). p.monitor) refused in
           record {
@@ -153,7 +128,7 @@ module _ (capacity : ℕ) (image table : List ℕ) (good : valid image ≡ true)
             rewrites = omega arith;
             put = omega arith;
           }
-      go none e ih =
+      go None e ih =
           let rest : Offers = offers capacity image table o.monitor events fuel in
           let k : ℕ = length rest.answers in
           let behind : _ = play-after capacity image table (offers_of (take k events) fuel) (logged (no_calls m) c o) in
@@ -198,15 +173,15 @@ batch_theorem capacity image table m events fuel answers = go (refusal checks) r
 
     go : (o : Option ℕ) → refusal checks ≡ o
         → BatchEnded capacity image table m events fuel answers (batched o m answers b)
-    go (some n) p =
+    go (Some n) p =
         record {
-          refused = λ k (q : some n ≡ some k).
+          refused = λ k (q : Some n ≡ Some k).
               let e : n ≡ k = cc in
               rw (← e) (rw (check_numbers capacity image table m events fuel answers) at (refusal-number checks n p), refl);
-          taken = λ (q : some n ≡ none). let z : ◌≡◌ {A = ℕ} 0 1 = cc in absurd (omega arith);
+          taken = λ (q : Some n ≡ None). let z : ◌≡◌ {A = ℕ} 0 1 = cc in absurd (omega arith);
         }
-    go none p =
-        let lent : refusal (lent_checks capacity image table m) ≡ none =
+    go None p =
+        let lent : refusal (lent_checks capacity image table m) ≡ None =
         refusal_none_left (lent_checks capacity image table m) _ p
         in
         let own : _ = refusal_none_right (lent_checks capacity image table m) _ p in
@@ -226,7 +201,7 @@ batch_theorem capacity image table m events fuel answers = go (refusal checks) r
         let rewrites : b.counts.rewrites ≤ b.counts.steps = d.rewrites in
         let put : b.counts.put ≤ 8 * b.counts.rewrites = d.put in
         record {
-          refused = λ k (q : none ≡ some k). let z : ◌≡◌ {A = ℕ} 0 1 = cc in absurd (omega arith);
+          refused = λ k (q : None ≡ Some k). let z : ◌≡◌ {A = ℕ} 0 1 = cc in absurd (omega arith);
           taken = λ _. record {
             few = d.few;
             played = record {

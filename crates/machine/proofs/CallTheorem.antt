@@ -3,21 +3,21 @@
 use Prim.Native.Nat.{ℕ}
 use mathlib.Core.Path.{◌≡◌, refl}
 use mathlib.Core.Bool.{true}
-use mathlib.Core.Option.{Option, none, some}
+use Rattle.std.specs.Prelude.{Option, None, Some, Ok, Err}
 use mathlib.Core.List.{List, ◌++◌, map}
 use native.Mathlib.Omega.{arith}
 use Rattle.rewriting.specs.Rules.{RuleSet}
 use Rattle.rewriting.proofs.Ranges.{Ranges, ranges}
 use Rattle.layout.specs.Image.{read, valid}
-use Rattle.layout.specs.Refusals.{Check, refusal}
+use Rattle.layout.specs.Refusals.{Check, refusal, refused_by}
 use Rattle.layout.proofs.Image.{valid-in_range}
 use Rattle.layout.proofs.Refusals.{refusal_passed, refusal_none_left, refusal-number}
 use Rattle.machine.specs.Run.{Run, no_counts, run}
 use Rattle.machine.specs.Areas.{Monitor, state_of}
-use Rattle.machine.specs.Calls.{Call, Offer, GoOn, fuel_of, lent_checks, fuel_check, verdict_check, call_checks, offered, outcome, decided, call_of, refused_by}
+use Rattle.machine.specs.Calls.{Call, Offer, GoOn, fuel_of, lent_checks, fuel_check, verdict_check, call_checks, offered, outcome, decided, call_of}
 use Rattle.machine.specs.Promise.{refusals_of, Ended, DemandOne}
 use Rattle.machine.proofs.Machine.{reaches_counts}
-use Rattle.machine.proofs.Runs.{Ran, ran, stopped_accepted}
+use Rattle.machine.proofs.Runs.{Ran, ran}
 use Rattle.machine.proofs.Areas.{state_back}
 
 -- the checks of a call have the numbers that document 01 gives them
@@ -43,31 +43,28 @@ call_theorem capacity image table m c = go (refusal checks) refl
     done : Ran set.rules capacity (fuel_of c) (offered (state_of m) c) r
     done = ran set.rules capacity (fuel_of c) (offered (state_of m) c)
 
-    good : refusal checks ≡ none → valid image ≡ true
+    good : refusal checks ≡ None → valid image ≡ true
     good e = refusal_passed _ _ _ (refusal_none_left (lent_checks capacity image table m) _ e)
 
     go : (o : Option ℕ) → refusal checks ≡ o → Ended set.rules capacity m c (outcome set capacity m o r)
-    go (some n) e =
+    go (Some n) e =
         record {
           steps = omega arith;
           rewrites = omega arith;
           put = omega arith;
-          refused = λ k (p : some n ≡ some k).
+          refused = λ k (p : Some n ≡ Some k).
               let q : n ≡ k = cc in
               rw (← q) (rw (check_numbers capacity image table m c) at (refusal-number checks n e), refl);
-          stopped = λ (p : some n ≡ none). let z : ◌≡◌ {A = ℕ} 0 1 = cc in absurd (omega arith);
+          stopped = λ a (p : Err n ≡ Ok a). let z : ◌≡◌ {A = ℕ} 0 1 = cc in absurd (omega arith);
         }
-    go none e =
+    go None e =
         let h : Ranges set = ranges set (valid-in_range image (good e)) in
         record {
           steps = done.within;
           rewrites = (reaches_counts set h done.reached).0;
           put = (reaches_counts set h done.reached).1;
-          refused = λ k (p : refused_by r.answer ≡ some k).
-              let a : refused_by r.answer ≡ none =
-              stopped_accepted set.rules capacity (fuel_of c) r.counts r.state r.answer done.stops
-              in
-              let z : ◌≡◌ {A = ℕ} 0 1 = cc in
-              absurd (omega arith);
-          stopped = λ _. rw (state_back set.rules capacity r.state) done.stops;
+          refused = λ k (p : None ≡ Some k). let z : ◌≡◌ {A = ℕ} 0 1 = cc in absurd (omega arith);
+          stopped = λ a (p : Ok r.answer ≡ Ok a).
+              let q : r.answer ≡ a = cc in
+              rw (state_back set.rules capacity r.state, ← q) done.stops;
         }

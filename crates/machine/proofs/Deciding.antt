@@ -3,7 +3,7 @@
 use Prim.Native.Nat.{ℕ, ◌+◌, ◌-◌, ◌≤◌, ◌<◌}
 use mathlib.Core.Path.{◌≡◌, refl, sym, ap, ◌∙◌, subst}
 use mathlib.Core.Bool.{Bool, true, false, not, cond, ◌||◌}
-use mathlib.Core.Option.{none, some}
+use Rattle.std.specs.Prelude.{None, Some, Option, is_none}
 use mathlib.Core.List.{List, [], ◌∷◌, ◌++◌, append-nil}
 use native.Mathlib.Omega.{arith}
 use lib.Dec.{eqb, ltb}
@@ -17,7 +17,6 @@ use Rattle.layout.specs.Image.{read, valid}
 use Rattle.layout.specs.Refusals.{Check, refusal}
 use Rattle.layout.proofs.Image.{valid-in_range}
 use Rattle.layout.proofs.Refusals.{refusal_passed, refusal_rest, refusal_append_some}
-use Rattle.machine.specs.declared.Standing.{Standing}
 use Rattle.machine.specs.declared.Counts.{Counts}
 use Rattle.machine.specs.Areas.{Head, Monitor, head_of, monitor_of, state_of}
 use Rattle.machine.specs.State.{State, empty}
@@ -33,7 +32,6 @@ use Rattle.machine.specs.Calls.{
   Outcome,
   fuel_check,
   verdict_check,
-  is_none,
   call_checks,
   fuel_of,
   offered,
@@ -50,7 +48,7 @@ use Rattle.machine.proofs.Calls.{accepted_event, offered_more, holding_passes}
 use Rattle.machine.proofs.Stepping.{Held, held, passed_valid, passed_table, passed_written, zero-rule, holds-state}
 
 -- refused by its checks
-pub is_refused : (set : RuleSet) (capacity : ℕ) (m : Monitor) (c : Call) (checks : List Check) (n : ℕ) → refusal checks ≡ some n
+pub is_refused : (set : RuleSet) (capacity : ℕ) (m : Monitor) (c : Call) (checks : List Check) (n : ℕ) → refusal checks ≡ Some n
     → refusal_of n m ≡ decided set capacity m checks c
 unfolding decided outcome
 is_refused set capacity m c checks n e = rw e
@@ -58,51 +56,50 @@ is_refused set capacity m c checks n e = rw e
 -- An offer refuses 12, 13, 14 and 15, in this order, and a go-on 13 and 14.
 module _ (set : RuleSet) (capacity : ℕ) (head : Head) (event fuel : ℕ) where
   pub refuses_event : (offering : Bool) → (not offering || ltb event set.events) ≡ false
-      → refusal (call_checks set capacity head (offer_or_go_on offering event fuel)) ≡ some 12
+      → refusal (call_checks set capacity head (offer_or_go_on offering event fuel)) ≡ Some 12
   unfolding call_checks refusal offer_or_go_on
   refuses_event true h = rw h
   refuses_event false h = let z : ◌≡◌ {A = ℕ} 0 1 = cc in absurd (omega arith)
 
   pub refuses_fuel : (offering : Bool) → (not offering || ltb event set.events) ≡ true → 65535 < fuel
-      → refusal (call_checks set capacity head (offer_or_go_on offering event fuel)) ≡ some 13
+      → refusal (call_checks set capacity head (offer_or_go_on offering event fuel)) ≡ Some 13
   unfolding call_checks refusal fuel_check offer_or_go_on
   refuses_fuel true h f = rw (h, lt-leb fuel 65535 f)
   refuses_fuel false h f = rw (lt-leb fuel 65535 f)
 
   module _ (taken : fuel ≤ 65535) where
-    pub refuses_verdict : (offering : Bool) → (not offering || ltb event set.events) ≡ true → (v : ℕ) → head.verdict ≡ Standing.Verdict v
-        → refusal (call_checks set capacity head (offer_or_go_on offering event fuel)) ≡ some 14
-    unfolding call_checks refusal fuel_check verdict_check is_none offer_or_go_on
+    pub refuses_verdict : (offering : Bool) → (not offering || ltb event set.events) ≡ true → (v : ℕ) → head.verdict ≡ Some v
+        → refusal (call_checks set capacity head (offer_or_go_on offering event fuel)) ≡ Some 14
+    unfolding call_checks refusal fuel_check verdict_check offer_or_go_on
     refuses_verdict true h v e = rw (h, le-leb fuel 65535 taken, e)
     refuses_verdict false h v e = rw (le-leb fuel 65535 taken, e)
 
-    pub refuses_room : (offering : Bool) → (not offering || ltb event set.events) ≡ true → head.verdict ≡ Standing.None
+    pub refuses_room : (offering : Bool) → (not offering || ltb event set.events) ≡ true → head.verdict ≡ None
         → (not offering || not (eqb (head.settled + head.waiting) capacity)) ≡ false
-        → refusal (call_checks set capacity head (offer_or_go_on offering event fuel)) ≡ some 15
-    unfolding call_checks refusal fuel_check verdict_check is_none offer_or_go_on
+        → refusal (call_checks set capacity head (offer_or_go_on offering event fuel)) ≡ Some 15
+    unfolding call_checks refusal fuel_check verdict_check offer_or_go_on
     refuses_room true h v r = rw (h, le-leb fuel 65535 taken, v, r)
     refuses_room false h v r = let z : ◌≡◌ {A = ℕ} 0 1 = cc in absurd (omega arith)
 
-    pub refuses_none : (offering : Bool) → (not offering || ltb event set.events) ≡ true → head.verdict ≡ Standing.None
+    pub refuses_none : (offering : Bool) → (not offering || ltb event set.events) ≡ true → head.verdict ≡ None
         → (not offering || not (eqb (head.settled + head.waiting) capacity)) ≡ true
-        → refusal (call_checks set capacity head (offer_or_go_on offering event fuel)) ≡ none
-    unfolding call_checks refusal fuel_check verdict_check is_none offer_or_go_on
+        → refusal (call_checks set capacity head (offer_or_go_on offering event fuel)) ≡ None
+    unfolding call_checks refusal fuel_check verdict_check offer_or_go_on
     refuses_none true h v r = rw (h, le-leb fuel 65535 taken, v, r)
     refuses_none false h v r = rw (le-leb fuel 65535 taken, v)
 
 -- What a call that its checks do not refuse tells: no verdict stands, and there is room for the event of an offer.
-is-none : (v : Standing) → is_none v ≡ true → v ≡ Standing.None
-unfolding is_none
-is-none Standing.None e = refl
-is-none (Standing.Verdict v) e = let z : ◌≡◌ {A = ℕ} 0 1 = cc in absurd (omega arith)
+is-none : (v : Option ℕ) → is_none v ≡ true → v ≡ None
+is-none None e = refl
+is-none (Some v) e = let z : ◌≡◌ {A = ℕ} 0 1 = cc in absurd (omega arith)
 
 module _ (set : RuleSet) (capacity : ℕ) (head : Head) (event fuel : ℕ) where
-  pub accepted_none : (offering : Bool) → refusal (call_checks set capacity head (offer_or_go_on offering event fuel)) ≡ none → head.verdict ≡ Standing.None
+  pub accepted_none : (offering : Bool) → refusal (call_checks set capacity head (offer_or_go_on offering event fuel)) ≡ None → head.verdict ≡ None
   unfolding call_checks fuel_check verdict_check offer_or_go_on
   accepted_none true e = is-none head.verdict (refusal_passed _ _ _ (refusal_rest _ _ _ (refusal_rest _ _ _ e)))
   accepted_none false e = is-none head.verdict (refusal_passed _ _ _ (refusal_rest _ _ _ e))
 
-  pub accepted_room : (offering : Bool) → refusal (call_checks set capacity head (offer_or_go_on offering event fuel)) ≡ none
+  pub accepted_room : (offering : Bool) → refusal (call_checks set capacity head (offer_or_go_on offering event fuel)) ≡ None
       → offering ≡ true → head.settled + head.waiting ≡ capacity → ⊥
   unfolding call_checks fuel_check verdict_check offer_or_go_on
   accepted_room true e t =
@@ -113,14 +110,14 @@ module _ (set : RuleSet) (capacity : ℕ) (head : Head) (event fuel : ℕ) where
 
 -- the call runs, behind others with the counts before
 pub is-run : (set : RuleSet) (capacity : ℕ) (m m' : Monitor) (c : Call) (checks : List Check) (s : State) (before : Counts) (o : Outcome)
-    → refusal checks ≡ none → s ≡ offered (state_of m) c → o ≡ upon before (outcome set capacity m' none (run set.rules capacity (fuel_of c) s))
+    → refusal checks ≡ None → s ≡ offered (state_of m) c → o ≡ upon before (outcome set capacity m' None (run set.rules capacity (fuel_of c) s))
     → o ≡ upon before (decided set capacity m checks c)
 unfolding decided outcome
 is-run set capacity m m' c checks s before o e f g = rw e (g ∙ rw f)
 
 -- "the event becomes the last waiting symbol"
 module _ (capacity : ℕ) (image table : List ℕ) (m : Monitor) (ok : Passed capacity image table m) (event fuel from : ℕ)
-    (v : m.head.verdict ≡ Standing.None) (room : m.head.settled + m.head.waiting ≡ capacity → ⊥) (place : from ≡ capacity - m.head.waiting) where
+    (v : m.head.verdict ≡ None) (room : m.head.settled + m.head.waiting ≡ capacity → ⊥) (place : from ≡ capacity - m.head.waiting) where
   facts : Held (read image) capacity m
   facts = held capacity image table m ok
 
@@ -130,7 +127,7 @@ module _ (capacity : ℕ) (image table : List ℕ) (m : Monitor) (ok : Passed ca
   unfolding offered state_of
   is-offered =
       let s : State = state_of m in
-      holds-state (read image).rules capacity s.settled (s.waiting ++ event ∷ []) Standing.None 0 m.head.settled (m.head.waiting + 1)
+      holds-state (read image).rules capacity s.settled (s.waiting ++ event ∷ []) None 0 m.head.settled (m.head.waiting + 1)
       (appended capacity event from m.bytes) m.words facts.settled_count
       (rw (length-append s.waiting (event ∷ [])) (omega (arith, facts.waiting_count)))
       (ap (appended capacity event from) facts.bytes_are
@@ -145,7 +142,7 @@ module _ (capacity : ℕ) (image table : List ℕ) (m : Monitor) (ok : Passed ca
   offered-state = rw is-offered (state_back (read image).rules capacity (offered (state_of m) (Offer event fuel)))
 
   -- .. and pass their checks
-  pub offered_passes : refusal (call_checks (read image) capacity m.head (Offer event fuel)) ≡ none
+  pub offered_passes : refusal (call_checks (read image) capacity m.head (Offer event fuel)) ≡ None
       → Passed capacity image table (monitor_in (taken true m.head) (appended capacity event from m.bytes) m.words)
   unfolding monitor_of fits
   offered_passes e =
@@ -153,7 +150,7 @@ module _ (capacity : ℕ) (image table : List ℕ) (m : Monitor) (ok : Passed ca
       (record {
         state = offered (state_of m) (Offer event fuel);
         written = is-offered;
-        legal = rw offered_more (legal_more (read image) (state_of m) (events_of none (Offer event fuel)) accepted.1 facts.legal);
+        legal = rw offered_more (legal_more (read image) (state_of m) (events_of None (Offer event fuel)) accepted.1 facts.legal);
         room = accepted.0;
       })
     where
@@ -163,7 +160,7 @@ module _ (capacity : ℕ) (image table : List ℕ) (m : Monitor) (ok : Passed ca
       head : head_of (state_of m) ≡ m.head
       head = ap (λ (x : Monitor). x.head) (passed_written capacity image table m ok)
 
-      accepted : (fits capacity (offered (state_of m) (Offer event fuel)) ≡ true) × (below (read image).symbols (events_of none (Offer event fuel)) ≡ true)
+      accepted : (fits capacity (offered (state_of m) (Offer event fuel)) ≡ true) × (below (read image).symbols (events_of None (Offer event fuel)) ≡ true)
       accepted =
           accepted_event (read image) (ranges (read image) (valid-in_range image good)) capacity (state_of m) (Offer event fuel)
           (rw head e) (le-leb _ _ facts.room)
@@ -171,8 +168,8 @@ module _ (capacity : ℕ) (image table : List ℕ) (m : Monitor) (ok : Passed ca
 -- The same of a call that is an offer or a go-on.
 module _ (capacity : ℕ) (image table : List ℕ) (head : Head) (bytes words : List ℕ) (ok : Passed capacity image table (monitor_in head bytes words))
     (event fuel : ℕ) (offering : Bool)
-    (accepted : refusal (call_checks (read image) capacity head (offer_or_go_on offering event fuel)) ≡ none) where
-  none_stands : head.verdict ≡ Standing.None
+    (accepted : refusal (call_checks (read image) capacity head (offer_or_go_on offering event fuel)) ≡ None) where
+  none_stands : head.verdict ≡ None
   none_stands = accepted_none (read image) capacity head event fuel offering accepted
 
   -- a go-on takes the head as it is
@@ -204,14 +201,14 @@ module _ (capacity : ℕ) (image table : List ℕ) (head : Head) (bytes words : 
   call_passes = go offering (accepted_room (read image) capacity head event fuel offering accepted) accepted
     where
       go : (o : Bool) → (o ≡ true → head.settled + head.waiting ≡ capacity → ⊥)
-          → refusal (call_checks (read image) capacity head (offer_or_go_on o event fuel)) ≡ none
+          → refusal (call_checks (read image) capacity head (offer_or_go_on o event fuel)) ≡ None
           → Passed capacity image table (monitor_in (taken o head) (cond o (appended capacity event (capacity - head.waiting) bytes) bytes) words)
       go true room e =
           offered_passes capacity image table (monitor_in head bytes words) ok event fuel (capacity - head.waiting) none_stands (room refl) refl e
       go false room e = subst (λ (h : Head). Passed capacity image table (monitor_in h bytes words)) (sym as_is) ok
 
 -- A call that what is lent refuses.
-pub lent_refused : (capacity : ℕ) (image table : List ℕ) (m : Monitor) (c : Call) (n : ℕ) → refusal (lent_checks capacity image table m) ≡ some n
+pub lent_refused : (capacity : ℕ) (image table : List ℕ) (m : Monitor) (c : Call) (n : ℕ) → refusal (lent_checks capacity image table m) ≡ Some n
     → refusal_of n m ≡ call_of capacity image table m c
 unfolding call_of
 lent_refused capacity image table m c n e =
@@ -219,7 +216,7 @@ lent_refused capacity image table m c n e =
 
 -- Fresh refuses areas of another length, ..
 pub other_length : (capacity : ℕ) (bytes words : List ℕ) → sized capacity bytes words ≡ false
-    → record { refused = some 10; monitor = monitor_in (head_of empty) bytes words } ≡ fresh_of capacity bytes words
+    → record { refused = Some 10; monitor = monitor_in (head_of empty) bytes words } ≡ fresh_of capacity bytes words
 unfolding fresh_of freshened refusal
 other_length capacity bytes words e = rw e
 
@@ -240,12 +237,12 @@ all_cleared capacity l e =
 
 pub cleared : (capacity : ℕ) (bytes words bytes' words' : List ℕ) → length bytes ≡ capacity → length words ≡ capacity
     → bytes' ≡ paste bytes 0 (replicate (capacity - 0) 0) (capacity - 0) → words' ≡ paste words 0 (replicate (capacity - 0) 0) (capacity - 0)
-    → record { refused = none; monitor = monitor_in (head_of empty) bytes' words' } ≡ fresh_of capacity bytes words
+    → record { refused = None; monitor = monitor_in (head_of empty) bytes' words' } ≡ fresh_of capacity bytes words
 unfolding fresh_of freshened refusal sized
 cleared capacity bytes words bytes' words' eb ew cb cw =
     rw (eq-eqb (length bytes) capacity eb, eq-eqb (length words) capacity ew)
     (λ i.
     record {
-      refused = none;
+      refused = None;
       monitor = record { head = head_of empty; bytes = (cb ∙ all_cleared capacity bytes eb) i; words = (cw ∙ all_cleared capacity words ew) i };
     })

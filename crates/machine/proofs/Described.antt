@@ -3,7 +3,7 @@
 use Prim.Native.Nat.{ℕ, ◌+◌, ◌-◌, ◌≤◌}
 use mathlib.Core.Path.{◌≡◌, refl, sym, ◌∙◌}
 use mathlib.Core.Bool.{Bool, true, ◌&&◌}
-use mathlib.Core.Option.{Option, none, some}
+use Rattle.std.specs.Prelude.{Option, None, Some}
 use mathlib.Core.List.{List, [], ◌∷◌, ◌++◌, append-nil}
 use native.Mathlib.Omega.{arith}
 use lib.Dec.{eqb, leb, ltb}
@@ -30,14 +30,14 @@ plain_up_to : (p : List ℕ) (a : ℕ) (s : List ℕ) → Plain (p ++ a ∷ [] +
 plain_up_to p a s h = all_left (λ x. ltb x mark) (p ++ a ∷ []) s h
 
 -- no state after a symbol of s has a match, where p ++ s has no occurrence
-unmatched-after : (rules : List Rule) (p s : List ℕ) → Plain (p ++ s) → redex rules (p ++ s) ≡ none
+unmatched-after : (rules : List Rule) (p s : List ℕ) → Plain (p ++ s) → redex rules (p ++ s) ≡ None
     → all (λ q. no_match (matching rules q)) (states_after rules (after rules p) s) ≡ true
 unfolding states_after no_match
 unmatched-after rules p [] plain h = refl
 unmatched-after rules p (a ∷ s) plain h =
-    let on : redex rules (p ++ a ∷ [] ++ s) ≡ none = rw append_snoc h in
+    let on : redex rules (p ++ a ∷ [] ++ s) ≡ None = rw append_snoc h in
     let rest : Plain (p ++ a ∷ [] ++ s) = rw append_snoc plain in
-    let here : ending rules true (p ++ a ∷ []) ≡ none = ending-none rules p a (redex_left rules (p ++ a ∷ []) s on) in
+    let here : ending rules true (p ++ a ∷ []) ≡ None = ending-none rules p a (redex_left rules (p ++ a ∷ []) s on) in
     let q : List ℕ = next rules (after rules p) a in
     let first : no_match (matching rules q) ≡ true = rw (matching-next rules p a (plain_up_to p a s rest), here) in
     let others : all (λ q. no_match (matching rules q)) (states_after rules q s) ≡ true =
@@ -45,30 +45,30 @@ unmatched-after rules p (a ∷ s) plain h =
     in
     and_both first others
 
-unmatched_clean : (rules : List Rule) (s : List ℕ) → Plain s → redex rules s ≡ none → unmatched rules s ≡ true
+unmatched_clean : (rules : List Rule) (s : List ℕ) → Plain s → redex rules s ≡ None → unmatched rules s ≡ true
 unfolding unmatched
 unmatched_clean rules s plain h = unmatched-after rules [] s plain h
 
 -- and the other way round
-no_match_lem : (m : Option ℕ) → no_match m ≡ true → m ≡ none
+no_match_lem : (m : Option ℕ) → no_match m ≡ true → m ≡ None
 unfolding no_match
-no_match_lem none e = refl
-no_match_lem (some i) e = let z : ◌≡◌ {A = ℕ} 0 1 = cc in absurd (omega arith)
+no_match_lem None e = refl
+no_match_lem (Some i) e = let z : ◌≡◌ {A = ℕ} 0 1 = cc in absurd (omega arith)
 
-clean_after : (rules : List Rule) (p s : List ℕ) → Plain (p ++ s) → redex rules p ≡ none
-    → all (λ q. no_match (matching rules q)) (states_after rules (after rules p) s) ≡ true → redex rules (p ++ s) ≡ none
+clean_after : (rules : List Rule) (p s : List ℕ) → Plain (p ++ s) → redex rules p ≡ None
+    → all (λ q. no_match (matching rules q)) (states_after rules (after rules p) s) ≡ true → redex rules (p ++ s) ≡ None
 unfolding states_after
 clean_after rules p [] plain h e = rw append-nil h
 clean_after rules p (a ∷ s) plain h e =
     let behind : Plain (p ++ a ∷ [] ++ s) = rw append_snoc plain in
     let q : List ℕ = next rules (after rules p) a in
     let rest : Bool = all (λ q. no_match (matching rules q)) (states_after rules q s) in
-    let here : matching rules q ≡ none = no_match_lem _ (and_left (no_match (matching rules q)) rest e) in
-    let on : redex rules (p ++ a ∷ []) ≡ none = scan_snoc rules p a h (sym (matching-next rules p a (plain_up_to p a s behind)) ∙ here) in
+    let here : matching rules q ≡ None = no_match_lem _ (and_left (no_match (matching rules q)) rest e) in
+    let on : redex rules (p ++ a ∷ []) ≡ None = scan_snoc rules p a h (sym (matching-next rules p a (plain_up_to p a s behind)) ∙ here) in
     rw append_snoc at
     (clean_after rules (p ++ a ∷ []) s behind on (rw (state_snoc rules (mark ∷ p) a) at (and_right (no_match (matching rules q)) rest e)))
 
-clean_unmatched : (rules : List Rule) (s : List ℕ) → Plain s → unmatched rules s ≡ true → redex rules s ≡ none
+clean_unmatched : (rules : List Rule) (s : List ℕ) → Plain s → unmatched rules s ≡ true → redex rules s ≡ None
 unfolding unmatched redex scan
 clean_unmatched rules s plain h = clean_after rules [] s plain refl h
 

@@ -3,7 +3,7 @@
 use Prim.Native.Nat.{ℕ}
 use mathlib.Core.Path.{◌≡◌, refl}
 use mathlib.Core.Bool.{Bool, true, false, cond, ◌&&◌}
-use mathlib.Core.Option.{none, some}
+use Rattle.std.specs.Prelude.{None, Some}
 use native.Mathlib.Omega.{arith}
 use lib.Dec.{eqb}
 use lib.ListN.{length}
@@ -31,13 +31,13 @@ fresh_theorem capacity bytes words =
     b : Bool
     b = eqb (length words) capacity
 
-    lengths : (c : Bool) → (a && b) ≡ c → (freshened capacity bytes words (cond c none (some 10))).refused ≡ none
+    lengths : (c : Bool) → (a && b) ≡ c → (freshened capacity bytes words (cond c None (Some 10))).refused ≡ None
         → (length bytes ≡ capacity) × (length words ≡ capacity)
     lengths true p e = (eqb-true _ _ (and_left a b p), eqb-true _ _ (and_right a b p))
     lengths false p e = let z : ◌≡◌ {A = ℕ} 0 1 = cc in absurd (omega arith)
 
-    is_refused : (n : ℕ) (c : Bool) → (freshened capacity bytes words (cond c none (some 10))).refused ≡ some n
-        → (n ≡ 10) × ((freshened capacity bytes words (cond c none (some 10))).monitor
+    is_refused : (n : ℕ) (c : Bool) → (freshened capacity bytes words (cond c None (Some 10))).refused ≡ Some n
+        → (n ≡ 10) × ((freshened capacity bytes words (cond c None (Some 10))).monitor
         ≡ record { head = head_of empty; bytes = bytes; words = words })
     is_refused n true e = let z : ◌≡◌ {A = ℕ} 0 1 = cc in absurd (omega arith)
     is_refused n false e = (cc, refl)

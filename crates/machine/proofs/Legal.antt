@@ -3,7 +3,7 @@
 use Prim.Native.Nat.{ℕ, ◌-◌, ◌≤◌}
 use mathlib.Core.Path.{◌≡◌, refl}
 use mathlib.Core.Bool.{Bool, true}
-use mathlib.Core.Option.{Option, none, some}
+use Rattle.std.specs.Prelude.{Option, None, Some}
 use mathlib.Core.List.{List, [], ◌∷◌, ◌++◌, append_assoc}
 use native.Mathlib.Omega.{arith}
 use lib.Dec.{ltb}
@@ -25,7 +25,7 @@ use Rattle.machine.proofs.Machine.{Reaches, Stay, On, more}
 
 -- no left side occurs in the settled string, every symbol is below S, and the verdict is that of its rule
 pub record Legal (set : RuleSet) (t : State) : Type 0 where
-  pub clean : redex set.rules t.settled ≡ none
+  pub clean : redex set.rules t.settled ≡ None
   pub symbols : below set.symbols (t.settled ++ t.waiting) ≡ true
   pub stands : stands_by set.rules t.verdict t.rule ≡ true
 
@@ -72,13 +72,13 @@ cut_below S n s v q hs hv hq =
 
 module _ (set : RuleSet) (ranges : Ranges set) (s : List ℕ) (a : ℕ) (q : List ℕ) (f : Legal set (active s (a ∷ q))) where
   -- no left side ends with a
-  legal_none : ending set.rules true (s ++ a ∷ []) ≡ none → Legal set (settle set.rules (s ++ a ∷ []) q none).to
+  legal_none : ending set.rules true (s ++ a ∷ []) ≡ None → Legal set (settle set.rules (s ++ a ∷ []) q None).to
   unfolding settle active stands_by
   legal_none e =
       record { clean = scan_snoc set.rules s a f.clean e; symbols = rw append_snoc f.symbols; stands = refl }
 
   -- rule i's left side ends with a
-  legal_some : (i : ℕ) → ending set.rules true (s ++ a ∷ []) ≡ some i → Legal set (settle set.rules (s ++ a ∷ []) q (some i)).to
+  legal_some : (i : ℕ) → ending set.rules true (s ++ a ∷ []) ≡ Some i → Legal set (settle set.rules (s ++ a ∷ []) q (Some i)).to
   unfolding settle active replace symbols_of stands_by closes_with
   legal_some i e = go (rule rules i).right refl
     where
@@ -97,7 +97,7 @@ module _ (set : RuleSet) (ranges : Ranges set) (s : List ℕ) (a : ℕ) (q : Lis
       cut : take n (s ++ a ∷ []) ≡ take n s
       cut = take-append-le n s (a ∷ []) short
 
-      clean : redex rules (take n (s ++ a ∷ [])) ≡ none
+      clean : redex rules (take n (s ++ a ∷ [])) ≡ None
       clean = rw cut (redex-take rules s n f.clean)
 
       symbols : (v : List ℕ) → below set.symbols v ≡ true
@@ -134,8 +134,8 @@ legal_step set ranges s a q f =
     (go (ending set.rules true (s ++ a ∷ [])) refl)
   where
     go : (m : Option ℕ) → ending set.rules true (s ++ a ∷ []) ≡ m → Legal set (settle set.rules (s ++ a ∷ []) q m).to
-    go none e = legal_none set ranges s a q f e
-    go (some i) e = legal_some set ranges s a q f i e
+    go None e = legal_none set ranges s a q f e
+    go (Some i) e = legal_some set ranges s a q f i e
 
 -- any steps
 pub legal_reaches : (set : RuleSet) → Ranges set → {s : State} {c : Counts} {t : State} → Reaches set.rules s c t → Legal set s

@@ -4,7 +4,7 @@
 use Prim.Native.Nat.{ℕ}
 use mathlib.Core.Path.{◌≡◌, refl, sym, ap, ◌∙◌}
 use mathlib.Core.Bool.{Bool, true, false, and-false}
-use mathlib.Core.Option.{Option, none, some}
+use Rattle.std.specs.Prelude.{Option, None, Some, Result, Ok, Err}
 use mathlib.Core.List.{List, [], ◌∷◌}
 use native.Mathlib.Omega.{arith}
 use lib.ListN.{length}
@@ -12,7 +12,7 @@ use borrow.Author.Tests.{eq-eqb, ne_eqb}
 use Rattle.rewriting.specs.Lists.{prefix}
 use Rattle.rewriting.proofs.Lists.{and_both}
 use Rattle.layout.specs.Image.{read, valid}
-use Rattle.layout.specs.Refusals.{refusal, answered}
+use Rattle.layout.specs.Refusals.{refusal, answered, number, numbered}
 use Rattle.layout.proofs.Refusals.{
   refusal_nil,
   refusal_head,
@@ -22,35 +22,37 @@ use Rattle.layout.proofs.Refusals.{
   refusal_append_none,
   refusal_append_some,
 }
-use Rattle.layout.specs.declared.Checked.{Checked}
+use Rattle.layout.specs.declared.Refusal.{Refusal}
 use Rattle.layout.specs.Table.{table_of}
 use Rattle.layout.specs.TableCheck.{table_checks, check_of}
 use Rattle.machine.specs.Areas.{Head, Monitor, described}
 use Rattle.machine.specs.Calls.{sized, lent_checks}
 use Rattle.machine.specs.Lent.{monitor_in, Passed}
 
-pub answered_passed : (o : Option ℕ) → answered o ≡ Checked.Passed → o ≡ none
+pub answered_passed : (o : Option ℕ) → answered o ≡ Ok tt → o ≡ None
 unfolding answered
-answered_passed none e = refl
-answered_passed (some n) e = let z : ◌≡◌ {A = ℕ} 0 1 = cc in absurd (omega arith)
+answered_passed None e = refl
+answered_passed (Some n) e = let z : ◌≡◌ {A = ℕ} 0 1 = cc in absurd (omega arith)
 
-pub answered_refused : (o : Option ℕ) (n : ℕ) → answered o ≡ Checked.Refused n → o ≡ some n
+pub answered_refused : (o : Option ℕ) (n : ℕ) → answered o ≡ Err n → o ≡ Some n
 unfolding answered
-answered_refused none n e = let z : ◌≡◌ {A = ℕ} 0 1 = cc in absurd (omega arith)
-answered_refused (some k) n e = let same : k ≡ n = cc in rw same
+answered_refused None n e = let z : ◌≡◌ {A = ℕ} 0 1 = cc in absurd (omega arith)
+answered_refused (Some k) n e = let same : k ≡ n = cc in rw same
 
 -- The code's answers, where image and table are refused, and where they pass.
-module _ (capacity : ℕ) (image table : List ℕ) {r : Checked} (check : r ≡ check_of image table) where
-  pub table_refused : (m : Monitor) (n : ℕ) → r ≡ Checked.Refused n → Checked.Refused n ≡ answered (refusal (lent_checks capacity image table m))
+module _ (capacity : ℕ) (image table : List ℕ) {r : Result (Unit {0}) Refusal} (check : numbered r ≡ check_of image table) where
+  pub table_refused : (m : Monitor) (x : Refusal) → r ≡ Err x → Err (number x) ≡ answered (refusal (lent_checks capacity image table m))
   unfolding check_of lent_checks answered
-  table_refused m n e =
-      let first : refusal (table_checks image table) ≡ some n = answered_refused (refusal (table_checks image table)) n (sym check ∙ e) in
-      sym (ap answered (refusal_append_some (table_checks image table) _ n first))
+  table_refused m x e =
+      let first : refusal (table_checks image table) ≡ Some (number x) =
+      answered_refused (refusal (table_checks image table)) (number x) (sym check ∙ ap numbered e)
+      in
+      sym (ap answered (refusal_append_some (table_checks image table) _ (number x) first))
 
-  module _ (e : r ≡ Checked.Passed) where
-    first_pass : refusal (table_checks image table) ≡ none
+  module _ (e : r ≡ Ok tt) where
+    first_pass : refusal (table_checks image table) ≡ None
     unfolding check_of
-    first_pass = answered_passed (refusal (table_checks image table)) (sym check ∙ e)
+    first_pass = answered_passed (refusal (table_checks image table)) (sym check ∙ ap numbered e)
 
     pub passed_image : valid image ≡ true
     passed_image = refusal_passed (valid image) 7 _ first_pass
@@ -65,15 +67,15 @@ module _ (capacity : ℕ) (image table : List ℕ) {r : Checked} (check : r ≡ 
       unfolding lent_checks
       others = refusal_append_none (table_checks image table) _ first_pass
 
-      other_size : sized capacity m.bytes m.words ≡ false → Checked.Refused 10 ≡ answered (refusal (lent_checks capacity image table m))
+      other_size : sized capacity m.bytes m.words ≡ false → Err 10 ≡ answered (refusal (lent_checks capacity image table m))
       unfolding answered
       other_size s = sym (ap answered (others ∙ refusal_head (sized capacity m.bytes m.words) 10 _ s))
 
-      pub other_bytes : (length m.bytes ≡ capacity → ⊥) → Checked.Refused 10 ≡ answered (refusal (lent_checks capacity image table m))
+      pub other_bytes : (length m.bytes ≡ capacity → ⊥) → Err 10 ≡ answered (refusal (lent_checks capacity image table m))
       unfolding sized
       other_bytes ne = other_size (rw (ne_eqb (length m.bytes) capacity ne))
 
-      pub other_words : (length m.words ≡ capacity → ⊥) → Checked.Refused 10 ≡ answered (refusal (lent_checks capacity image table m))
+      pub other_words : (length m.words ≡ capacity → ⊥) → Err 10 ≡ answered (refusal (lent_checks capacity image table m))
       unfolding sized
       other_words ne = other_size (rw (ne_eqb (length m.words) capacity ne, and-false))
 
@@ -90,20 +92,20 @@ module _ (capacity : ℕ) (image table : List ℕ) {r : Checked} (check : r ≡ 
           ∙ ap (λ (k : ℕ). refusal ((described (read image) k (monitor_in head bytes words), 11) ∷ [])) (sym b)
 
       pub all_right : {a : Bool} → a ≡ described (read image) (length bytes) (monitor_in head bytes words) → a ≡ true
-          → Checked.Passed ≡ answered (refusal (lent_checks capacity image table (monitor_in head bytes words)))
+          → Ok tt ≡ answered (refusal (lent_checks capacity image table (monitor_in head bytes words)))
       unfolding answered
       all_right d t = sym (ap answered (last_check ∙ refusal_pass _ 11 [] (sym d ∙ t) ∙ refusal_nil))
 
       pub not_as_described : {a : Bool} → a ≡ described (read image) (length bytes) (monitor_in head bytes words) → a ≡ false
-          → Checked.Refused 11 ≡ answered (refusal (lent_checks capacity image table (monitor_in head bytes words)))
+          → Err 11 ≡ answered (refusal (lent_checks capacity image table (monitor_in head bytes words)))
       unfolding answered
       not_as_described d f = sym (ap answered (last_check ∙ refusal_head _ 11 [] (sym d ∙ f)))
 
 -- What the answer says.
-module _ (capacity : ℕ) (image table : List ℕ) (m : Monitor) {r : Checked}
-    (e : r ≡ answered (refusal (lent_checks capacity image table m))) where
-  pub lent_none : r ≡ Checked.Passed → Passed capacity image table m
-  lent_none p = answered_passed (refusal (lent_checks capacity image table m)) (sym e ∙ p)
+module _ (capacity : ℕ) (image table : List ℕ) (m : Monitor) {r : Result (Unit {0}) Refusal}
+    (e : numbered r ≡ answered (refusal (lent_checks capacity image table m))) where
+  pub lent_none : r ≡ Ok tt → Passed capacity image table m
+  lent_none p = answered_passed (refusal (lent_checks capacity image table m)) (sym e ∙ ap numbered p)
 
-  pub lent-some : {n : ℕ} → r ≡ Checked.Refused n → refusal (lent_checks capacity image table m) ≡ some n
-  lent-some {n} p = answered_refused (refusal (lent_checks capacity image table m)) n (sym e ∙ p)
+  pub lent-some : {x : Refusal} → r ≡ Err x → refusal (lent_checks capacity image table m) ≡ Some (number x)
+  lent-some {x} p = answered_refused (refusal (lent_checks capacity image table m)) (number x) (sym e ∙ ap numbered p)

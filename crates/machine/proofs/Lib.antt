@@ -20,7 +20,6 @@ pub mod CallTheorem
 pub mod FreshTheorem
 pub mod ListTheorem
 pub mod BatchTheorem
-pub mod AnswerKinds
 pub mod ByNumber
 pub mod AnswerNumbers
 pub mod Offering

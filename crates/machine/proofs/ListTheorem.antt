@@ -3,7 +3,7 @@
 use Prim.Native.Nat.{ℕ}
 use mathlib.Core.Path.{◌≡◌, refl, ap}
 use mathlib.Core.Bool.{Bool, true, false}
-use mathlib.Core.Option.{some}
+use Rattle.std.specs.Prelude.{Some, Err}
 use mathlib.Core.List.{List, [], ◌∷◌, ◌++◌, append-nil}
 use native.Mathlib.Omega.{arith}
 use lib.Dec.{ltb}
@@ -17,7 +17,7 @@ use Rattle.rewriting.proofs.Ranges.{ranges}
 use Rattle.rewriting.proofs.Redex.{non_empty, redex-none}
 use Rattle.rewriting.proofs.Rewrites.{put_bound}
 use Rattle.layout.specs.Image.{read, valid}
-use Rattle.layout.specs.Refusals.{refusal}
+use Rattle.layout.specs.Refusals.{refusal, refused_by}
 use Rattle.layout.proofs.Image.{valid-in_range}
 use Rattle.layout.proofs.Refusals.{refusal_append_some}
 use Rattle.layout.specs.Table.{table_of}
@@ -25,7 +25,7 @@ use Rattle.machine.specs.declared.Answer.{Answer}
 use Rattle.machine.specs.State.{empty, active}
 use Rattle.machine.specs.Run.{no_counts, plus, fits}
 use Rattle.machine.specs.Areas.{Monitor, head_of, monitor_of}
-use Rattle.machine.specs.Calls.{Call, Outcome, fresh_of, lent_checks, outcome, decided, call_of, refused_by, refusal_of}
+use Rattle.machine.specs.Calls.{Call, Outcome, fresh_of, lent_checks, outcome, decided, call_of, refusal_of}
 use Rattle.machine.specs.Play.{string_of, Log, no_calls, events_of, logged, play}
 use Rattle.machine.specs.Promise.{Agrees, Answered, Kept, AllRefused, Promise, DemandThree}
 use Rattle.machine.proofs.Logs.{after, play-after}
@@ -137,13 +137,13 @@ module _ (capacity : ℕ) (image table : List ℕ) (good : valid image ≡ true)
       }
 
 -- what is lent is refused at every call
-module _ (n capacity : ℕ) (image table : List ℕ) (m : Monitor) (fails : refusal (lent_checks capacity image table m) ≡ some n) where
+module _ (n capacity : ℕ) (image table : List ℕ) (m : Monitor) (fails : refusal (lent_checks capacity image table m) ≡ Some n) where
   refused_call : (c : Call) → call_of capacity image table m c ≡ refusal_of n m
   unfolding call_of decided outcome
   refused_call c = rw (refusal_append_some _ _ n fails)
 
   nothing : (calls : List Call) → play capacity image table (no_calls m) calls
-      ≡ record { monitor = m; events = []; answers = replicate (length calls) (Answer.Refused n); counts = no_counts }
+      ≡ record { monitor = m; events = []; answers = replicate (length calls) (Err n); counts = no_counts }
   unfolding play no_calls logged refused_by events_of plus no_counts after
   nothing [] = refl
   nothing (c ∷ calls) =

@@ -2,7 +2,7 @@
 -- Assumes nothing.
 use Prim.Native.Nat.{ℕ, ◌+◌, ◌-◌, ◌*◌, ◌≤◌, ◌<◌}
 use mathlib.Core.Path.{◌≡◌, refl, ap, ◌∙◌}
-use mathlib.Core.Option.{Option, none, some}
+use Rattle.std.specs.Prelude.{Option, None, Some}
 use mathlib.Core.List.{List, ◌∷◌}
 use native.Mathlib.Omega.{arith}
 use lib.Dec.{ltb}
@@ -22,15 +22,15 @@ use Rattle.machine.proofs.TableWords.{table_header, next_inside, table_next_in, 
 use Rattle.machine.proofs.Stepping.{Held, held, passed_valid, passed_table, word_before_lem, first_at}
 
 -- a match word tells the rule
-pub no_match_lem : (o : Option ℕ) (k : ℕ) → k ≡ match_word o → k ≡ 0 → o ≡ none
+pub no_match_lem : (o : Option ℕ) (k : ℕ) → k ≡ match_word o → k ≡ 0 → o ≡ None
 unfolding match_word
-no_match_lem none k e z = refl
-no_match_lem (some i) k e z = absurd (omega (arith, e, z))
+no_match_lem None k e z = refl
+no_match_lem (Some i) k e z = absurd (omega (arith, e, z))
 
-pub some_match : (o : Option ℕ) (k : ℕ) → k ≡ match_word o → (k ≡ 0 → ⊥) → o ≡ some (k - 1)
+pub some_match : (o : Option ℕ) (k : ℕ) → k ≡ match_word o → (k ≡ 0 → ⊥) → o ≡ Some (k - 1)
 unfolding match_word
-some_match none k e z = absurd (z e)
-some_match (some i) k e z = let n : i ≡ k - 1 = omega (arith, e) in ap some n
+some_match None k e z = absurd (z e)
+some_match (Some i) k e z = let n : i ≡ k - 1 = omega (arith, e) in ap Some n
 
 module _ (capacity : ℕ) (image table : List ℕ) (m : Monitor) (ok : Passed capacity image table m) (a : ℕ) (q : List ℕ) (w : (state_of m).waiting ≡ a ∷ q) where
   h : Held (read image) capacity m

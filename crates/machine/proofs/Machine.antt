@@ -4,7 +4,7 @@
 use Prim.Native.Nat.{ℕ, ◌*◌, ◌≤◌, ◌<◌}
 use mathlib.Core.Path.{◌≡◌, refl, ap}
 use mathlib.Core.Bool.{true}
-use mathlib.Core.Option.{Option, none, some}
+use Rattle.std.specs.Prelude.{Option, None, Some}
 use mathlib.Core.List.{List, [], ◌∷◌, ◌++◌, append_assoc}
 use native.Mathlib.Omega.{arith}
 use lib.ListN.{length}
@@ -14,7 +14,6 @@ use Rattle.rewriting.proofs.Ranges.{length_right, Ranges, rule_at_lem}
 use Rattle.layout.specs.States.{after, next, matching}
 use Rattle.layout.specs.Table.{match_word}
 use Rattle.layout.proofs.Table.{few_matching}
-use Rattle.machine.specs.declared.Standing.{Standing}
 use Rattle.machine.specs.declared.Counts.{Counts}
 use Rattle.machine.specs.State.{State, Step, active, replace, settle, step}
 use Rattle.machine.specs.Run.{no_counts, plus, counts_of}
@@ -23,11 +22,11 @@ use Rattle.machine.proofs.Sums.{none-plus, plus_none, plus_assoc}
 -- from s, steps with the counts c lead to a state: each finds no verdict and a waiting symbol
 pub data Reaches (rules : List Rule) (s : State) : Counts → State → Type 0 where
   Stay : Reaches rules s no_counts s
-  On : {c : Counts} {t : State} (a : ℕ) (q : List ℕ) → Reaches rules s c t → t.verdict ≡ Standing.None → t.waiting ≡ a ∷ q
+  On : {c : Counts} {t : State} (a : ℕ) (q : List ℕ) → Reaches rules s c t → t.verdict ≡ None → t.waiting ≡ a ∷ q
       → Reaches rules s (plus c (counts_of (step rules t.settled a q))) (step rules t.settled a q).to
 
 -- one step
-pub reaches_one : (rules : List Rule) (s : State) (a : ℕ) (q : List ℕ) → s.verdict ≡ Standing.None → s.waiting ≡ a ∷ q
+pub reaches_one : (rules : List Rule) (s : State) (a : ℕ) (q : List ℕ) → s.verdict ≡ None → s.waiting ≡ a ∷ q
     → Reaches rules s (counts_of (step rules s.settled a q)) (step rules s.settled a q).to
 reaches_one rules s a q v w =
     let t : Step = step rules s.settled a q in
@@ -49,8 +48,8 @@ replace_more s q e i (Close v) = refl
 
 settle_more : (rules : List Rule) (p q e : List ℕ) (m : Option ℕ) → settle rules p (q ++ e) m ≡ step_more (settle rules p q m) e
 unfolding settle step_more more active
-settle_more rules p q e none = refl
-settle_more rules p q e (some i) =
+settle_more rules p q e None = refl
+settle_more rules p q e (Some i) =
     replace_more (cut rules p i) q e i (rule rules i).right
 
 step_more_lem : (rules : List Rule) (s : List ℕ) (a : ℕ) (q e : List ℕ) → step rules s a (q ++ e) ≡ step_more (step rules s a q) e
@@ -92,8 +91,8 @@ step_counts set ranges s a q = go (matching set.rules there) refl
 
     go : (m : Option ℕ) → matching set.rules there ≡ m
         → ((settle set.rules p q m).rewrites ≤ 1) × ((settle set.rules p q m).put ≤ 8 * (settle set.rules p q m).rewrites)
-    go none e = (omega arith, omega arith)
-    go (some i) e =
+    go None e = (omega arith, omega arith)
+    go (Some i) e =
         let is-rule : i < length set.rules = rw e at (few_matching set.rules there) in
         let c : _ =
         replace_counts set (cut set.rules p i) q i (rule set.rules i).right

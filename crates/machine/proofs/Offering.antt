@@ -3,7 +3,7 @@
 use Prim.Native.Nat.{ℕ, suc, ◌+◌, ◌*◌, ◌≤◌, ◌<◌}
 use mathlib.Core.Path.{◌≡◌, refl, sym, ap, ◌∙◌, subst}
 use mathlib.Core.Bool.{Bool, true, false}
-use mathlib.Core.Option.{none, some}
+use Rattle.std.specs.Prelude.{None, Some}
 use mathlib.Core.List.{List, [], ◌∷◌, ◌++◌, append-nil}
 use native.Mathlib.Omega.{arith}
 use native.Mathlib.Nat.{suc-mul, mul-le-mul}
@@ -15,11 +15,11 @@ use borrow.Author.Tests.{eqb-true}
 use Rattle.rewriting.specs.Lists.{over}
 use Rattle.rewriting.proofs.Lists.{and_left, and_right, get_d_map}
 use Rattle.layout.specs.Image.{read}
-use Rattle.layout.specs.Refusals.{refusal}
+use Rattle.layout.specs.Refusals.{refusal, refused_by}
 use Rattle.machine.specs.declared.Counts.{Counts}
 use Rattle.machine.specs.Run.{no_counts, plus}
 use Rattle.machine.specs.Areas.{Monitor}
-use Rattle.machine.specs.Calls.{Call, GoOn, Outcome, sized, call_checks, decided, fuel_of, call_of, refused_by, refusal_of, answer_number}
+use Rattle.machine.specs.Calls.{Call, GoOn, Outcome, sized, call_checks, decided, fuel_of, call_of, refusal_of, answer_number}
 use Rattle.machine.specs.Batch.{Offers, stopped, and_then, in_turn, batched}
 use Rattle.machine.specs.Lent.{Passed, upon, offer_or_go_on, offers_or_goes_on}
 use Rattle.machine.specs.Promise.{Ended}
@@ -121,8 +121,8 @@ module _ {capacity : ℕ} {image table : List ℕ} {m : Monitor} {calls : List C
   module _ (room : length calls ≤ length answers) where
     -- No further call is accepted.
     offering_end : (x : ℕ) → in_turn capacity image table n (drop k calls) ≡ stopped x n
-        → record { refused = none; stop = x; accepted = k; counts = c; answers = b; monitor = n }
-        ≡ batched none m answers (in_turn capacity image table m calls)
+        → record { refused = None; stop = x; accepted = k; counts = c; answers = b; monitor = n }
+        ≡ batched None m answers (in_turn capacity image table m calls)
     unfolding batched behind stopped over
     offering_end x e =
         let short : k ≤ length b = omega (arith, now.few, now.size, room) in
@@ -132,8 +132,8 @@ module _ {capacity : ℕ} {image table : List ℕ} {m : Monitor} {calls : List C
 
     -- All are made.
     pub offering_all : length calls ≤ k
-        → record { refused = none; stop = 0; accepted = length calls; counts = c; answers = b; monitor = n }
-        ≡ batched none m answers (in_turn capacity image table m calls)
+        → record { refused = None; stop = 0; accepted = length calls; counts = c; answers = b; monitor = n }
+        ≡ batched None m answers (in_turn capacity image table m calls)
     unfolding in_turn
     offering_all h =
         let same : length calls ≡ k = omega (arith, h, now.few) in
@@ -145,9 +145,9 @@ module _ {capacity : ℕ} {image table : List ℕ} {m : Monitor} {calls : List C
       call = get_or calls k (GoOn 0)
 
       -- It is refused.
-      pub offering_refused : (x : ℕ) → refusal (call_checks (read image) (length n.bytes) n.head call) ≡ some x
-          → record { refused = none; stop = x; accepted = k; counts = c; answers = b; monitor = n }
-          ≡ batched none m answers (in_turn capacity image table m calls)
+      pub offering_refused : (x : ℕ) → refusal (call_checks (read image) (length n.bytes) n.head call) ≡ Some x
+          → record { refused = None; stop = x; accepted = k; counts = c; answers = b; monitor = n }
+          ≡ batched None m answers (in_turn capacity image table m calls)
       unfolding in_turn and_then refused_by
       offering_refused x e =
           let is : refusal_of x n ≡ call_of capacity image table n call =
@@ -182,7 +182,7 @@ module _ {capacity : ℕ} {image table : List ℕ} {m : Monitor} {calls : List C
         pub offering-number : answer_number o.answer < 256
         offering-number = rw is (answer_number-below capacity image table n call)
 
-        next_one : fuel_of call ≤ 4294967295 → refused_by one.answer ≡ none
+        next_one : fuel_of call ≤ 4294967295 → refused_by one.answer ≡ None
             → Offering capacity image table m calls answers one.monitor (set b k (answer_number one.answer)) (plus c one.counts) (suc k)
         unfolding in_turn and_then plus
         next_one h e =
@@ -212,7 +212,7 @@ module _ {capacity : ℕ} {image table : List ℕ} {m : Monitor} {calls : List C
               put = omega (arith, now.put, done.put);
             }
 
-        pub offering-next : fuel_of call ≤ 4294967295 → refused_by o.answer ≡ none
+        pub offering-next : fuel_of call ≤ 4294967295 → refused_by o.answer ≡ None
             → Offering capacity image table m calls answers o.monitor (set b k (answer_number o.answer)) o.counts (suc k)
         offering-next h e =
             subst (λ (x : Outcome). Offering capacity image table m calls answers x.monitor (set b k (answer_number x.answer)) x.counts (suc k))

@@ -3,7 +3,7 @@
 use Prim.Native.Nat.{ℕ, zero, suc, ◌+◌, ◌-◌, ◌*◌, ◌≤◌, ◌<◌}
 use mathlib.Core.Path.{◌≡◌, refl, sym, ap, ◌∙◌, subst}
 use mathlib.Core.Bool.{Bool, true, false, cond}
-use mathlib.Core.Option.{none}
+use Rattle.std.specs.Prelude.{None, Some, Ok}
 use mathlib.Core.List.{List, [], ◌∷◌}
 use native.Mathlib.Omega.{arith}
 use native.Mathlib.Nat.{add-zero}
@@ -14,7 +14,6 @@ use Rattle.rewriting.proofs.Ranges.{Ranges, ranges}
 use Rattle.layout.specs.Image.{read, valid}
 use Rattle.layout.proofs.Image.{valid-in_range}
 use Rattle.layout.specs.Table.{table_of}
-use Rattle.machine.specs.declared.Standing.{Standing}
 use Rattle.machine.specs.Areas.{Head, Monitor, monitor_of, state_of}
 use Rattle.machine.specs.declared.Answer.{Answer}
 use Rattle.machine.specs.declared.Counts.{Counts}
@@ -31,24 +30,24 @@ use Rattle.machine.proofs.Calls.{Holding, holding_passes}
 use Rattle.machine.proofs.Stepping.{Held, held, passed_valid, passed_table, passed_written, zero-rule, waits}
 
 -- The tests of a run, one by one.
-run_verdict : (rules : List Rule) (capacity fuel : ℕ) (s : State) (v : ℕ) → s.verdict ≡ Standing.Verdict v
+run_verdict : (rules : List Rule) (capacity fuel : ℕ) (s : State) (v : ℕ) → s.verdict ≡ Some v
     → run rules capacity fuel s ≡ ended (Answer.Verdict v) s
 unfolding run tests
 run_verdict rules capacity zero s v e = rw e
 run_verdict rules capacity (suc fuel) s v e = rw e
 
-run_quiet : (rules : List Rule) (capacity fuel : ℕ) (s : State) → s.verdict ≡ Standing.None → s.waiting ≡ []
+run_quiet : (rules : List Rule) (capacity fuel : ℕ) (s : State) → s.verdict ≡ None → s.waiting ≡ []
     → run rules capacity fuel s ≡ ended Answer.Quiet s
 unfolding run tests
 run_quiet rules capacity zero s e w = rw (e, w)
 run_quiet rules capacity (suc fuel) s e w = rw (e, w)
 
-run_spent : (rules : List Rule) (capacity : ℕ) (s : State) (a : ℕ) (q : List ℕ) → s.verdict ≡ Standing.None → s.waiting ≡ a ∷ q
+run_spent : (rules : List Rule) (capacity : ℕ) (s : State) (a : ℕ) (q : List ℕ) → s.verdict ≡ None → s.waiting ≡ a ∷ q
     → run rules capacity 0 s ≡ ended Answer.Spent s
 unfolding run tests
 run_spent rules capacity s a q e w = rw (e, w)
 
-run_step : (rules : List Rule) (capacity fuel : ℕ) (s : State) (a : ℕ) (q : List ℕ) → s.verdict ≡ Standing.None → s.waiting ≡ a ∷ q
+run_step : (rules : List Rule) (capacity fuel : ℕ) (s : State) (a : ℕ) (q : List ℕ) → s.verdict ≡ None → s.waiting ≡ a ∷ q
     → run rules capacity (suc fuel) s ≡ proceed capacity s (step_of rules s) (run rules capacity fuel)
 unfolding run tests step_waiting
 run_step rules capacity fuel s a q e w = rw (e, w)
@@ -131,7 +130,7 @@ so_far c fuel left rewrites put = record { steps = c.steps + (fuel - left); rewr
 
 -- the head of the same counts with no verdict
 abbrev pub opened : Head → Head
-opened head = record { settled = head.settled; waiting = head.waiting; verdict = Standing.None; rule = 0 }
+opened head = record { settled = head.settled; waiting = head.waiting; verdict = None; rule = 0 }
 
 -- the loop's invariant: c₀ are the counts before the run
 pub record Running (image table bytes₀ words₀ : List ℕ) (fuel : ℕ) (c₀ : Counts) (head₀ : Head) (bytes words : List ℕ) (head : Head)
@@ -170,7 +169,7 @@ module _ {image table bytes₀ words₀ : List ℕ} {fuel : ℕ} {c₀ : Counts}
   facts = held (length bytes₀) image table (monitor_in head bytes words) k.passed
 
   -- with no verdict the rule is 0
-  pub running_open : head.verdict ≡ Standing.None
+  pub running_open : head.verdict ≡ None
       → Running image table bytes₀ words₀ fuel c₀ head₀ bytes words (opened head) left rewrites put
   running_open e =
       let z : head.rule ≡ 0 = zero-rule (length bytes₀) image table (monitor_in head bytes words) k.passed e in
@@ -180,8 +179,8 @@ module _ {image table bytes₀ words₀ : List ℕ} {fuel : ℕ} {c₀ : Counts}
   -- The run ends here.
   ended_here : (answer : Answer)
       → run (read image).rules (length bytes₀) left (state_of (monitor_in head bytes words)) ≡ ended answer (state_of (monitor_in head bytes words))
-      → ◌≡◌ {A = Outcome} (record { answer = answer; counts = so_far c₀ fuel left rewrites put; monitor = monitor_in head bytes words })
-      (upon c₀ (outcome (read image) (length bytes₀) (monitor_in head₀ bytes₀ words₀) none
+      → ◌≡◌ {A = Outcome} (record { answer = Ok answer; counts = so_far c₀ fuel left rewrites put; monitor = monitor_in head bytes words })
+      (upon c₀ (outcome (read image) (length bytes₀) (monitor_in head₀ bytes₀ words₀) None
       (run (read image).rules (length bytes₀) fuel (state_of (monitor_in head₀ bytes₀ words₀)))))
   unfolding outcome ended
   ended_here answer e =
@@ -192,13 +191,13 @@ module _ {image table bytes₀ words₀ : List ℕ} {fuel : ℕ} {c₀ : Counts}
       in
       let whole : ahead c₀ r ≡ ahead c (ended answer (state_of (monitor_in head bytes words))) = k.rest ∙ ap (ahead c) e in
       sym
-      (ap (λ (x : Run). outcome (read image) (length bytes₀) (monitor_in head₀ bytes₀ words₀) none x) whole
-      ∙ (λ i. record { answer = answer; counts = plus_none c i; monitor = written i }))
+      (ap (λ (x : Run). outcome (read image) (length bytes₀) (monitor_in head₀ bytes₀ words₀) None x) whole
+      ∙ (λ i. record { answer = Ok answer; counts = plus_none c i; monitor = written i }))
 
   -- A verdict stands: the answer's number is 16 or more.
   pub verdict_ends : (n : ℕ) → 16 ≤ n → head.verdict ≡ standing_after n
-      → ◌≡◌ {A = Outcome} (record { answer = answer_from n; counts = so_far c₀ fuel left rewrites put; monitor = monitor_in head bytes words })
-      (upon c₀ (outcome (read image) (length bytes₀) (monitor_in head₀ bytes₀ words₀) none
+      → ◌≡◌ {A = Outcome} (record { answer = Ok (answer_from n); counts = so_far c₀ fuel left rewrites put; monitor = monitor_in head bytes words })
+      (upon c₀ (outcome (read image) (length bytes₀) (monitor_in head₀ bytes₀ words₀) None
       (run (read image).rules (length bytes₀) fuel (state_of (monitor_in head₀ bytes₀ words₀)))))
   unfolding state_of
   verdict_ends n h e =
@@ -206,9 +205,9 @@ module _ {image table bytes₀ words₀ : List ℕ} {fuel : ℕ} {c₀ : Counts}
       (run_verdict (read image).rules (length bytes₀) left (state_of (monitor_in head bytes words)) (n - 16) (e ∙ stands_from n h)
       ∙ ap (λ (a : Answer). ended a (state_of (monitor_in head bytes words))) (sym (verdict_from n h)))
 
-  pub quiet_ends : head.verdict ≡ Standing.None → head.waiting ≡ 0
-      → ◌≡◌ {A = Outcome} (record { answer = Answer.Quiet; counts = so_far c₀ fuel left rewrites put; monitor = monitor_in head bytes words })
-      (upon c₀ (outcome (read image) (length bytes₀) (monitor_in head₀ bytes₀ words₀) none
+  pub quiet_ends : head.verdict ≡ None → head.waiting ≡ 0
+      → ◌≡◌ {A = Outcome} (record { answer = Ok Answer.Quiet; counts = so_far c₀ fuel left rewrites put; monitor = monitor_in head bytes words })
+      (upon c₀ (outcome (read image) (length bytes₀) (monitor_in head₀ bytes₀ words₀) None
       (run (read image).rules (length bytes₀) fuel (state_of (monitor_in head₀ bytes₀ words₀)))))
   unfolding state_of
   quiet_ends e z =
@@ -220,17 +219,17 @@ module _ {image table bytes₀ words₀ : List ℕ} {fuel : ℕ} {c₀ : Counts}
       empty [] p = refl
       empty (x ∷ l) p = absurd (omega arith)
 
-  pub spent_ends : head.verdict ≡ Standing.None → 0 < head.waiting → left ≡ 0
+  pub spent_ends : head.verdict ≡ None → 0 < head.waiting → left ≡ 0
       → ◌≡◌ {A = Outcome}
-      (record { answer = Answer.Spent; counts = record { steps = c₀.steps + fuel; rewrites = rewrites; put = put }; monitor = monitor_in head bytes words })
-      (upon c₀ (outcome (read image) (length bytes₀) (monitor_in head₀ bytes₀ words₀) none
+      (record { answer = Ok Answer.Spent; counts = record { steps = c₀.steps + fuel; rewrites = rewrites; put = put }; monitor = monitor_in head bytes words })
+      (upon c₀ (outcome (read image) (length bytes₀) (monitor_in head₀ bytes₀ words₀) None
       (run (read image).rules (length bytes₀) fuel (state_of (monitor_in head₀ bytes₀ words₀)))))
   unfolding state_of
   spent_ends e z l =
       let w = waits (read image) (length bytes₀) (monitor_in head bytes words) facts z in
       let all : fuel ≡ fuel - left = omega (arith, l) in
       ap (λ (n : ℕ). record {
-        answer = Answer.Spent;
+        answer = Ok Answer.Spent;
         counts = record { steps = c₀.steps + n; rewrites = rewrites; put = put };
         monitor = monitor_in head bytes words;
       }) all
@@ -238,16 +237,16 @@ module _ {image table bytes₀ words₀ : List ℕ} {fuel : ℕ} {c₀ : Counts}
       (rw l (run_spent (read image).rules (length bytes₀) (state_of (monitor_in head bytes words)) w.0 w.1 e w.2)))
 
   -- A step is tried. It does not fit, ..
-  pub full_ends : head.verdict ≡ Standing.None → 0 < head.waiting → (left ≡ 0 → ⊥) → (to : Tried) → to.taken ≡ false
+  pub full_ends : head.verdict ≡ None → 0 < head.waiting → (left ≡ 0 → ⊥) → (to : Tried) → to.taken ≡ false
       → to
       ≡ added_to rewrites put
       (tried (read image).rules (length bytes) (monitor_in head bytes words) (step_of (read image).rules (state_of (monitor_in head bytes words))))
       → ◌≡◌ {A = Outcome} (record {
-        answer = Answer.Full;
+        answer = Ok Answer.Full;
         counts = so_far c₀ fuel left rewrites put;
         monitor = monitor_in head to.monitor.bytes to.monitor.words;
       })
-      (upon c₀ (outcome (read image) (length bytes₀) (monitor_in head₀ bytes₀ words₀) none
+      (upon c₀ (outcome (read image) (length bytes₀) (monitor_in head₀ bytes₀ words₀) None
       (run (read image).rules (length bytes₀) fuel (state_of (monitor_in head₀ bytes₀ words₀)))))
   unfolding state_of proceed
   full_ends e z l to untaken t =
@@ -262,12 +261,12 @@ module _ {image table bytes₀ words₀ : List ℕ} {fuel : ℕ} {c₀ : Counts}
       ∙ rw u.0
       in
       ap
-      (λ (x : Monitor). record { answer = Answer.Full; counts = so_far c₀ fuel left rewrites put; monitor = monitor_in head x.bytes x.words })
+      (λ (x : Monitor). record { answer = Ok Answer.Full; counts = so_far c₀ fuel left rewrites put; monitor = monitor_in head x.bytes x.words })
       u.1
       ∙ ended_here Answer.Full here
 
   -- .. or the run goes on.
-  pub running_next : head.verdict ≡ Standing.None → 0 < head.waiting → (left ≡ 0 → ⊥) → (to : Tried) → to.taken ≡ true
+  pub running_next : head.verdict ≡ None → 0 < head.waiting → (left ≡ 0 → ⊥) → (to : Tried) → to.taken ≡ true
       → to
       ≡ added_to rewrites put
       (tried (read image).rules (length bytes) (monitor_in head bytes words) (step_of (read image).rules (state_of (monitor_in head bytes words))))
@@ -360,18 +359,18 @@ module _ {image table bytes₀ words₀ : List ℕ} {fuel : ℕ} {c₀ : Counts}
 
 -- A run that has nothing to do.
 pub quiet_at_once : (image table bytes words : List ℕ) (fuel : ℕ) (c₀ : Counts) (head : Head) → Passed (length bytes) image table (monitor_in head bytes words)
-    → head.verdict ≡ Standing.None → head.waiting ≡ 0
+    → head.verdict ≡ None → head.waiting ≡ 0
     → ◌≡◌ {A = Outcome} (record {
-      answer = Answer.Quiet;
+      answer = Ok Answer.Quiet;
       counts = record { steps = c₀.steps + 0; rewrites = c₀.rewrites; put = c₀.put };
       monitor = monitor_in head bytes words;
     })
-    (upon c₀ (outcome (read image) (length bytes) (monitor_in head bytes words) none
+    (upon c₀ (outcome (read image) (length bytes) (monitor_in head bytes words) None
     (run (read image).rules (length bytes) fuel (state_of (monitor_in head bytes words)))))
 quiet_at_once image table bytes words fuel c₀ head ok e z =
     let n : 0 ≡ fuel - fuel = omega arith in
     (λ i. record {
-      answer = Answer.Quiet;
+      answer = Ok Answer.Quiet;
       counts = record { steps = c₀.steps + n i; rewrites = c₀.rewrites; put = c₀.put };
       monitor = monitor_in head bytes words;
     })

@@ -4,7 +4,7 @@
 use Prim.Native.Nat.{ℕ, zero, suc, ◌+◌, ◌*◌, ◌-◌, ◌≤◌, ◌<◌}
 use mathlib.Core.Path.{◌≡◌, refl, sym, ap, ◌∙◌}
 use mathlib.Core.Bool.{true}
-use mathlib.Core.Option.{Option, none, some}
+use Rattle.std.specs.Prelude.{Option, None, Some}
 use mathlib.Core.List.{List, [], ◌∷◌, ◌++◌, map-append}
 use native.Mathlib.Numerals.{add-one}
 use native.Mathlib.Omega.{arith}
@@ -32,13 +32,13 @@ word_before_lem words (suc i) h = let e : suc i - 1 ≡ i = omega arith in rw e
 
 match_none : (m : Option ℕ) → match_word m ≡ 0 → no_match m ≡ true
 unfolding match_word no_match
-match_none none e = refl
-match_none (some i) e = absurd (omega (arith, e))
+match_none None e = refl
+match_none (Some i) e = absurd (omega (arith, e))
 
 none_match : (m : Option ℕ) → no_match m ≡ true → match_word m ≡ 0
 unfolding match_word no_match
-none_match none e = refl
-none_match (some i) e = let z : ◌≡◌ {A = ℕ} 0 1 = cc in absurd (omega arith)
+none_match None e = refl
+none_match (Some i) e = let z : ◌≡◌ {A = ℕ} 0 1 = cc in absurd (omega arith)
 
 settled_snoc : (set : RuleSet) (s w : List ℕ) (a x : ℕ) → Settled set s w → a < set.symbols
     → x ≡ number (states set.rules) (next set.rules (after set.rules s) a)

@@ -4,7 +4,7 @@
 use Prim.Native.Nat.{ℕ, suc, ◌+◌}
 use mathlib.Core.Path.{◌≡◌, refl}
 use mathlib.Core.Bool.{true}
-use mathlib.Core.Option.{Option, none, some}
+use Rattle.std.specs.Prelude.{Option, None, Some}
 use mathlib.Core.List.{List, [], ◌∷◌, ◌++◌}
 use native.Mathlib.Omega.{arith}
 use native.Mathlib.Numerals.{add-one}
@@ -19,11 +19,9 @@ use Rattle.rewriting.proofs.Ranges.{Ranges}
 use Rattle.rewriting.proofs.Scan.{redex_found}
 use Rattle.rewriting.proofs.Rewrites.{rewrites_one_more}
 use Rattle.layout.proofs.Matching.{Plain, matching-next}
-use Rattle.machine.specs.declared.Standing.{Standing}
 use Rattle.machine.specs.declared.Counts.{Counts}
 use Rattle.machine.specs.State.{State, active, replace, settle, step}
 use Rattle.machine.specs.Run.{no_counts, plus, counts_of}
-use Rattle.machine.specs.Play.{verdict_of}
 use Rattle.machine.proofs.Machine.{Reaches, Stay, On}
 use Rattle.machine.proofs.Legal.{Legal, legal_waiting, legal_plain, legal_reaches}
 
@@ -31,14 +29,14 @@ use Rattle.machine.proofs.Legal.{Legal, legal_waiting, legal_plain, legal_reache
 pub record Faithful (rules : List Rule) (w : List ℕ) (c : Counts) (t : State) : Type 0 where
   -- the rewriter makes as many rewrites, holds the same string and verdict, and has put in as many symbols
   pub rewriter : rewrites rules c.rewrites (fed w)
-      ≡ some (record { string = t.settled ++ t.waiting; verdict = verdict_of t.verdict; put = c.put })
+      ≡ Some (record { string = t.settled ++ t.waiting; verdict = t.verdict; put = c.put })
   -- each symbol that came, as an event or put back, was taken by a step or still waits
   pub balance : c.steps + length t.waiting ≡ length w + c.put
 
 module _ (rules : List Rule) (w : List ℕ) (c : Counts) (s : List ℕ) (a : ℕ) (q : List ℕ) (f : Faithful rules w c (active s (a ∷ q))) where
   -- no left side ends with a: the rewriter does nothing
-  faithful_none : Faithful rules w (plus c (counts_of (settle rules (s ++ a ∷ []) q none))) (settle rules (s ++ a ∷ []) q none).to
-  unfolding settle active plus counts_of verdict_of
+  faithful_none : Faithful rules w (plus c (counts_of (settle rules (s ++ a ∷ []) q None))) (settle rules (s ++ a ∷ []) q None).to
+  unfolding settle active plus counts_of
   faithful_none =
       record {
         rewriter = simp (add-zero, append_snoc) f.rewriter;
@@ -46,19 +44,19 @@ module _ (rules : List Rule) (w : List ℕ) (c : Counts) (s : List ℕ) (a : ℕ
       }
 
   -- rule i's left side ends with a: it is the rewriter's redex
-  faithful_some : (i : ℕ) → redex rules s ≡ none → ending rules true (s ++ a ∷ []) ≡ some i
-      → Faithful rules w (plus c (counts_of (settle rules (s ++ a ∷ []) q (some i)))) (settle rules (s ++ a ∷ []) q (some i)).to
-  unfolding settle active plus counts_of replace rewrite unless_verdict replaced ending_at verdict_of
+  faithful_some : (i : ℕ) → redex rules s ≡ None → ending rules true (s ++ a ∷ []) ≡ Some i
+      → Faithful rules w (plus c (counts_of (settle rules (s ++ a ∷ []) q (Some i)))) (settle rules (s ++ a ∷ []) q (Some i)).to
+  unfolding settle active plus counts_of replace rewrite unless_verdict replaced ending_at
   faithful_some i clean e = go (rule rules i).right refl
     where
       kept : List ℕ
       kept = cut rules (s ++ a ∷ []) i
 
       rewritten : rewrites rules (c.rewrites + 1) (fed w)
-          ≡ some (replaced c.put (ending_at rules (s ++ a ∷ []) q i) (rule rules i).right)
+          ≡ Some (replaced c.put (ending_at rules (s ++ a ∷ []) q i) (rule rules i).right)
       rewritten =
           rw add-one
-          (rewrites_one_more rules c.rewrites (fed w) (record { string = s ++ a ∷ q; verdict = none; put = c.put })
+          (rewrites_one_more rules c.rewrites (fed w) (record { string = s ++ a ∷ q; verdict = None; put = c.put })
           (replaced c.put (ending_at rules (s ++ a ∷ []) q i) (rule rules i).right) f.rewriter
           (rw (redex_found rules s a q i clean e)))
 
@@ -76,8 +74,8 @@ module _ (rules : List Rule) (w : List ℕ) (c : Counts) (s : List ℕ) (a : ℕ
           }
 
 -- a step
-faithful_step : (rules : List Rule) (w : List ℕ) (c : Counts) (t : State) (a : ℕ) (q : List ℕ) → t.verdict ≡ Standing.None
-    → t.waiting ≡ a ∷ q → redex rules t.settled ≡ none → Plain (t.settled ++ a ∷ []) → Faithful rules w c t
+faithful_step : (rules : List Rule) (w : List ℕ) (c : Counts) (t : State) (a : ℕ) (q : List ℕ) → t.verdict ≡ None
+    → t.waiting ≡ a ∷ q → redex rules t.settled ≡ None → Plain (t.settled ++ a ∷ []) → Faithful rules w c t
     → Faithful rules w (plus c (counts_of (step rules t.settled a q))) (step rules t.settled a q).to
 unfolding step active
 faithful_step rules w c t a q v h clean plain f = rw (matching-next rules t.settled a plain) (go (ending rules true p) refl)
@@ -90,13 +88,13 @@ faithful_step rules w c t a q v h clean plain f = rw (matching-next rules t.sett
 
     go : (m : Option ℕ) → ending rules true p ≡ m
         → Faithful rules w (plus c (counts_of (settle rules p q m))) (settle rules p q m).to
-    go none e = faithful_none rules w c t.settled a q here
-    go (some i) e = faithful_some rules w c t.settled a q here i clean e
+    go None e = faithful_none rules w c t.settled a q here
+    go (Some i) e = faithful_some rules w c t.settled a q here i clean e
 
 -- any steps
 pub faithful : (set : RuleSet) → Ranges set → (w : List ℕ) → below set.symbols w ≡ true → {c : Counts} {t : State}
     → Reaches set.rules (active [] w) c t → Faithful set.rules w c t
-unfolding active no_counts rewrites fed verdict_of
+unfolding active no_counts rewrites fed
 faithful set ranges w h Stay = record { rewriter = refl; balance = omega arith }
 faithful set ranges w h (On {c = c} {t = t} a q r v e) =
     let f : Legal set t = legal_reaches set ranges r (legal_waiting set w h) in

@@ -3,7 +3,7 @@
 use Prim.Native.Nat.{ℕ, zero, suc, ◌+◌, ◌-◌, ◌≤◌, ◌<◌}
 use mathlib.Core.Path.{◌≡◌, refl, sym, ap, ◌∙◌}
 use mathlib.Core.Bool.{true, false, not}
-use mathlib.Core.Option.{none, some}
+use Rattle.std.specs.Prelude.{None, Some, Option}
 use mathlib.Core.List.{List, [], ◌∷◌, ◌++◌, map, map-append}
 use native.Mathlib.Omega.{arith}
 use lib.Dec.{eqb}
@@ -22,7 +22,6 @@ use Rattle.layout.specs.States.{states, number, mark, after, next, matching}
 use Rattle.layout.specs.Table.{table_of}
 use Rattle.layout.proofs.Matching.{matching-next}
 use Rattle.layout.proofs.States.{number_start}
-use Rattle.machine.specs.declared.Standing.{Standing}
 use Rattle.machine.specs.State.{State, Step, active, replace, settle, step}
 use Rattle.machine.specs.Run.{fits}
 use Rattle.machine.specs.Areas.{Monitor, head_of, area_of, bytes_of, states_after, words_of, monitor_of, state_of, stands_by, described}
@@ -102,7 +101,7 @@ module _ (capacity : ℕ) (image table : List ℕ) (m : Monitor) (ok : Passed ca
   passed_written = (is-described (read image) passed_ranges capacity m passed_sized passed_described).written
 
   -- "that verdict's rule (0 with none)"
-  pub zero-rule : m.head.verdict ≡ Standing.None → m.head.rule ≡ 0
+  pub zero-rule : m.head.verdict ≡ None → m.head.rule ≡ 0
   unfolding stands_by state_of
   zero-rule e = eqb-true m.head.rule 0 (rw e at held.legal.stands)
 
@@ -142,7 +141,7 @@ words_cut rules s k =
     ∙ ap (map (number (states rules))) (states-cut rules (after rules []) s k)
 
 -- the monitor that holds a state, part by part
-pub holds-state : (rules : List Rule) (capacity : ℕ) (s q : List ℕ) (v : Standing) (i settled waiting : ℕ) (bytes words : List ℕ)
+pub holds-state : (rules : List Rule) (capacity : ℕ) (s q : List ℕ) (v : Option ℕ) (i settled waiting : ℕ) (bytes words : List ℕ)
     → settled ≡ length s → waiting ≡ length q → bytes ≡ area_of capacity s q → words ≡ area_of capacity (words_after rules s) []
     → monitor_in (record { settled = settled; waiting = waiting; verdict = v; rule = i }) bytes words
     ≡ monitor_of rules capacity (record { settled = s; waiting = q; verdict = v; rule = i })
@@ -208,14 +207,14 @@ length-next s a e = rw length-append (omega arith)
 
 -- it does not complete a left side: it is settled
 pub settled_step : (set : RuleSet) (capacity : ℕ) (m : Monitor) → Held set capacity m → (a : ℕ) (q : List ℕ)
-    → (state_of m).waiting ≡ a ∷ q → matching set.rules (next set.rules (after set.rules (state_of m).settled) a) ≡ none
+    → (state_of m).waiting ≡ a ∷ q → matching set.rules (next set.rules (after set.rules (state_of m).settled) a) ≡ None
     → (first word : ℕ) → first ≡ capacity - m.head.waiting
     → word ≡ number (states set.rules) (next set.rules (after set.rules (state_of m).settled) a)
     → ◌≡◌ {A = Tried}
     (record {
       taken = true;
       monitor =
-          monitor_in (record { settled = m.head.settled + 1; waiting = m.head.waiting - 1; verdict = Standing.None; rule = 0 })
+          monitor_in (record { settled = m.head.settled + 1; waiting = m.head.waiting - 1; verdict = None; rule = 0 })
           (ListN.set (ListN.set m.bytes first 0) m.head.settled a) (ListN.set m.words m.head.settled word);
       rewrites = 0;
       put = 0;
@@ -226,7 +225,7 @@ settled_step set capacity m h a q w e first word place is_word =
     rw (step_waiting_lem set capacity m h a q w, e)
     (tried-taken set.rules capacity m (record { to = active (s ++ a ∷ []) q; rewrites = 0; put = 0 }) _ 0 0
     (rw length-append (omega (arith, room)))
-    (holds-state set.rules capacity (s ++ a ∷ []) q Standing.None 0 (m.head.settled + 1) (m.head.waiting - 1) _ _
+    (holds-state set.rules capacity (s ++ a ∷ []) q None 0 (m.head.settled + 1) (m.head.waiting - 1) _ _
     (length-next s a h.settled_count) (omega (arith, first_place set capacity m h a q w)) bytes words)
     refl refl)
   where
@@ -252,7 +251,7 @@ settled_step set capacity m h a q w e first word place is_word =
         (ap (λ (x : ℕ). words_after set.rules s ++ x ∷ []) is_word ∙ sym (words_snoc set.rules s a))
 
 -- It completes the left side of rule i.
-module _ (set : RuleSet) (capacity : ℕ) (m : Monitor) (h : Held set capacity m) (i : ℕ) (e : Matches set.rules (state_of m) (some i)) where
+module _ (set : RuleSet) (capacity : ℕ) (m : Monitor) (h : Held set capacity m) (i : ℕ) (e : Matches set.rules (state_of m) (Some i)) where
   completed : EndsWith set.rules true ((state_of m).settled ++ e.0 ∷ []) i
   completed =
       let plain = legal_plain set h.in_range_lem (state_of m) e.0 e.1 e.2 h.legal in
@@ -325,7 +324,7 @@ module _ (set : RuleSet) (capacity : ℕ) (m : Monitor) (h : Held set capacity m
       → ◌≡◌ {A = Tried}
       (record {
         taken = true;
-        monitor = monitor_in (record { settled = kept; waiting = waiting; verdict = Standing.None; rule = 0 }) bytes' words;
+        monitor = monitor_in (record { settled = kept; waiting = waiting; verdict = None; rule = 0 }) bytes' words;
         rewrites = 1;
         put = n;
       })
@@ -340,7 +339,7 @@ module _ (set : RuleSet) (capacity : ℕ) (m : Monitor) (h : Held set capacity m
       rw (replaced kept t.kept_is, r)
       (tried-taken set.rules capacity m (record { to = active s (v ++ e.1); rewrites = 1; put = length v }) _ 1 n
       (rw (length-append v e.1) (omega (arith, all, short, nv)))
-      (holds-state set.rules capacity s (v ++ e.1) Standing.None 0 kept _ _ _ (sym short)
+      (holds-state set.rules capacity s (v ++ e.1) None 0 kept _ _ _ (sym short)
       (waits_is ∙ rw (length-append v e.1) (omega (arith, w, nv)))
       (put_is
       ∙ (λ k. paste (bytes_off t k) (place k) b n)
@@ -383,8 +382,8 @@ module _ (set : RuleSet) (capacity : ℕ) (m : Monitor) (h : Held set capacity m
       let short : length s ≡ kept = kept_length t in
       rw (replaced kept t.kept_is, r, stands_after v, verdict_taken v)
       (tried-taken set.rules capacity m
-      (record { to = record { settled = s; waiting = e.1; verdict = Standing.Verdict v; rule = i }; rewrites = 1; put = 0 }) _ 1 0
+      (record { to = record { settled = s; waiting = e.1; verdict = Some v; rule = i }; rewrites = 1; put = 0 }) _ 1 0
       (omega (arith, room, short, kept_short t, h.settled_count))
-      (holds-state set.rules capacity s e.1 (Standing.Verdict v) i kept (m.head.waiting - 1) _ _ (sym short) (omega (arith, w)) (bytes_off t)
+      (holds-state set.rules capacity s e.1 (Some v) i kept (m.head.waiting - 1) _ _ (sym short) (omega (arith, w)) (bytes_off t)
       (words_off t))
       refl refl)

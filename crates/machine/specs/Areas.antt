@@ -1,10 +1,8 @@
 -- A monitor as its owner keeps it: a head, an area of bytes and an area of words. Document 01's 2,048 is the capacity here.
-use Rattle.std.specs.Prelude.{ℕ, ◌+◌, ◌-◌, Bool, true, false, ◌&&◌, List, [], ◌∷◌, ◌++◌, map, eqb, leb, ltb, length, take, drop, replicate}
-use Rattle.std.proofs.Math.Option.{Option, none, some}
+use Rattle.std.specs.Prelude.{ℕ, ◌+◌, ◌-◌, Bool, true, false, ◌&&◌, List, [], ◌∷◌, ◌++◌, map, eqb, leb, ltb, length, take, drop, replicate, Option, None, Some}
 use Rattle.rewriting.specs.Lists.{all, same, below}
 use Rattle.rewriting.specs.Rules.{Right, Put, Close, Rule, RuleSet, rule}
 use Rattle.layout.specs.States.{states, number, after, next, matching}
-use Rattle.machine.specs.declared.Standing.{Standing}
 use Rattle.machine.specs.State.{State}
 
 -- document 01's capacity
@@ -15,7 +13,7 @@ document_capacity = 2048
 pub record Head : Type 0 where
   pub settled : ℕ
   pub waiting : ℕ
-  pub verdict : Standing
+  pub verdict : Option ℕ
   pub rule : ℕ
 
 -- "Its head is a value .. Its areas are 2,048 bytes and 2,048 words."
@@ -66,8 +64,8 @@ state_of m =
 
 -- the match word is 0
 unfoldable pub no_match : Option ℕ → Bool
-no_match none = true
-no_match (some i) = false
+no_match None = true
+no_match (Some i) = false
 
 -- no settled state has a match
 unfoldable pub unmatched : List Rule → List ℕ → Bool
@@ -79,9 +77,9 @@ closes_with v (Put u) = false
 closes_with v (Close u) = eqb v u
 
 -- the verdict is that of its rule; with none the rule is 0
-unfoldable pub stands_by : List Rule → Standing → ℕ → Bool
-stands_by rules Standing.None i = eqb i 0
-stands_by rules (Standing.Verdict v) i = ltb i (length rules) && closes_with v (rule rules i).right
+unfoldable pub stands_by : List Rule → Option ℕ → ℕ → Bool
+stands_by rules None i = eqb i 0
+stands_by rules (Some v) i = ltb i (length rules) && closes_with v (rule rules i).right
 
 -- the monitor m holds the state s as described, and s may be held: "a + w at most 2,048", "Every symbol held is below S.",
 -- the bytes, the words, no settled match, the verdict that of its rule

@@ -1,12 +1,11 @@
 -- Batch, as a function of all that is lent to it.
-use Rattle.std.specs.Prelude.{ℕ, ◌&&◌, List, [], ◌∷◌, ◌++◌, leb, length}
-use Rattle.std.proofs.Math.Option.{Option, none, some}
+use Rattle.std.specs.Prelude.{ℕ, ◌&&◌, List, [], ◌∷◌, ◌++◌, leb, length, Option, None, Some}
 use Rattle.rewriting.specs.Lists.{over}
-use Rattle.layout.specs.Refusals.{Check, refusal}
+use Rattle.layout.specs.Refusals.{Check, refusal, refused_by}
 use Rattle.machine.specs.declared.Counts.{Counts}
 use Rattle.machine.specs.Run.{no_counts, plus}
 use Rattle.machine.specs.Areas.{Monitor}
-use Rattle.machine.specs.Calls.{Call, Outcome, lent_checks, fuel_check, call_of, refused_by, answer_number}
+use Rattle.machine.specs.Calls.{Call, Outcome, lent_checks, fuel_check, call_of, answer_number}
 use Rattle.machine.specs.Play.{offers_of}
 
 -- Offers, or other calls, one after another: what stopped them (0: nothing did), an answer byte for each accepted, the summed counts, and
@@ -23,8 +22,8 @@ stopped n m = record { stop = n; answers = []; counts = no_counts; monitor = m }
 
 -- the call with outcome o, and then the others, unless o is a refusal
 unfoldable pub and_then : Outcome → Option ℕ → (Monitor → Offers) → Offers
-and_then o (some n) others = stopped n o.monitor
-and_then o none others =
+and_then o (Some n) others = stopped n o.monitor
+and_then o None others =
     let rest : Offers = others o.monitor in
     record {
       stop = rest.stop;
@@ -69,11 +68,11 @@ pub record Batched : Type 0 where
 
 -- a refusal, or what the offers b lead to. "Later answer bytes stay."
 unfoldable pub batched : Option ℕ → Monitor → List ℕ → Offers → Batched
-batched (some n) m answers b =
-    record { refused = some n; stop = 0; accepted = 0; counts = no_counts; answers = answers; monitor = m }
-batched none m answers b =
+batched (Some n) m answers b =
+    record { refused = Some n; stop = 0; accepted = 0; counts = no_counts; answers = answers; monitor = m }
+batched None m answers b =
     record {
-      refused = none;
+      refused = None;
       stop = b.stop;
       accepted = length b.answers;
       counts = b.counts;

@@ -1,12 +1,10 @@
 -- Fresh, offer and go on, as functions of all that is lent to them: the refusals in their order, what comes back, and
 -- every area at exit.
-use Rattle.std.specs.Prelude.{ℕ, ◌+◌, Bool, true, false, not, ◌&&◌, List, [], ◌∷◌, ◌++◌, eqb, leb, ltb, length, replicate}
-use Rattle.std.proofs.Math.Option.{Option, none, some}
+use Rattle.std.specs.Prelude.{ℕ, ◌+◌, Bool, true, false, not, ◌&&◌, List, [], ◌∷◌, ◌++◌, eqb, leb, ltb, length, replicate, Option, None, Some, is_none, Result, Ok, Err}
 use Rattle.rewriting.specs.Rules.{RuleSet}
 use Rattle.layout.specs.Image.{read}
 use Rattle.layout.specs.Refusals.{Check, refusal}
 use Rattle.layout.specs.TableCheck.{table_checks}
-use Rattle.machine.specs.declared.Standing.{Standing}
 use Rattle.machine.specs.Areas.{Head, Monitor, monitor_of, state_of, head_of, described}
 use Rattle.machine.specs.declared.Answer.{Answer}
 use Rattle.machine.specs.declared.Counts.{Counts}
@@ -24,11 +22,11 @@ pub record Fresh : Type 0 where
 
 -- "it is given no head, so beside 10 it returns the empty one"
 unfoldable pub freshened : ℕ → List ℕ → List ℕ → Option ℕ → Fresh
-freshened capacity bytes words (some n) =
-    record { refused = some n; monitor = record { head = head_of empty; bytes = bytes; words = words } }
-freshened capacity bytes words none =
+freshened capacity bytes words (Some n) =
+    record { refused = Some n; monitor = record { head = head_of empty; bytes = bytes; words = words } }
+freshened capacity bytes words None =
     record {
-      refused = none;
+      refused = None;
       monitor = record { head = head_of empty; bytes = replicate capacity 0; words = replicate capacity 0 };
     }
 
@@ -62,10 +60,6 @@ unfoldable pub fuel_check : ℕ → Check
 fuel_check fuel = (leb fuel fuel_most, 13)
 
 -- "14, a verdict stands"
-unfoldable pub is_none : Standing → Bool
-is_none Standing.None = true
-is_none (Standing.Verdict v) = false
-
 unfoldable pub verdict_check : Head → Check
 verdict_check head = (is_none head.verdict, 14)
 
@@ -87,19 +81,19 @@ offered s (GoOn fuel) = s
 
 -- what a call answers and counts, and the monitor that it leaves: "The head comes back beside the answer"
 pub record Outcome : Type 0 where
-  pub answer : Answer
+  pub answer : Result Answer ℕ
   pub counts : Counts
   pub monitor : Monitor
 
 -- "Every refusal returns its number, the head as given, any counts 0, and changes nothing lent."
 abbrev pub refusal_of : ℕ → Monitor → Outcome
-refusal_of n m = record { answer = Answer.Refused n; counts = no_counts; monitor = m }
+refusal_of n m = record { answer = Err n; counts = no_counts; monitor = m }
 
 -- a refusal, or what the run r leads to
 unfoldable pub outcome : RuleSet → ℕ → Monitor → Option ℕ → Run → Outcome
-outcome set capacity m (some n) r = refusal_of n m
-outcome set capacity m none r =
-    record { answer = r.answer; counts = r.counts; monitor = monitor_of set.rules capacity r.state }
+outcome set capacity m (Some n) r = refusal_of n m
+outcome set capacity m None r =
+    record { answer = Ok r.answer; counts = r.counts; monitor = monitor_of set.rules capacity r.state }
 
 -- the call is refused by the first of the checks that fails. "Otherwise .. the call runs."
 unfoldable pub decided : RuleSet → ℕ → Monitor → List Check → Call → Outcome
@@ -120,18 +114,10 @@ offer_of capacity image table m event fuel = call_of capacity image table m (Off
 unfoldable pub go_on_of : ℕ → List ℕ → List ℕ → Monitor → ℕ → Outcome
 go_on_of capacity image table m fuel = call_of capacity image table m (GoOn fuel)
 
--- the refusal that an answer is, if it is one
-unfoldable pub refused_by : Answer → Option ℕ
-refused_by Answer.Quiet = none
-refused_by Answer.Spent = none
-refused_by Answer.Full = none
-refused_by (Answer.Verdict v) = none
-refused_by (Answer.Refused n) = some n
-
 -- "0 Quiet, 1 Spent, 2 Full, 16 + verdict". A refusal is told by `refused_by`, and has 0 here.
-unfoldable pub answer_number : Answer → ℕ
-answer_number Answer.Quiet = 0
-answer_number Answer.Spent = 1
-answer_number Answer.Full = 2
-answer_number (Answer.Verdict v) = 16 + v
-answer_number (Answer.Refused n) = 0
+unfoldable pub answer_number : Result Answer ℕ → ℕ
+answer_number (Ok Answer.Quiet) = 0
+answer_number (Ok Answer.Spent) = 1
+answer_number (Ok Answer.Full) = 2
+answer_number (Ok (Answer.Verdict v)) = 16 + v
+answer_number (Err n) = 0

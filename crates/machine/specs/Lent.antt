@@ -1,6 +1,5 @@
 -- How the code speaks of these definitions: what it is lent, what it gives back, and what its functions read and keep.
-use Rattle.std.specs.Prelude.{ℕ, zero, suc, ◌+◌, ◌*◌, ◌-◌, ◌<◌, ◌≡◌, Bool, true, false, cond, List, [], ◌∷◌, map, eqb, ltb, length, get_or, set, drop}
-use Rattle.std.proofs.Math.Option.{Option, none}
+use Rattle.std.specs.Prelude.{ℕ, zero, suc, ◌+◌, ◌*◌, ◌-◌, ◌<◌, ◌≡◌, Bool, true, false, cond, List, [], ◌∷◌, map, eqb, ltb, length, get_or, set, drop, Option, None, Some}
 use Rattle.std.proofs.Math.Seq.{paste}
 use Rattle.rewriting.specs.Lists.{below}
 use Rattle.rewriting.specs.Rules.{Rule, RuleSet}
@@ -8,7 +7,6 @@ use Rattle.layout.specs.Image.{read}
 use Rattle.layout.specs.Places.{right_at}
 use Rattle.layout.specs.Refusals.{refusal}
 use Rattle.layout.specs.States.{states, number, after, next, matching}
-use Rattle.machine.specs.declared.Standing.{Standing}
 use Rattle.machine.specs.Areas.{Head, Monitor, states_after, monitor_of, unmatched}
 use Rattle.machine.specs.declared.Answer.{Answer}
 use Rattle.machine.specs.State.{State, Step, step}
@@ -21,13 +19,13 @@ abbrev pub monitor_in : Head → List ℕ → List ℕ → Monitor
 monitor_in head bytes words = record { head = head; bytes = bytes; words = words }
 
 -- the same, of the head with these fields
-abbrev pub monitor_with : ℕ → ℕ → Standing → ℕ → List ℕ → List ℕ → Monitor
+abbrev pub monitor_with : ℕ → ℕ → Option ℕ → ℕ → List ℕ → List ℕ → Monitor
 monitor_with settled waiting verdict rule bytes words =
     monitor_in (record { settled = settled; waiting = waiting; verdict = verdict; rule = rule }) bytes words
 
 -- none of the refusals 7, 9, 10 and 11 is called for
 abbrev pub Passed : ℕ → List ℕ → List ℕ → Monitor → Type 0
-Passed capacity image table m = refusal (lent_checks capacity image table m) ≡ none
+Passed capacity image table m = refusal (lent_checks capacity image table m) ≡ None
 
 -- where the rows of a table begin, and how many words each has
 abbrev pub rows_in : List ℕ → ℕ
@@ -111,7 +109,7 @@ appended capacity event from bytes = set (paste bytes (from - 1) (drop from byte
 -- the head that a call which is not refused runs from: for an offer one symbol more waits
 abbrev pub taken : Bool → Head → Head
 taken offering head =
-    record { settled = head.settled; waiting = cond offering (head.waiting + 1) head.waiting; verdict = Standing.None; rule = 0 }
+    record { settled = head.settled; waiting = cond offering (head.waiting + 1) head.waiting; verdict = None; rule = 0 }
 
 -- the answer with a number, among those that `answer_number` gives to calls that are not refused
 abbrev pub answer_from : ℕ → Answer
@@ -119,5 +117,5 @@ answer_from n =
     cond (eqb n 0) Answer.Quiet (cond (eqb n 1) Answer.Spent (cond (eqb n 2) Answer.Full (cond (ltb n 16) Answer.Quiet (Answer.Verdict (n - 16)))))
 
 -- the verdict that stands after the answer with a number
-abbrev pub standing_after : ℕ → Standing
-standing_after n = cond (ltb n 16) Standing.None (Standing.Verdict (n - 16))
+abbrev pub standing_after : ℕ → Option ℕ
+standing_after n = cond (ltb n 16) None (Some (n - 16))

@@ -1,52 +1,34 @@
 -- What is promised: demand 1 of every call, demand 3 of every list of calls, what fresh does, and that a batch is its offers
 -- one after another. The theorems are `call_theorem`, `list_theorem`, `fresh_theorem` and `batch_theorem`, in
 -- proofs/CallTheorem.antt, ListTheorem.antt, FreshTheorem.antt and BatchTheorem.antt.
-use Rattle.std.specs.Prelude.{ℕ, ◌+◌, ◌*◌, ◌^◌, ◌≤◌, ◌<◌, ◌≡◌, Bool, true, false, ◌↔◌, ◌⊎◌, length, get_or, take, replicate}
-use Rattle.std.proofs.Math.Option.{none, some}
+use Rattle.std.specs.Prelude.{ℕ, ◌+◌, ◌*◌, ◌^◌, ◌≤◌, ◌<◌, ◌≡◌, Bool, true, false, ◌↔◌, ◌⊎◌, length, get_or, take, replicate, None, Some, Ok, Err}
 use mathlib.Core.List.{List, [], ◌∷◌, ◌++◌, map, Memᴰ}
 use Rattle.rewriting.specs.Lists.{prefix, over}
 use Rattle.rewriting.specs.Rules.{Rule, RuleSet}
 use Rattle.rewriting.specs.Occurrences.{Occurrence, Occurs}
 use Rattle.rewriting.specs.Rewriter.{fed, rewrites}
 use Rattle.layout.specs.Image.{read, valid}
-use Rattle.layout.specs.Refusals.{refusal}
+use Rattle.layout.specs.Refusals.{refusal, refused_by}
 use Rattle.layout.specs.Table.{table_of}
-use Rattle.machine.specs.declared.Standing.{Standing}
 use Rattle.machine.specs.declared.Answer.{Answer}
 use Rattle.machine.specs.declared.Counts.{Counts}
 use Rattle.machine.specs.State.{State, empty, step}
 use Rattle.machine.specs.Run.{no_counts, fits}
 use Rattle.machine.specs.Areas.{Monitor, head_of, monitor_of, state_of}
-use Rattle.machine.specs.Calls.{
-  Fresh,
-  fresh_of,
-  Call,
-  Offer,
-  GoOn,
-  fuel_of,
-  lent_checks,
-  call_checks,
-  Outcome,
-  refusal_of,
-  decided,
-  call_of,
-  refused_by,
-  answer_number,
-}
+use Rattle.machine.specs.Calls.{Fresh, fresh_of, Call, Offer, GoOn, fuel_of, lent_checks, call_checks, Outcome, refusal_of, decided, call_of, answer_number}
 use Rattle.machine.specs.Batch.{Batched, batch_of}
-use Rattle.machine.specs.Play.{string_of, verdict_of, Log, no_calls, play, offers_of}
+use Rattle.machine.specs.Play.{string_of, Log, no_calls, play, offers_of}
 
 -- Where a run of so much fuel stopped, with these counts, in state s, by its answer: document 01's four tests in their order.
 abbrev pub Stopped : List Rule → ℕ → ℕ → Counts → State → Answer → Type 0
-Stopped rules capacity fuel counts s (Answer.Verdict v) = s.verdict ≡ Standing.Verdict v
-Stopped rules capacity fuel counts s Answer.Quiet = (s.verdict ≡ Standing.None) × (s.waiting ≡ [])
+Stopped rules capacity fuel counts s (Answer.Verdict v) = s.verdict ≡ Some v
+Stopped rules capacity fuel counts s Answer.Quiet = (s.verdict ≡ None) × (s.waiting ≡ [])
 Stopped rules capacity fuel counts s Answer.Spent =
-    (s.verdict ≡ Standing.None) × (0 < length s.waiting) × (counts.steps ≡ fuel)
+    (s.verdict ≡ None) × (0 < length s.waiting) × (counts.steps ≡ fuel)
 Stopped rules capacity fuel counts s Answer.Full =
-    (s.verdict ≡ Standing.None)
+    (s.verdict ≡ None)
     × (counts.steps < fuel)
     × ((a : ℕ) × (q : List ℕ) × (s.waiting ≡ a ∷ q) × (fits capacity (step rules s.settled a q).to ≡ false))
-Stopped rules capacity fuel counts s (Answer.Refused n) = ⊥
 
 -- the refusals that document 01 has for a call
 abbrev pub refusals_of : Call → List ℕ
@@ -60,9 +42,9 @@ pub record Ended (rules : List Rule) (capacity : ℕ) (m : Monitor) (c : Call) (
   pub rewrites : o.counts.rewrites ≤ o.counts.steps
   pub put : o.counts.put ≤ 8 * o.counts.rewrites
   -- It is refused with a number that document 01 has for it, and then nothing lent is changed, ..
-  pub refused : (n : ℕ) → refused_by o.answer ≡ some n → Memᴰ n (refusals_of c) × (o ≡ refusal_of n m)
+  pub refused : (n : ℕ) → refused_by o.answer ≡ Some n → Memᴰ n (refusals_of c) × (o ≡ refusal_of n m)
   -- .. or it stopped where its answer says.
-  pub stopped : refused_by o.answer ≡ none → Stopped rules capacity (fuel_of c) o.counts (state_of o.monitor) o.answer
+  pub stopped : (a : Answer) → o.answer ≡ Ok a → Stopped rules capacity (fuel_of c) o.counts (state_of o.monitor) a
 
 abbrev pub DemandOne : Type 0
 DemandOne =
@@ -75,7 +57,7 @@ pub record Agrees (rules : List Rule) (g : Log) : Type 0 where
   -- which it makes; the symbols put back are those that these rewrites put in.
   pub rewriter :
       rewrites rules g.counts.rewrites (fed g.events)
-      ≡ some (record { string = string_of g.monitor; verdict = verdict_of g.monitor.head.verdict; put = g.counts.put })
+      ≡ Some (record { string = string_of g.monitor; verdict = g.monitor.head.verdict; put = g.counts.put })
   -- steps + waiting = accepted + put back
   pub balance : g.counts.steps + g.monitor.head.waiting ≡ length g.events + g.counts.put
   -- steps ≤ accepted + 8 × rewrites
@@ -89,16 +71,16 @@ pub record Answered (set : RuleSet) (capacity : ℕ) (m : Monitor) (c : Call) (o
   -- Demand 1: it stopped where its answer says, or is refused and changes nothing lent.
   pub ended : Ended set.rules capacity m c o
   -- An accepted one is quiet exactly when nothing waits and no verdict stands, ..
-  pub quiet : o.answer ≡ Answer.Quiet
-      ↔ ((refused_by o.answer ≡ none) × (o.monitor.head.waiting ≡ 0) × (o.monitor.head.verdict ≡ Standing.None))
+  pub quiet : o.answer ≡ Ok Answer.Quiet
+      ↔ ((refused_by o.answer ≡ None) × (o.monitor.head.waiting ≡ 0) × (o.monitor.head.verdict ≡ None))
   -- .. and then no left side occurs anywhere in the string.
-  pub rests : o.answer ≡ Answer.Quiet → (x : Occurrence) → Occurs set.rules (string_of o.monitor) x → ⊥
+  pub rests : o.answer ≡ Ok Answer.Quiet → (x : Occurrence) → Occurs set.rules (string_of o.monitor) x → ⊥
 
 -- What is promised of a list of calls that begins with the monitor m, for an image that is valid and its table.
 pub record Kept (capacity : ℕ) (image table : List ℕ) (m : Monitor) (calls : List Call) : Type 0 where
   pub agrees : Agrees (read image).rules (play capacity image table (no_calls m) calls)
   -- The monitor stays as described: the checks behind 7, 9, 10 and 11 pass, and none of these refusals ever comes.
-  pub passes : refusal (lent_checks capacity image table (play capacity image table (no_calls m) calls).monitor) ≡ none
+  pub passes : refusal (lent_checks capacity image table (play capacity image table (no_calls m) calls).monitor) ≡ None
   pub each : (earlier : List Call) (c : Call) (later : List Call) → calls ≡ earlier ++ c ∷ later →
       let m' : Monitor = (play capacity image table (no_calls m) earlier).monitor in
       Answered (read image) capacity m' c (call_of capacity image table m' c)
@@ -106,7 +88,7 @@ pub record Kept (capacity : ℕ) (image table : List ℕ) (m : Monitor) (calls :
 -- Every call of the list is refused with n, and nothing changes.
 pub record AllRefused (n capacity : ℕ) (image table : List ℕ) (m : Monitor) (calls : List Call) : Type 0 where
   pub nothing : play capacity image table (no_calls m) calls
-      ≡ record { monitor = m; events = []; answers = replicate (length calls) (Answer.Refused n); counts = no_counts }
+      ≡ record { monitor = m; events = []; answers = replicate (length calls) (Err n); counts = no_counts }
   pub each : (earlier : List Call) (c : Call) (later : List Call) → calls ≡ earlier ++ c ∷ later →
       call_of capacity image table (play capacity image table (no_calls m) earlier).monitor c ≡ refusal_of n m
 
@@ -121,16 +103,16 @@ Promise true true capacity image table m calls = Kept capacity image table m cal
 abbrev pub DemandThree : Type 0
 DemandThree =
     (capacity : ℕ) (image table bytes words : List ℕ) (calls : List Call)
-    → (fresh_of capacity bytes words).refused ≡ none
+    → (fresh_of capacity bytes words).refused ≡ None
     → Promise (valid image) (prefix (table_of (read image)) table) capacity image table
     (fresh_of capacity bytes words).monitor calls
 
 -- What is promised of fresh: it takes areas of the capacity's length and no others; then the monitor holds the empty state,
 -- whatever the rules; else it is 10, and the areas are as they were.
 pub record Began (capacity : ℕ) (bytes words : List ℕ) (f : Fresh) : Type 0 where
-  pub takes : f.refused ≡ none ↔ ((length bytes ≡ capacity) × (length words ≡ capacity))
-  pub taken : f.refused ≡ none → (rules : List Rule) → f.monitor ≡ monitor_of rules capacity empty
-  pub refused : (n : ℕ) → f.refused ≡ some n
+  pub takes : f.refused ≡ None ↔ ((length bytes ≡ capacity) × (length words ≡ capacity))
+  pub taken : f.refused ≡ None → (rules : List Rule) → f.monitor ≡ monitor_of rules capacity empty
+  pub refused : (n : ℕ) → f.refused ≡ Some n
       → (n ≡ 10) × (f.monitor ≡ record { head = head_of empty; bytes = bytes; words = words })
 
 abbrev pub FreshBegins : Type 0
@@ -161,10 +143,10 @@ pub record OneByOne (capacity : ℕ) (image table : List ℕ) (m : Monitor) (eve
 
 -- What is promised of every batch, on whatever monitor m and with whatever image and table.
 pub record BatchEnded (capacity : ℕ) (image table : List ℕ) (m : Monitor) (events : List ℕ) (fuel : ℕ) (answers : List ℕ) (b : Batched) : Type 0 where
-  pub refused : (n : ℕ) → b.refused ≡ some n
+  pub refused : (n : ℕ) → b.refused ≡ Some n
       → Memᴰ n (7 ∷ 9 ∷ 10 ∷ 11 ∷ 13 ∷ 16 ∷ [])
-      × (b ≡ record { refused = some n; stop = 0; accepted = 0; counts = no_counts; answers = answers; monitor = m })
-  pub taken : b.refused ≡ none → OneByOne capacity image table m events fuel answers b
+      × (b ≡ record { refused = Some n; stop = 0; accepted = 0; counts = no_counts; answers = answers; monitor = m })
+  pub taken : b.refused ≡ None → OneByOne capacity image table m events fuel answers b
 
 abbrev pub BatchIsOffers : Type 0
 BatchIsOffers =

@@ -1,8 +1,6 @@
 -- A call's run: the four tests in their order, the steps between them, and the counts.
-use Rattle.std.specs.Prelude.{ℕ, zero, suc, ◌+◌, Bool, cond, List, [], ◌∷◌, leb, length}
-use Rattle.std.proofs.Math.Option.{Option, none, some}
+use Rattle.std.specs.Prelude.{ℕ, zero, suc, ◌+◌, Bool, cond, List, [], ◌∷◌, leb, length, Option, None, Some}
 use Rattle.rewriting.specs.Rules.{Rule}
-use Rattle.machine.specs.declared.Standing.{Standing}
 use Rattle.machine.specs.declared.Answer.{Answer}
 use Rattle.machine.specs.declared.Counts.{Counts}
 use Rattle.machine.specs.State.{State, Step, step}
@@ -44,13 +42,13 @@ proceed capacity s t rest = cond (fits capacity t.to) (counted t (rest t.to)) (e
 
 -- "a verdict stands, answer Verdict; w = 0, answer Quiet; fuel steps taken, answer Spent; the next step doesn't fit,
 -- answer Full": the tests at state s, by its verdict, its waiting symbols, and the run with one unit of fuel less, if there is one
-unfoldable pub tests : List Rule → ℕ → State → Standing → List ℕ → Option (State → Run) → Run
-tests rules capacity s (Standing.Verdict v) waiting rest = ended (Answer.Verdict v) s
-tests rules capacity s Standing.None [] rest = ended Answer.Quiet s
-tests rules capacity s Standing.None (a ∷ q) none = ended Answer.Spent s
-tests rules capacity s Standing.None (a ∷ q) (some rest) = proceed capacity s (step rules s.settled a q) rest
+unfoldable pub tests : List Rule → ℕ → State → Option ℕ → List ℕ → Option (State → Run) → Run
+tests rules capacity s (Some v) waiting rest = ended (Answer.Verdict v) s
+tests rules capacity s None [] rest = ended Answer.Quiet s
+tests rules capacity s None (a ∷ q) None = ended Answer.Spent s
+tests rules capacity s None (a ∷ q) (Some rest) = proceed capacity s (step rules s.settled a q) rest
 
 -- "A call runs steps by this order of tests, before the first and after each"
 unfoldable pub run : List Rule → ℕ → ℕ → State → Run
-run rules capacity zero s = tests rules capacity s s.verdict s.waiting none
-run rules capacity (suc fuel) s = tests rules capacity s s.verdict s.waiting (some (run rules capacity fuel))
+run rules capacity zero s = tests rules capacity s s.verdict s.waiting None
+run rules capacity (suc fuel) s = tests rules capacity s s.verdict s.waiting (Some (run rules capacity fuel))

@@ -10,21 +10,13 @@ pub const FUEL_MOST: u32 = 65535;
 
 pub const EVENTS_MOST: usize = 65535;
 
-// Whether a verdict stands, and which.
-#[derive(Clone, Copy)]
-pub enum Standing {
-    None,
-    Verdict(u64),
-}
-
-// What a call answers. A refusal has document 01's number.
+// What a call answers that is not refused.
 #[derive(Clone, Copy)]
 pub enum Answer {
     Quiet,
     Spent,
     Full,
     Verdict(u64),
-    Refused(u32),
 }
 
 // Answers as numbers. A verdict's is 16 + its own.

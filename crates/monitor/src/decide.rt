@@ -1,10 +1,8 @@
 // Offer, go on and the offers of a batch, where what is lent has been checked: what is left of their refusals, and the run. The
 // module is private: what its functions ask, the check of what is lent has shown.
-ghost use Rattle.std.specs.Prelude.{ℕ, suc, ◌+◌, ◌-◌, ◌*◌, ◌≤◌, ◌<◌, ◌≡◌, true, not, cond, ◌||◌, eqb, ltb, length, get_or};
-ghost use Rattle.std.proofs.Math.Option.{none};
+ghost use Rattle.std.specs.Prelude.{ℕ, suc, ◌+◌, ◌-◌, ◌*◌, ◌≤◌, ◌<◌, ◌≡◌, true, not, cond, ◌||◌, eqb, ltb, length, get_or, None, Ok};
 ghost use Rattle.layout.specs.Image.{read, valid};
-ghost use Rattle.layout.specs.Refusals.{refusal, answered};
-ghost use Rattle.layout.specs.declared.Checked.{Checked};
+ghost use Rattle.layout.specs.Refusals.{refusal, answered, numbered};
 ghost use Rattle.machine.specs.Run.{no_counts};
 ghost use Rattle.machine.specs.Calls.{call_checks, call_of, decided, answer_number};
 ghost use Rattle.machine.specs.Batch.{events_most, in_turn, batched};
@@ -15,14 +13,14 @@ use crate::flat::Flat;
 use crate::{Head, Returned};
 use areas::held;
 use image::wide;
-use layout::Checked;
+use layout::Refusal;
 use machine::{FUEL_MOST, VERDICT};
 
-// What a list of calls leads to, up to the first that is refused. The stop is 0, or that refusal.
+// What a list of calls leads to, up to the first that is refused. The stop is that refusal.
 #[derive(Clone, Copy)]
 pub struct Series {
     pub head: Flat,
-    pub stop: u32,
+    pub stop: Option<Refusal>,
     pub accepted: usize,
 }
 
@@ -50,25 +48,25 @@ fn has_room(offering: bool, settled: usize, waiting: usize, capacity: usize) -> 
 
 impl Flat {
     // The refusals of a call's own: 12 to 15 of an offer, 13 and 14 of a go-on.
-    fn refusal(self, image: &[u8], capacity: usize, offering: bool, event: u8, fuel: u32) -> Checked
+    fn refusal(self, image: &[u8], capacity: usize, offering: bool, event: u8, fuel: u32) -> Result<(), Refusal>
         requires image { valid image.now ≡ true }
         requires held { self.settled + self.waiting ≤ capacity }
-        ensures { result
+        ensures { numbered result
             ≡ answered (refusal (call_checks (read image.now) capacity (flat_in self) (offer_or_go_on offering event fuel))) }
     {
         if !allowed(image, offering, event) {
-            return Checked::Refused(12);
+            return Err(Refusal::NoEvent);
         }
         if FUEL_MOST < fuel {
-            return Checked::Refused(13);
+            return Err(Refusal::TooMuchFuel);
         }
         if VERDICT <= self.answer {
-            return Checked::Refused(14);
+            return Err(Refusal::VerdictStands);
         }
         if !has_room(offering, self.settled, self.waiting, capacity) {
-            return Checked::Refused(15);
+            return Err(Refusal::NoRoom);
         }
-        Checked::Passed
+        Ok(())
     }
 
     // The head with the event as the last waiting symbol, for an offer; for a go-on the head as it is. No verdict stands.
@@ -124,14 +122,14 @@ impl Flat {
         requires starts { Starts image.now starts.now }
         requires rows { rows ≡ rows_in table.now }
         requires width { width ≡ width_in table.now }
-        requires accepted { refusal (call_checks (read image.now) (length bytes.old) (flat_in self) (offer_or_go_on offering event fuel)) ≡ none }
+        requires accepted { refusal (call_checks (read image.now) (length bytes.old) (flat_in self) (offer_or_go_on offering event fuel)) ≡ None }
         requires sums { self.steps + self.rewrites + self.put + 10 * fuel < 18446744073709551616 }
         ensures outcome { ran_from result bytes.new words.new
             ≡ upon (counts_in self) (decided (read image.now) (length bytes.old)
             (flat self bytes.old words.old)
             (call_checks (read image.now) (length bytes.old) (flat_in self) (offer_or_go_on offering event fuel))
             (offer_or_go_on offering event fuel)) }
-        ensures number { answer_number (answer_from result.answer) ≡ result.answer }
+        ensures number { answer_number (Ok (answer_from result.answer)) ≡ result.answer }
     {
         let head = self.taking(bytes, offering, event);
         head.run(image, table, rows, width, starts, bytes, words, fuel)
@@ -156,7 +154,7 @@ impl Flat {
         requires few { length events.now ≤ events_most }
         requires room { length events.now ≤ length answers.old }
         ensures calls { series_from result bytes.new words.new answers.new
-            ≡ batched none (flat self bytes.old words.old) answers.old
+            ≡ batched None (flat self bytes.old words.old) answers.old
             (in_turn (length bytes.old) image.now table.now (flat self bytes.old words.old)
             (offers_or_goes_on offering events.now fuel)) }
         ensures last { (k : ℕ) → result.accepted ≡ suc k → get_or answers.new k 0 ≡ result.head.answer }
@@ -166,15 +164,12 @@ impl Flat {
         let mut head = self;
         for k in 0..events.len() {
             let event = events[k];
-            match head.refusal(image, bytes.len(), offering, event, fuel) {
-                Checked::Refused(n) => {
-                    return Series {
-                        head: head,
-                        stop: n,
-                        accepted: k,
-                    };
-                }
-                Checked::Passed => {}
+            if let Err(refusal) = head.refusal(image, bytes.len(), offering, event, fuel) {
+                return Series {
+                    head,
+                    stop: Some(refusal),
+                    accepted: k,
+                };
             }
             head = head.call(
                 image, table, rows, width, starts, bytes, words, offering, event, fuel,
@@ -182,8 +177,8 @@ impl Flat {
             answers[k] = head.answer as u8;
         }
         Series {
-            head: head,
-            stop: 0,
+            head,
+            stop: None,
             accepted: events.len(),
         }
     }
@@ -222,13 +217,13 @@ impl Head {
             fuel,
             &mut answers,
         );
-        if r.stop != 0 {
-            return self.refused(r.stop);
+        if let Some(refusal) = r.stop {
+            return self.refused(refusal);
         }
         let last = r.head;
         Returned {
             head: last.head(),
-            answer: last.answer(),
+            answer: Ok(last.answer()),
             counts: last.counts(),
         }
     }

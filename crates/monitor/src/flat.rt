@@ -1,13 +1,12 @@
 // A head in numbers alone, as the loops over steps and calls keep it. A head with an enum has unused bytes beside its verdict, and is
 // copied through memory with them; a struct of words stays in registers. Only this crate uses it.
-ghost use Rattle.std.specs.Prelude.{ℕ, ◌<◌, ◌≡◌};
-ghost use Rattle.machine.specs.declared.Standing.{Standing};
+ghost use Rattle.std.specs.Prelude.{ℕ, ◌<◌, ◌≡◌, Some};
 ghost use Rattle.machine.specs.Run.{no_counts};
 ghost use Rattle.machine.specs.Lent.{answer_from, standing_after};
 ghost use Rattle.monitor.specs.Lent.{head_in, flat_in, counts_in};
 
 use crate::Head;
-use machine::{Answer, Counts, FULL, SPENT, Standing, VERDICT};
+use machine::{Answer, Counts, FULL, SPENT, VERDICT};
 
 // The head's numbers, the number of the last call's answer (16 + the verdict where one stands), and the counts of all calls so far.
 #[derive(Clone, Copy)]
@@ -38,30 +37,30 @@ fn answer_from(number: u64) -> Answer
 }
 
 // The verdict that stands after the answer with a number.
-fn standing_after(number: u64) -> Standing
+fn standing_after(number: u64) -> Option<u64>
     ensures { result ≡ standing_after number }
 {
     if number < VERDICT {
-        return Standing::None;
+        return None;
     }
-    Standing::Verdict(number - VERDICT)
+    Some(number - VERDICT)
 }
 
 // A number of an answer after which this verdict stands.
-fn number_of(verdict: Standing) -> u64
-    requires { (v : ℕ) → verdict ≡ Standing.Verdict v → v < 16 }
+fn number_of(verdict: Option<u64>) -> u64
+    requires { (v : ℕ) → verdict ≡ Some v → v < 16 }
     ensures { standing_after result ≡ verdict }
 {
     match verdict {
-        Standing::None => 0,
-        Standing::Verdict(v) => VERDICT + v,
+        None => 0,
+        Some(v) => VERDICT + v,
     }
 }
 
 impl Head {
     // The head in numbers, before the first call.
     pub(crate) fn flat(self) -> Flat
-        requires { (v : ℕ) → self.verdict ≡ Standing.Verdict v → v < 16 }
+        requires { (v : ℕ) → self.verdict ≡ Some v → v < 16 }
         ensures head { flat_in result ≡ head_in self }
         ensures counts { counts_in result ≡ no_counts }
     {

@@ -2,10 +2,8 @@
 // to it; the promise about every list of calls is proved of those definitions in machine/proofs/ListTheorem.antt.
 #![tactic(auto)]
 
-ghost use Rattle.std.specs.Prelude.{◌≡◌};
-ghost use Rattle.layout.specs.Refusals.{refusal, answered};
-ghost use Rattle.machine.specs.declared.Answer.{Answer};
-ghost use Rattle.layout.specs.declared.Checked.{Checked};
+ghost use Rattle.std.specs.Prelude.{◌≡◌, None, Err};
+ghost use Rattle.layout.specs.Refusals.{refusal, answered, numbered};
 ghost use Rattle.machine.specs.State as State;
 ghost use Rattle.machine.specs.Areas.{document_capacity, head_of};
 ghost use Rattle.machine.specs.Run.{no_counts};
@@ -14,8 +12,8 @@ ghost use Rattle.machine.specs.Batch.{batch_of};
 ghost use Rattle.monitor.specs.Lent.{head_in, lent, fresh_from, outcome_from, batch_from};
 
 use areas::{described, held};
-use layout::Checked;
-pub use machine::{Answer, Counts, Standing};
+use layout::Refusal;
+pub use machine::{Answer, Counts};
 use machine::{CAPACITY, EVENTS_MOST, FUEL_MOST};
 
 mod decide;
@@ -27,31 +25,31 @@ mod steps;
 pub struct Head {
     pub settled: usize,
     pub waiting: usize,
-    pub verdict: Standing,
+    pub verdict: Option<u64>,
     pub rule: usize,
 }
 
-// What fresh gives back.
+// What fresh gives back: a head beside a refusal too.
 #[derive(Clone, Copy)]
 pub struct Begun {
     pub head: Head,
-    pub refusal: Checked,
+    pub answer: Result<(), Refusal>,
 }
 
-// What offer and go on give back: the new head beside the answer.
+// What offer and go on give back: the new head beside the answer, or the head as given beside a refusal.
 #[derive(Clone, Copy)]
 pub struct Returned {
     pub head: Head,
-    pub answer: Answer,
+    pub answer: Result<Answer, Refusal>,
     pub counts: Counts,
 }
 
-// What batch gives back. The stop is 0, or the refusal of the first offer that was refused.
+// What batch gives back. The stop is the refusal of the first offer that was refused.
 #[derive(Clone, Copy)]
 pub struct BatchReturned {
     pub head: Head,
-    pub refusal: Checked,
-    pub stop: u32,
+    pub answer: Result<(), Refusal>,
+    pub stop: Option<Refusal>,
     pub accepted: usize,
     pub counts: Counts,
 }
@@ -63,7 +61,7 @@ fn empty() -> Head
     Head {
         settled: 0,
         waiting: 0,
-        verdict: Standing::None,
+        verdict: None,
         rule: 0,
     }
 }
@@ -76,30 +74,30 @@ pub fn fresh(bytes: &mut [u8], words: &mut [u16]) -> Begun
     if bytes.len() != CAPACITY {
         return Begun {
             head: empty(),
-            refusal: Checked::Refused(10),
+            answer: Err(Refusal::AreaLength),
         };
     }
     if words.len() != CAPACITY {
         return Begun {
             head: empty(),
-            refusal: Checked::Refused(10),
+            answer: Err(Refusal::AreaLength),
         };
     }
     held::clear(bytes, words, 0, CAPACITY);
     Begun {
         head: empty(),
-        refusal: Checked::Passed,
+        answer: Ok(()),
     }
 }
 
 impl Head {
     // A refusal: the head as given, and no counts.
-    fn refused(self, n: u32) -> Returned
-        ensures { result ≡ record { head = self; answer = Answer.Refused n; counts = no_counts } }
+    fn refused(self, refusal: Refusal) -> Returned
+        ensures { result ≡ record { head = self; answer = Err refusal; counts = no_counts } }
     {
         Returned {
             head: self,
-            answer: Answer::Refused(n),
+            answer: Err(refusal),
             counts: Counts {
                 steps: 0,
                 rewrites: 0,
@@ -109,13 +107,13 @@ impl Head {
     }
 
     // A refusal of a batch.
-    fn batch_refused(self, n: u32) -> BatchReturned
-        ensures { result ≡ record { head = self; refusal = Checked.Refused n; stop = 0; accepted = 0; counts = no_counts } }
+    fn batch_refused(self, refusal: Refusal) -> BatchReturned
+        ensures { result ≡ record { head = self; answer = Err refusal; stop = None; accepted = 0; counts = no_counts } }
     {
         BatchReturned {
             head: self,
-            refusal: Checked::Refused(n),
-            stop: 0,
+            answer: Err(refusal),
+            stop: None,
             accepted: 0,
             counts: Counts {
                 steps: 0,
@@ -126,35 +124,31 @@ impl Head {
     }
 
     // The checks of what is lent: refusals 7, 9, 10 and 11.
-    fn check_lent(self, image: &[u8], table: &[u16], bytes: &[u8], words: &[u16]) -> Checked
-        ensures { result ≡ answered (refusal (lent_checks document_capacity image.now table.now
+    fn check_lent(self, image: &[u8], table: &[u16], bytes: &[u8], words: &[u16]) -> Result<(), Refusal>
+        ensures { numbered result ≡ answered (refusal (lent_checks document_capacity image.now table.now
             (lent self bytes.now words.now))) }
     {
-        match table::check(image, table) {
-            Checked::Refused(n) => Checked::Refused(n),
-            Checked::Passed => {
-                if bytes.len() != CAPACITY {
-                    return Checked::Refused(10);
-                }
-                if words.len() != CAPACITY {
-                    return Checked::Refused(10);
-                }
-                let verdict = self.verdict;
-                if described::as_described(
-                    self.settled,
-                    self.waiting,
-                    verdict,
-                    self.rule,
-                    image,
-                    table,
-                    bytes,
-                    words,
-                ) {
-                    return Checked::Passed;
-                }
-                Checked::Refused(11)
-            }
+        table::check(image, table)?;
+        if bytes.len() != CAPACITY {
+            return Err(Refusal::AreaLength);
         }
+        if words.len() != CAPACITY {
+            return Err(Refusal::AreaLength);
+        }
+        let verdict = self.verdict;
+        if !described::as_described(
+            self.settled,
+            self.waiting,
+            verdict,
+            self.rule,
+            image,
+            table,
+            bytes,
+            words,
+        ) {
+            return Err(Refusal::NotAsDescribed);
+        }
+        Ok(())
     }
 
     // The event becomes the last waiting symbol, and the call runs.
@@ -171,8 +165,8 @@ impl Head {
             ≡ offer_of document_capacity image.now table.now (lent self bytes.old words.old) event fuel }
     {
         match self.check_lent(image, table, bytes, words) {
-            Checked::Refused(n) => self.refused(n),
-            Checked::Passed => {
+            Err(refusal) => self.refused(refusal),
+            Ok(()) => {
                 let mut starts = [0u16; 64];
                 held::index(image, &mut starts);
                 self.once(image, table, &starts, bytes, words, true, event, fuel)
@@ -193,8 +187,8 @@ impl Head {
             ≡ go_on_of document_capacity image.now table.now (lent self bytes.old words.old) fuel }
     {
         match self.check_lent(image, table, bytes, words) {
-            Checked::Refused(n) => self.refused(n),
-            Checked::Passed => {
+            Err(refusal) => self.refused(refusal),
+            Ok(()) => {
                 let mut starts = [0u16; 64];
                 held::index(image, &mut starts);
                 self.once(image, table, &starts, bytes, words, false, 0, fuel)
@@ -217,20 +211,17 @@ impl Head {
             ≡ batch_of document_capacity image.now table.now (lent self bytes.old words.old)
             events.now fuel answers.old }
     {
-        match self.check_lent(image, table, bytes, words) {
-            Checked::Refused(n) => {
-                return self.batch_refused(n);
-            }
-            Checked::Passed => {}
+        if let Err(refusal) = self.check_lent(image, table, bytes, words) {
+            return self.batch_refused(refusal);
         }
         if FUEL_MOST < fuel {
-            return self.batch_refused(13);
+            return self.batch_refused(Refusal::TooMuchFuel);
         }
         if EVENTS_MOST < events.len() {
-            return self.batch_refused(16);
+            return self.batch_refused(Refusal::BatchLength);
         }
         if answers.len() < events.len() {
-            return self.batch_refused(16);
+            return self.batch_refused(Refusal::BatchLength);
         }
         let mut starts = [0u16; 64];
         held::index(image, &mut starts);
@@ -241,7 +232,7 @@ impl Head {
         let last = r.head;
         BatchReturned {
             head: last.head(),
-            refusal: Checked::Passed,
+            answer: Ok(()),
             stop: r.stop,
             accepted: r.accepted,
             counts: last.counts(),

@@ -1,7 +1,6 @@
 // One step, and a call's run.
 // The module is private: what its functions ask, the checks of a call have shown.
-ghost use Rattle.std.specs.Prelude.{◌+◌, ◌*◌, ◌<◌, ◌≡◌, length};
-ghost use Rattle.std.proofs.Math.Option.{none};
+ghost use Rattle.std.specs.Prelude.{◌+◌, ◌*◌, ◌<◌, ◌≡◌, length, None, Ok};
 ghost use Rattle.layout.specs.Image.{read};
 ghost use Rattle.machine.specs.Run.{run};
 ghost use Rattle.machine.specs.Areas.{state_of};
@@ -124,10 +123,10 @@ impl Flat {
         requires sums { self.steps + self.rewrites + self.put + 10 * fuel < 18446744073709551616 }
         ensures outcome { ran_from result bytes.new words.new
             ≡ upon (counts_in self) (outcome (read image.now) (length bytes.old)
-            (active self bytes.old words.old) none
+            (active self bytes.old words.old) None
             (run (read image.now).rules (length bytes.old) fuel
             (state_of (active self bytes.old words.old)))) }
-        ensures number { answer_number (answer_from result.answer) ≡ result.answer }
+        ensures number { answer_number (Ok (answer_from result.answer)) ≡ result.answer }
     {
         if self.waiting == 0 {
             return self.ended(QUIET, 0, 0);

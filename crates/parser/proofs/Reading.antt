@@ -3,7 +3,7 @@
 use Prim.Native.Nat.{ℕ, ◌≤◌}
 use mathlib.Core.Path.{◌≡◌, refl, ap, ◌∙◌}
 use mathlib.Core.Bool.{Bool, true, false, cond}
-use mathlib.Core.Option.{Option, none}
+use Rattle.std.specs.Prelude.{Option, None}
 use mathlib.Core.List.{List, [], flat_map}
 use native.Mathlib.Omega.{arith}
 use lib.ListN.{length, drop, replicate}
@@ -94,7 +94,7 @@ module _ {text : List ℕ} {r : Reader} {a b c d : List ℕ} {at : ℕ} (g : Goi
     unfolding read_runs
     step = g.rest ∙ ap (read_runs (length text) g.reading) n.these
 
-    pub no_token : (a' b' c' d' : List ℕ) → token_of (rest_of text start) ≡ none
+    pub no_token : (a' b' c' d' : List ℕ) → token_of (rest_of text start) ≡ None
         → FinishedIs (read_text text) (finished.Bad 3 start) a' b' c' d'
     unfolding or_broken after_run
     no_token a' b' c' d' e =

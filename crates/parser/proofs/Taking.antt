@@ -3,7 +3,7 @@
 use Prim.Native.Nat.{ℕ, ◌+◌, ◌≤◌, ◌<◌}
 use mathlib.Core.Path.{◌≡◌, refl, sym, ap, ◌∙◌}
 use mathlib.Core.Bool.{Bool, true, false, cond}
-use mathlib.Core.Option.{Option, none, some}
+use Rattle.std.specs.Prelude.{Option, None, Some}
 use mathlib.Core.List.{List, [], ◌∷◌, ◌++◌, append-nil, append_assoc}
 use native.Mathlib.Omega.{arith}
 use lib.Dec.{ltb}
@@ -71,7 +71,7 @@ use Rattle.parser.proofs.Keeping.{
 -- the name x has a number, and the code has it, with the slots of the names then
 pub record HasNumber (most : ℕ) (names : List (List ℕ)) (x : List ℕ) (n : numbered_as.Numbered) (area : List ℕ) : Type 0 where
   pub is : Numbered
-  pub found : numbered most names x ≡ some is
+  pub found : numbered most names x ≡ Some is
   pub number : n.number ≡ is.number
   pub count : n.count ≡ length is.names
   pub slots : area ≡ Names.slots most is.names
@@ -80,12 +80,12 @@ pub record HasNumber (most : ℕ) (names : List (List ℕ)) (x : List ℕ) (n : 
 module _ (most : ℕ) (names : List (List ℕ)) (x : List ℕ) (few : length names ≤ most) (all_named : all is_name names ≡ true)
     (named : is_name x ≡ true) (n : numbered_as.Numbered) (area : List ℕ) where
   -- a number that is none: a name too many
-  pub too_many : NumberedIs most names (numbered most names x) n area → most ≤ n.number → numbered most names x ≡ none
+  pub too_many : NumberedIs most names (numbered most names x) n area → most ≤ n.number → numbered most names x ≡ None
   too_many h high = go (numbered most names x) refl h
     where
-      go : (o : Option Numbered) → numbered most names x ≡ o → NumberedIs most names o n area → numbered most names x ≡ none
-      go none e g = e
-      go (some m) e g =
+      go : (o : Option Numbered) → numbered most names x ≡ o → NumberedIs most names o n area → numbered most names x ≡ None
+      go None e g = e
+      go (Some m) e g =
           let kept : Kept most names m = numbered_kept most names x m few all_named named e in
           absurd (omega (arith, g.0, kept.number_in, kept.few_names, high))
 
@@ -94,33 +94,33 @@ module _ (most : ℕ) (names : List (List ℕ)) (x : List ℕ) (few : length nam
   has_number h low = go (numbered most names x) refl h
     where
       go : (o : Option Numbered) → numbered most names x ≡ o → NumberedIs most names o n area → HasNumber most names x n area
-      go none e g = absurd (omega (arith, g.0, low))
-      go (some m) e g = record { is = m; found = e; number = g.0; count = g.1; slots = g.2 }
+      go None e g = absurd (omega (arith, g.0, low))
+      go (Some m) e g = record { is = m; found = e; number = g.0; count = g.1; slots = g.2 }
 
   -- a number below that of the names is one of theirs
   pub old_number : NumberedIs most names (numbered most names x) n area → n.number < length names
-      → (i : ℕ) × (number_of names x ≡ some i)
+      → (i : ℕ) × (number_of names x ≡ Some i)
   unfolding numbered or_new
   old_number h low = go (number_of names x) refl h
     where
       new : (b : Bool)
-          → NumberedIs most names (cond b (some (record { number = length names; names = names ++ x ∷ [] })) none) n area → ⊥
+          → NumberedIs most names (cond b (Some (record { number = length names; names = names ++ x ∷ [] })) None) n area → ⊥
       new true g = omega (arith, g.0, low)
       new false g = omega (arith, g.0, low, few)
 
       go : (o : Option ℕ) → number_of names x ≡ o → NumberedIs most names (or_new most names x o) n area
-          → (i : ℕ) × (number_of names x ≡ some i)
-      go none e g = absurd (new (ltb (length names) most) g)
-      go (some i) e g = (i, e)
+          → (i : ℕ) × (number_of names x ≡ Some i)
+      go None e g = absurd (new (ltb (length names) most) g)
+      go (Some i) e g = (i, e)
 
   -- and one that is not is new
-  pub new_number : NumberedIs most names (numbered most names x) n area → length names ≤ n.number → number_of names x ≡ none
+  pub new_number : NumberedIs most names (numbered most names x) n area → length names ≤ n.number → number_of names x ≡ None
   unfolding numbered or_new
   new_number h high = go (number_of names x) refl h
     where
-      go : (o : Option ℕ) → number_of names x ≡ o → NumberedIs most names (or_new most names x o) n area → number_of names x ≡ none
-      go none e g = e
-      go (some i) e g = absurd (omega (arith, g.0, number-below names x i e, high))
+      go : (o : Option ℕ) → number_of names x ≡ o → NumberedIs most names (or_new most names x o) n area → number_of names x ≡ None
+      go None e g = e
+      go (Some i) e g = absurd (omega (arith, g.0, number-below names x i e, high))
 
 module _ {s : Reading} {r : Reader} {a b c d : List ℕ} (k : Keeps s r a b c d) where
   -- The first token.
@@ -158,7 +158,7 @@ module _ {s : Reading} {r : Reader} {a b c d : List ℕ} (k : Keeps s r a b c d)
         let old = old_number 32 s.symbols x sound.few_symbols sound.symbols_named named n area is (omega (arith, symbols_number s k.numbers)) in
         rw (here, old.1) refl
 
-    new : r.symbols ≤ n.number → number_of s.symbols x ≡ none
+    new : r.symbols ≤ n.number → number_of s.symbols x ≡ None
     new high = new_number 32 s.symbols x sound.few_symbols sound.symbols_named named n area is (omega (arith, symbols_number s k.numbers))
 
     pub event_33 : r.symbols ≤ n.number → 32 ≤ n.number → TakenIs (name s x s.place) (taken.Breaks 5) area b c d

@@ -4,7 +4,7 @@ use Prim.Native.String.{String}
 use Prim.Native.Nat.{ℕ, zero, suc}
 use mathlib.Core.Path.{◌≡◌, refl, ◌∙◌}
 use mathlib.Core.Bool.{true}
-use mathlib.Core.Option.{or_else}
+use Rattle.std.specs.Option.{option_or}
 use mathlib.Core.List.{List, [], ◌++◌, flat_map}
 use lib.Dec.{ltb}
 use lib.ListN.{length, replicate, length-replicate}
@@ -48,7 +48,7 @@ reads = tt
 -- image, table and monitor
 runs_on : Unit {0}
 unfolding
-    or_else flat_map rule right_in_range rule_in_range in_range lowest spanning tie ending kind length_or_verdict mark_byte symbols_of contents body image_of
+    flat_map rule right_in_range rule_in_range in_range lowest spanning tie ending kind length_or_verdict mark_byte symbols_of contents body image_of
     read_right read_rule read_rules read valid refusal States.pattern States.is_prefix States.state States.next States.starts States.symbols_in
     States.matching States.prefixes States.known States.numbered States.has_mark States.first_states States.states States.number
     match_word row table_of empty active replace settle step Run.no_counts Run.plus Run.counts_of Run.ended Run.counted Run.fits

@@ -1,6 +1,7 @@
 -- Laws of the name in a slot: in the slots that the reader wrote it is the text's (`symbol-name`, `verdict_name`), and it is
 -- short.
 -- Assumes nothing.
+use Rattle.std.specs.Prelude.{Result, Ok, Err}
 use Prim.Native.Nat.{ℕ, zero, suc, ◌+◌, ◌*◌, ◌-◌, ◌≤◌, ◌<◌}
 use mathlib.Core.Path.{◌≡◌, sym, ◌∙◌}
 use mathlib.Core.Bool.{true}
@@ -109,10 +110,10 @@ name-length names i =
     )
 
 -- the word for an answer is no longer than `#` and a name
-pub answer_length : (names : List ℕ) (a : Answer) → length (answer_word names a) ≤ 25
+pub answer_length : (names : List ℕ) (a : Result Answer ℕ) → length (answer_word names a) ≤ 25
 unfolding answer_word bytes
-answer_length names Answer.Quiet = omega arith
-answer_length names Answer.Spent = omega arith
-answer_length names Answer.Full = omega arith
-answer_length names (Answer.Verdict v) = omega (arith, name-length names (32 + v))
-answer_length names (Answer.Refused n) = omega arith
+answer_length names (Ok Answer.Quiet) = omega arith
+answer_length names (Ok Answer.Spent) = omega arith
+answer_length names (Ok Answer.Full) = omega arith
+answer_length names (Ok (Answer.Verdict v)) = omega (arith, name-length names (32 + v))
+answer_length names (Err n) = omega arith

@@ -1,5 +1,6 @@
 -- What `begin` rests on: compile takes a valid image, fresh areas of 2,048, and what is read is that of the rule part.
 -- Assumes nothing.
+use Rattle.std.specs.Prelude.{Ok, Err}
 use Prim.Native.Nat.{ℕ, ◌≤◌, ◌<◌}
 use mathlib.Core.Path.{◌≡◌, refl, sym, ap, ◌∙◌}
 use mathlib.Core.Bool.{Bool, true, false}
@@ -13,8 +14,6 @@ use Rattle.rewriting.specs.Lists.{over}
 use Rattle.layout.specs.Image.{image_of, read, valid}
 use Rattle.layout.specs.Refusals.{refusal}
 use Rattle.layout.proofs.Image.{valid-in_range, read_image}
-use Rattle.layout.specs.declared.Compiled.{Compiled}
-use Rattle.layout.specs.declared.Compiled.TheVariants.{Words, Refused}
 use Rattle.layout.specs.Table.{table_most, table_of}
 use Rattle.layout.specs.Compile.{compile_of}
 use Rattle.layout.proofs.Table.{table_length}
@@ -35,7 +34,7 @@ module _ (image table : List ℕ) (good : valid image ≡ true) (size : length t
   fits = omega (arith, table_length (read image) (valid-in_range image good))
 
   -- compile writes the table ..
-  pub compile_answers : (compile_of image table).answer ≡ Words (length (table_of (read image)))
+  pub compile_answers : (compile_of image table).answer ≡ Ok (length (table_of (read image)))
   compile_answers = sym (compile_words image table good fits _ refl _ refl).0
 
   pub compile_writes : (compile_of image table).area ≡ over (table_of (read image)) table
@@ -43,9 +42,9 @@ module _ (image table : List ℕ) (good : valid image ≡ true) (size : length t
   compile_writes = sym (compile_words image table good fits _ refl _ refl).1
 
   -- .. and refuses nothing
-  pub compile_takes : (a : Compiled) (n : ℕ) → a ≡ (compile_of image table).answer → a ≡ Refused n → ⊥
-  compile_takes a n e r =
-      let w : Refused n ≡ Words (length (table_of (read image))) = sym r ∙ e ∙ compile_answers in
+  pub compile_takes : (n : ℕ) → Err n ≡ (compile_of image table).answer → ⊥
+  compile_takes n e =
+      let w : Err n ≡ Ok (length (table_of (read image))) = e ∙ compile_answers in
       let z : ◌≡◌ {A = ℕ} 0 1 = cc in
       absurd (omega arith)
 

@@ -1,5 +1,5 @@
 -- The lines that `watch` prints, as bytes: "No header."
-use Rattle.std.specs.Prelude.{ℕ, zero, suc, ◌+◌, ◌*◌, ◌/◌, ◌%◌, cond, ltb, get_or, take, drop}
+use Rattle.std.specs.Prelude.{ℕ, zero, suc, ◌+◌, ◌*◌, ◌/◌, ◌%◌, cond, ltb, get_or, take, drop, Result, Ok, Err}
 use mathlib.Core.List.{List, [], ◌∷◌, ◌++◌, flat_map}
 use Rattle.machine.specs.declared.Answer.{Answer}
 use Rattle.machine.specs.Calls.{Outcome}
@@ -45,12 +45,12 @@ joined names [] = dash ∷ []
 joined names (a ∷ string) = name_in names a ++ flat_map (λ b. comma ∷ name_in names b) string
 
 -- "`quiet`, `spent`, `full` or `#` with the verdict's name", `refused`; "32..47 verdicts"
-unfoldable pub answer_word : List ℕ → Answer → List ℕ
-answer_word names Answer.Quiet = bytes "quiet"
-answer_word names Answer.Spent = bytes "spent"
-answer_word names Answer.Full = bytes "full"
-answer_word names (Answer.Verdict v) = hash ∷ name_in names (32 + v)
-answer_word names (Answer.Refused n) = refused_word
+unfoldable pub answer_word : List ℕ → Result Answer ℕ → List ℕ
+answer_word names (Ok Answer.Quiet) = bytes "quiet"
+answer_word names (Ok Answer.Spent) = bytes "spent"
+answer_word names (Ok Answer.Full) = bytes "full"
+answer_word names (Ok (Answer.Verdict v)) = hash ∷ name_in names (32 + v)
+answer_word names (Err n) = refused_word
 
 -- "steps, rewrites, the string's names (settled, then waiting) joined by commas or `-`"
 unfoldable pub counted : List ℕ → Outcome → List ℕ
@@ -58,12 +58,9 @@ counted names o =
     decimal o.counts.steps ++ space ∷ (decimal o.counts.rewrites ++ space ∷ joined names (string_of o.monitor))
 
 -- what is told behind the answer: that, or "number" where it is `refused`
-unfoldable pub told : List ℕ → Outcome → Answer → List ℕ
-told names o Answer.Quiet = counted names o
-told names o Answer.Spent = counted names o
-told names o Answer.Full = counted names o
-told names o (Answer.Verdict v) = counted names o
-told names o (Answer.Refused n) = decimal n
+unfoldable pub told : List ℕ → Outcome → Result Answer ℕ → List ℕ
+told names o (Ok a) = counted names o
+told names o (Err n) = decimal n
 
 -- "one line each: name, .."; "A refused event prints name, `refused`, number"
 unfoldable pub event_line : List ℕ → List ℕ → Outcome → List ℕ

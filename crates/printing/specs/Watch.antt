@@ -1,6 +1,5 @@
 -- What `watch` prints for an input: `printed`.
-use Rattle.std.specs.Prelude.{ℕ, cond, List, [], ◌∷◌, ◌++◌, eqb, leb, length, replicate}
-use Rattle.std.proofs.Math.Option.{Option, none, some}
+use Rattle.std.specs.Prelude.{ℕ, cond, List, [], ◌∷◌, ◌++◌, eqb, leb, length, replicate, Option, None, Some}
 use Rattle.layout.specs.Image.{image_of}
 use Rattle.layout.specs.Refusals.{refusal}
 use Rattle.layout.specs.Table.{table_of}
@@ -59,8 +58,8 @@ holding w m = record { image = w.image; table = w.table; names = w.names; monito
 
 -- "each name is offered with fuel 1,000"; "an unknown name is 12"
 unfoldable pub offered : Watch → Option ℕ → Outcome
-offered w none = refusal_of 12 w.monitor
-offered w (some a) = offer_of document_capacity w.image w.table w.monitor a 1000
+offered w None = refusal_of 12 w.monitor
+offered w (Some a) = offer_of document_capacity w.image w.table w.monitor a 1000
 
 unfoldable pub offered_name : Watch → List ℕ → Outcome
 offered_name w x = offered w (symbol_named w.names x)

@@ -3,7 +3,7 @@
 use Prim.Native.Nat.{ℕ, ◌≤◌}
 use mathlib.Core.Path.{◌≡◌, refl, ap}
 use mathlib.Core.Bool.{Bool, true, false, cond, ◌&&◌}
-use mathlib.Core.Option.{none, some}
+use Rattle.std.specs.Prelude.{None, Some}
 use mathlib.Core.List.{List, [], ◌∷◌, ◌++◌}
 use native.Mathlib.Omega.{arith}
 use lib.Dec.{leb}
@@ -14,11 +14,12 @@ use Rattle.rewriting.proofs.Lists.{between_high, below_weaken}
 use Rattle.rewriting.proofs.Ranges.{ranges}
 use Rattle.layout.specs.Image.{read}
 use Rattle.layout.proofs.Image.{valid-in_range}
+use Rattle.layout.specs.Refusals.{refused_by}
 use Rattle.machine.specs.declared.Answer.{Answer}
 use Rattle.monitor.specs.declared.Returned.{Returned}
 use Rattle.machine.specs.Run.{fits}
 use Rattle.machine.specs.Areas.{Monitor, document_capacity, head_of, monitor_of, state_of}
-use Rattle.machine.specs.Calls.{Offer, fuel_of, Outcome, offer_of, call_of, refused_by}
+use Rattle.machine.specs.Calls.{Offer, fuel_of, Outcome, offer_of, call_of}
 use Rattle.machine.specs.Play.{string_of}
 use Rattle.monitor.specs.Lent.{outcome_from}
 use Rattle.machine.specs.Promise.{Stopped}
@@ -33,12 +34,12 @@ use Rattle.printing.specs.Watch.{Watch, offered, offered_name, line_for}
 use Rattle.lines.specs.Wrote.{HasSlot, Small}
 
 -- a name that a symbol has is short
-pub named_short : (area x : List ℕ) (i : ℕ) → symbol_named area x ≡ some i → length x ≤ 24
+pub named_short : (area x : List ℕ) (i : ℕ) → symbol_named area x ≡ Some i → length x ≤ 24
 unfolding symbol_named
 named_short area x i e = go (between 1 (length x) 24) refl e
   where
     go : (b : Bool) → between 1 (length x) 24 ≡ b
-        → cond (b && leb 800 (length area)) (slot_at (slot x) 32 area) none ≡ some i → length x ≤ 24
+        → cond (b && leb 800 (length area)) (slot_at (slot x) 32 area) None ≡ Some i → length x ≤ 24
     go true h f = between_high 1 (length x) 24 h
     go false h f = let z : ◌≡◌ {A = ℕ} 0 1 = cc in absurd (omega arith)
 
@@ -47,21 +48,21 @@ module _ (image table : List ℕ) (m : Monitor) (a : ℕ) where
   abbrev o : Outcome
   o = call_of document_capacity image table m (Offer a 1000)
 
-  kept : refused_by o.answer ≡ none → Holding (read image) document_capacity o.monitor
+  kept : refused_by o.answer ≡ None → Holding (read image) document_capacity o.monitor
   kept e =
       let l : Lent document_capacity image table m =
       passed_lent document_capacity image table m (accepted_passed document_capacity image table m (Offer a 1000) e)
       in
       (next document_capacity image table l.good l.right m l.holding (Offer a 1000)).after
 
-  few_symbols : refused_by o.answer ≡ none → (read image).symbols ≤ 48
+  few_symbols : refused_by o.answer ≡ None → (read image).symbols ≤ 48
   few_symbols e =
       let l : Lent document_capacity image table m =
       passed_lent document_capacity image table m (accepted_passed document_capacity image table m (Offer a 1000) e)
       in
       omega (arith, (ranges (read image) (valid-in_range image l.good)).few_symbols)
 
-  offer_small : refused_by o.answer ≡ none → Small o
+  offer_small : refused_by o.answer ≡ None → Small o
   unfolding fits fuel_of monitor_of head_of string_of
   offer_small e =
       let h : Holding (read image) document_capacity o.monitor = kept e in
@@ -84,8 +85,8 @@ module _ (image table : List ℕ) (m : Monitor) (a : ℕ) where
       go o.answer (λ p. p) (call_theorem document_capacity image table m (Offer a 1000)).stopped
     where
       go :
-          (b : Answer) → (refused_by b ≡ none → refused_by o.answer ≡ none)
-          → (refused_by b ≡ none → Stopped (read image).rules document_capacity 1000 o.counts (state_of o.monitor) b)
+          (b : Answer) → (refused_by b ≡ None → refused_by o.answer ≡ None)
+          → (refused_by b ≡ None → Stopped (read image).rules document_capacity 1000 o.counts (state_of o.monitor) b)
           → HasSlot b
       go Answer.Quiet f s = tt
       go Answer.Spent f s = tt
@@ -111,13 +112,13 @@ told_words names r bytes words (Answer.Refused n) = refl
 
 -- The line for a name that no symbol has, and for one that is offered.
 pub line_unknown :
-    (w : Watch) (x : List ℕ) → symbol_named w.names x ≡ none
+    (w : Watch) (x : List ℕ) → symbol_named w.names x ≡ None
     → x ++ space ∷ (refused_word ++ space ∷ (decimal 12 ++ newline ∷ [])) ≡ line_for w x
 unfolding line_for event_line offered_name offered answer_word told
 line_unknown w x e = rw e
 
 pub line_offered :
-    (w : Watch) (x : List ℕ) (a : ℕ) (r : Returned) (bytes words : List ℕ) → symbol_named w.names x ≡ some a
+    (w : Watch) (x : List ℕ) (a : ℕ) (r : Returned) (bytes words : List ℕ) → symbol_named w.names x ≡ Some a
     → outcome_from r bytes words ≡ offer_of document_capacity w.image w.table w.monitor a 1000
     → x
     ++ space
@@ -135,7 +136,7 @@ module _ (image table : List ℕ) (m : Monitor) (a : ℕ) (r : Returned) (bytes 
   unfolding offer_of
   made_slot = rw (ap (λ (o : Outcome). o.answer) made) (offer_slot image table m a)
 
-  pub made_small : refused_by r.answer ≡ none → Small (outcome_from r bytes [])
+  pub made_small : refused_by r.answer ≡ None → Small (outcome_from r bytes [])
   unfolding offer_of
   made_small e =
       small_words r bytes words

@@ -5,7 +5,7 @@ use Prim.Native.Nat.{ℕ, ◌≤◌, ◌<◌}
 use mathlib.Core.Path.{◌≡◌, refl, sym, ap, subst, ◌∙◌}
 use mathlib.Core.Bool.{Bool, true, false}
 use mathlib.Core.Logic.{◌⊎◌, inl, inr, ⊎_elim}
-use mathlib.Core.Option.{Option, none, some}
+use Rattle.std.specs.Prelude.{Option, None, Some}
 use mathlib.Core.List.{List, [], ◌∷◌, ◌++◌, append_assoc, append_cancel_right, tail-eq_of_cons-eq}
 use native.Mathlib.Omega.{arith}
 use native.Mathlib.Nat.{eq-or-lt_of_le}
@@ -70,7 +70,7 @@ ends_behind_first h =
     }
 
 -- no rule ends q where `ending` finds none
-pub ending_none_none : (rules : List Rule) (start : Bool) (q : List ℕ) → ending rules start q ≡ none
+pub ending_none_none : (rules : List Rule) (start : Bool) (q : List ℕ) → ending rules start q ≡ None
     → (j : ℕ) (u : List ℕ) → Ends rules start q j u → ⊥
 unfolding ending
 ending_none_none rules start [] e j u h = omega (arith, h.some_left, simp length-append at (ap length h.split))
@@ -80,7 +80,7 @@ ending_none_none rules start (x ∷ q) e j (y ∷ u) h =
     ending_none_none rules false q (tie_none (spanning rules start (x ∷ q)) (ending rules false q) e).1 j u (ends_behind_first h)
 
 -- "the rule with the longest left side that is a suffix of q's string", marked before unmarked, "the lowest rule among equals"
-pub ending_longest : (rules : List Rule) (start : Bool) (q : List ℕ) (i : ℕ) → ending rules start q ≡ some i
+pub ending_longest : (rules : List Rule) (start : Bool) (q : List ℕ) (i : ℕ) → ending rules start q ≡ Some i
     → (j : ℕ) (u : List ℕ) → Ends rules start q j u
     → (length (rule rules j).left < length (rule rules i).left) ⊎ (((rule rules j).left ≡ (rule rules i).left) × NotWeaker rules i j)
 unfolding ending
@@ -88,8 +88,8 @@ ending_longest rules start [] i e j u h = let z : ◌≡◌ {A = ℕ} 0 1 = cc i
 ending_longest rules start (x ∷ q) i e j [] h = inr (go (spanning rules start (x ∷ q)) refl)
   where
     go : (o : Option ℕ) → spanning rules start (x ∷ q) ≡ o → ((rule rules j).left ≡ (rule rules i).left) × NotWeaker rules i j
-    go none e' = absurd (spanning-none rules start (x ∷ q) e' j (ends_whole h))
-    go (some k) e' =
+    go None e' = absurd (spanning-none rules start (x ∷ q) e' j (ends_whole h))
+    go (Some k) e' =
         let same : i ≡ k = tie_earlier (spanning rules start (x ∷ q)) (ending rules false q) i k e e' in
         let found = spanning-some rules start (x ∷ q) i (rw same e') in
         (sym h.split ∙ sym found.0.is_left, found.1 j (ends_whole h))
@@ -118,7 +118,7 @@ module _ (rules : List Rule) where
   ending-ends p q i t = simp length-take (omega arith)
 
   -- what the search finds is an occurrence
-  scan_occurs : (p q : List ℕ) (o : Occurrence) → scan rules p q ≡ some o → Occurs rules (p ++ q) o
+  scan_occurs : (p q : List ℕ) (o : Occurrence) → scan rules p q ≡ Some o → Occurs rules (p ++ q) o
   unfolding scan
   scan_occurs p [] o e = let z : ◌≡◌ {A = ℕ} 0 1 = cc in absurd (omega arith)
   scan_occurs p (a ∷ q) o e =
@@ -130,7 +130,7 @@ module _ (rules : List Rule) where
       (scan-some rules p a q o e))
 
   -- the redex is an occurrence
-  pub redex_occurs : (w : List ℕ) (o : Occurrence) → redex rules w ≡ some o → Occurs rules w o
+  pub redex_occurs : (w : List ℕ) (o : Occurrence) → redex rules w ≡ Some o → Occurs rules w o
   unfolding redex
   redex_occurs w o e = scan_occurs [] w o e
 
@@ -158,7 +158,7 @@ First rules o x = (x ≡ o) ⊎ Sooner rules o x
 
 module _ (rules : List Rule) (some_left : NonEmpty rules) where
   -- of the occurrences that end where p ends or later, the one that `ending` finds at p is taken first
-  ending_first : (p q : List ℕ) (i : ℕ) → ending rules true p ≡ some i → (x : Occurrence) → Occurs rules (p ++ q) x
+  ending_first : (p q : List ℕ) (i : ℕ) → ending rules true p ≡ Some i → (x : Occurrence) → Occurs rules (p ++ q) x
       → length p ≤ ends rules x → First rules (ending_at rules p q i) x
   unfolding ending_at
   ending_first p q i last x occ h = ⊎_elim together (λ later. inr (inl (omega (arith, end)))) (eq-or-lt_of_le h)
@@ -185,7 +185,7 @@ module _ (rules : List Rule) (some_left : NonEmpty rules) where
           (occurs_ends rules p q x occ n (some_left x.rule occ.0)))
 
   -- where `ending` finds none at p, they all end later
-  ending_later : (p q : List ℕ) → ending rules true p ≡ none → (x : Occurrence) → Occurs rules (p ++ q) x
+  ending_later : (p q : List ℕ) → ending rules true p ≡ None → (x : Occurrence) → Occurs rules (p ++ q) x
       → length p ≤ ends rules x → length p < ends rules x
   ending_later p q last x occ h =
       ⊎_elim
@@ -194,7 +194,7 @@ module _ (rules : List Rule) (some_left : NonEmpty rules) where
       (λ l. l) (eq-or-lt_of_le h)
 
   -- of the occurrences that end behind p, the one that the search finds is taken first
-  scan_first : (p q : List ℕ) (o : Occurrence) → scan rules p q ≡ some o → (x : Occurrence) → Occurs rules (p ++ q) x
+  scan_first : (p q : List ℕ) (o : Occurrence) → scan rules p q ≡ Some o → (x : Occurrence) → Occurs rules (p ++ q) x
       → length p < ends rules x → First rules o x
   unfolding scan
   scan_first p [] o e x occ h = let z : ◌≡◌ {A = ℕ} 0 1 = cc in absurd (omega arith)
@@ -207,11 +207,11 @@ module _ (rules : List Rule) (some_left : NonEmpty rules) where
       (scan-some rules p a q o e)
 
   -- where the search finds none, none ends behind p
-  scan_none_none : (p q : List ℕ) → scan rules p q ≡ none → (x : Occurrence) → Occurs rules (p ++ q) x
+  scan_none_none : (p q : List ℕ) → scan rules p q ≡ None → (x : Occurrence) → Occurs rules (p ++ q) x
       → length p < ends rules x → ⊥
   scan_none_none p [] e x occ h = omega (arith, simp length-append at (ap length occ.1))
   scan_none_none p (a ∷ q) e x occ h =
-      let last : ending rules true (p ++ a ∷ []) ≡ none = scan-ending rules p a q e in
+      let last : ending rules true (p ++ a ∷ []) ≡ None = scan-ending rules p a q e in
       let on : Occurs rules (p ++ a ∷ [] ++ q) x = rw append_snoc occ in
       scan_none_none (p ++ a ∷ []) q (sym (scan-next rules p a q last) ∙ e) x on
       (ending_later (p ++ a ∷ []) q last x on (simp length-append (omega arith)))
@@ -221,20 +221,20 @@ module _ (rules : List Rule) (some_left : NonEmpty rules) where
   ends_behind w x occ = omega (arith, some_left x.rule occ.0)
 
   -- every other occurrence ends later, or ends with the redex and begins later, or shares its place and has a weaker rule
-  pub redex_first : (w : List ℕ) (o : Occurrence) → redex rules w ≡ some o → (x : Occurrence) → Occurs rules w x
+  pub redex_first : (w : List ℕ) (o : Occurrence) → redex rules w ≡ Some o → (x : Occurrence) → Occurs rules w x
       → (x ≡ o) ⊎ Sooner rules o x
   unfolding redex
   redex_first w o e x occ = scan_first [] w o e x occ (ends_behind w x occ)
 
   -- no redex is found only where there is no occurrence
-  pub redex-none : (w : List ℕ) → redex rules w ≡ none → (x : Occurrence) → Occurs rules w x → ⊥
+  pub redex-none : (w : List ℕ) → redex rules w ≡ None → (x : Occurrence) → Occurs rules w x → ⊥
   unfolding redex
   redex-none w e x occ = scan_none_none [] w e x occ (ends_behind w x occ)
 
   -- where there is an occurrence, one is found
-  pub redex-some : (w : List ℕ) (x : Occurrence) → Occurs rules w x → (o : Occurrence) × (redex rules w ≡ some o)
+  pub redex-some : (w : List ℕ) (x : Occurrence) → Occurs rules w x → (o : Occurrence) × (redex rules w ≡ Some o)
   redex-some w x occ = go (redex rules w) refl
     where
-      go : (f : Option Occurrence) → redex rules w ≡ f → (o : Occurrence) × (redex rules w ≡ some o)
-      go none e = absurd (redex-none w e x occ)
-      go (some o) e = (o, e)
+      go : (f : Option Occurrence) → redex rules w ≡ f → (o : Occurrence) × (redex rules w ≡ Some o)
+      go None e = absurd (redex-none w e x occ)
+      go (Some o) e = (o, e)

@@ -4,7 +4,8 @@ use Prim.Native.Nat.{ℕ, zero, suc, ◌+◌, ◌-◌, ◌≤◌, ◌<◌, suc-l
 use mathlib.Core.Path.{◌≡◌, refl, sym, ap, subst, ◌∙◌}
 use mathlib.Core.Bool.{Bool, true, false, cond, ◌&&◌}
 use mathlib.Core.Logic.{◌⊎◌, inl, inr, ⊎_elim}
-use mathlib.Core.Option.{Option, none, some, map, or_else, map-eq-none_iff}
+use Rattle.std.specs.Prelude.{Option, None, Some, option_map}
+use Rattle.std.specs.Option.{option_or}
 use mathlib.Core.List.{List, [], ◌∷◌, ◌++◌, append-nil}
 use native.Mathlib.Omega.{arith}
 use native.Mathlib.Nat.{eq-or-lt_of_le, le_of_suc-le-suc, not-suc-le-zero}
@@ -16,86 +17,90 @@ use Rattle.rewriting.specs.Occurrences.{Occurrence, Stronger, lowest, spanning, 
 use Rattle.rewriting.proofs.Lists.{and_left, and_right, and_both, not-true, alike_eq, eq_alike, same_eq, eq_same}
 use Rattle.rewriting.proofs.Choice.{tie-some}
 
--- `or_else` finds nothing only where neither does
-or_else_none : {A : Type 0} (x y : Option A) → or_else x y ≡ none → (x ≡ none) × (y ≡ none)
-unfolding or_else
-or_else_none none y e = (refl, e)
-or_else_none (some a) y e = let z : ◌≡◌ {A = ℕ} 0 1 = cc in absurd (omega arith)
+-- what is made of nothing is nothing, and of nothing else
+map_none : {A B : Type 0} (f : A → B) (o : Option A) → option_map f o ≡ None → o ≡ None
+map_none f None e = refl
+map_none f (Some x) e = let z : ◌≡◌ {A = ℕ} 0 1 = cc in absurd (omega arith)
+
+-- neither of two is found where the first that is found is none
+or_else_none : {A : Type 0} (x y : Option A) → option_or x y ≡ None → (x ≡ None) × (y ≡ None)
+or_else_none None y e = (refl, e)
+or_else_none (Some a) y e = let z : ◌≡◌ {A = ℕ} 0 1 = cc in absurd (omega arith)
 
 module _ (rules : List Rule) where
   -- one symbol on, where no left side ends with it
-  pub scan-next : (p : List ℕ) (a : ℕ) (q : List ℕ) → ending rules true (p ++ a ∷ []) ≡ none
+  pub scan-next : (p : List ℕ) (a : ℕ) (q : List ℕ) → ending rules true (p ++ a ∷ []) ≡ None
       → scan rules p (a ∷ q) ≡ scan rules (p ++ a ∷ []) q
-  unfolding scan or_else
+  unfolding scan
   scan-next p a q e = rw e
 
   -- where one ends with it, the search takes it
-  pub scan_found : (p : List ℕ) (a : ℕ) (q : List ℕ) (i : ℕ) → ending rules true (p ++ a ∷ []) ≡ some i
-      → scan rules p (a ∷ q) ≡ some (ending_at rules (p ++ a ∷ []) q i)
-  unfolding scan or_else
+  pub scan_found : (p : List ℕ) (a : ℕ) (q : List ℕ) (i : ℕ) → ending rules true (p ++ a ∷ []) ≡ Some i
+      → scan rules p (a ∷ q) ≡ Some (ending_at rules (p ++ a ∷ []) q i)
+  unfolding scan
   scan_found p a q i e = rw e
 
   -- nothing is found from p on only where no left side ends with the next symbol
-  pub scan-ending : (p : List ℕ) (a : ℕ) (q : List ℕ) → scan rules p (a ∷ q) ≡ none → ending rules true (p ++ a ∷ []) ≡ none
+  pub scan-ending : (p : List ℕ) (a : ℕ) (q : List ℕ) → scan rules p (a ∷ q) ≡ None → ending rules true (p ++ a ∷ []) ≡ None
   unfolding scan
   scan-ending p a q e =
-      (map-eq-none_iff (ending_at rules (p ++ a ∷ []) q) (ending rules true (p ++ a ∷ []))).0 (or_else_none _ _ e).0
+      map_none (ending_at rules (p ++ a ∷ []) q) (ending rules true (p ++ a ∷ [])) (or_else_none _ _ e).0
 
   -- what is found from p on ends with the next symbol, or is found behind it
-  pub scan-some : (p : List ℕ) (a : ℕ) (q : List ℕ) (o : Occurrence) → scan rules p (a ∷ q) ≡ some o
-      → ((i : ℕ) × (ending rules true (p ++ a ∷ []) ≡ some i) × (ending_at rules (p ++ a ∷ []) q i ≡ o))
-      ⊎ ((ending rules true (p ++ a ∷ []) ≡ none) × (scan rules (p ++ a ∷ []) q ≡ some o))
+  pub scan-some : (p : List ℕ) (a : ℕ) (q : List ℕ) (o : Occurrence) → scan rules p (a ∷ q) ≡ Some o
+      → ((i : ℕ) × (ending rules true (p ++ a ∷ []) ≡ Some i) × (ending_at rules (p ++ a ∷ []) q i ≡ o))
+      ⊎ ((ending rules true (p ++ a ∷ []) ≡ None) × (scan rules (p ++ a ∷ []) q ≡ Some o))
   scan-some p a q o e = go (ending rules true (p ++ a ∷ [])) refl
     where
       go : (f : Option ℕ) → ending rules true (p ++ a ∷ []) ≡ f
-          → ((i : ℕ) × (ending rules true (p ++ a ∷ []) ≡ some i) × (ending_at rules (p ++ a ∷ []) q i ≡ o))
-          ⊎ ((ending rules true (p ++ a ∷ []) ≡ none) × (scan rules (p ++ a ∷ []) q ≡ some o))
-      go none last = inr (last, sym (scan-next p a q last) ∙ e)
-      go (some i) last = inl (i, last, (cc (scan_found p a q i last)))
+          → ((i : ℕ) × (ending rules true (p ++ a ∷ []) ≡ Some i) × (ending_at rules (p ++ a ∷ []) q i ≡ o))
+          ⊎ ((ending rules true (p ++ a ∷ []) ≡ None) × (scan rules (p ++ a ∷ []) q ≡ Some o))
+      go None last = inr (last, sym (scan-next p a q last) ∙ e)
+      go (Some i) last = inl (i, last, (cc (scan_found p a q i last)))
 
   -- where nothing ends in u, the search goes on behind it
-  pub scan-none : (p u v : List ℕ) → scan rules p u ≡ none → scan rules p (u ++ v) ≡ scan rules (p ++ u) v
+  pub scan-none : (p u v : List ℕ) → scan rules p u ≡ None → scan rules p (u ++ v) ≡ scan rules (p ++ u) v
   scan-none p [] v e = rw append-nil
   scan-none p (a ∷ u) v e =
-      let last : ending rules true (p ++ a ∷ []) ≡ none = scan-ending p a u e in
-      let rest : scan rules (p ++ a ∷ []) u ≡ none = sym (scan-next p a u last) ∙ e in
+      let last : ending rules true (p ++ a ∷ []) ≡ None = scan-ending p a u e in
+      let rest : scan rules (p ++ a ∷ []) u ≡ None = sym (scan-next p a u last) ∙ e in
       scan-next p a (u ++ v) last ∙ rw append_snoc at (scan-none (p ++ a ∷ []) u v rest)
 
   -- where nothing ends in u ++ v, nothing ends in u
-  pub scan_none_left : (p u v : List ℕ) → scan rules p (u ++ v) ≡ none → scan rules p u ≡ none
+  pub scan_none_left : (p u v : List ℕ) → scan rules p (u ++ v) ≡ None → scan rules p u ≡ None
   unfolding scan
   scan_none_left p [] v e = refl
   scan_none_left p (a ∷ u) v e =
-      let last : ending rules true (p ++ a ∷ []) ≡ none = scan-ending p a (u ++ v) e in
-      let rest : scan rules (p ++ a ∷ []) (u ++ v) ≡ none = sym (scan-next p a (u ++ v) last) ∙ e in
+      let last : ending rules true (p ++ a ∷ []) ≡ None = scan-ending p a (u ++ v) e in
+      let rest : scan rules (p ++ a ∷ []) (u ++ v) ≡ None = sym (scan-next p a (u ++ v) last) ∙ e in
       scan-next p a u last ∙ scan_none_left (p ++ a ∷ []) u v rest
 
   -- a string without an occurrence is passed over
-  pub redex_behind : (p v : List ℕ) → redex rules p ≡ none → redex rules (p ++ v) ≡ scan rules p v
+  pub redex_behind : (p v : List ℕ) → redex rules p ≡ None → redex rules (p ++ v) ≡ scan rules p v
   unfolding redex
   redex_behind p v e = scan-none [] p v e
 
   -- it stays without one by a symbol with which no left side ends
-  pub scan_snoc : (p : List ℕ) (a : ℕ) → redex rules p ≡ none → ending rules true (p ++ a ∷ []) ≡ none
-      → redex rules (p ++ a ∷ []) ≡ none
+  pub scan_snoc : (p : List ℕ) (a : ℕ) → redex rules p ≡ None → ending rules true (p ++ a ∷ []) ≡ None
+      → redex rules (p ++ a ∷ []) ≡ None
   unfolding scan
   scan_snoc p a e last = redex_behind p (a ∷ []) e ∙ scan-next p a [] last
 
   -- and a left side that ends with the next symbol is the redex, whatever follows
-  pub redex_found : (p : List ℕ) (a : ℕ) (q : List ℕ) (i : ℕ) → redex rules p ≡ none → ending rules true (p ++ a ∷ []) ≡ some i
-      → redex rules (p ++ a ∷ q) ≡ some (ending_at rules (p ++ a ∷ []) q i)
+  pub redex_found : (p : List ℕ) (a : ℕ) (q : List ℕ) (i : ℕ) → redex rules p ≡ None → ending rules true (p ++ a ∷ []) ≡ Some i
+      → redex rules (p ++ a ∷ q) ≡ Some (ending_at rules (p ++ a ∷ []) q i)
   redex_found p a q i e last = redex_behind p (a ∷ q) e ∙ scan_found p a q i last
 
   -- a beginning of a string without an occurrence has none
-  pub redex_left : (p v : List ℕ) → redex rules (p ++ v) ≡ none → redex rules p ≡ none
+  pub redex_left : (p v : List ℕ) → redex rules (p ++ v) ≡ None → redex rules p ≡ None
   unfolding redex
   redex_left p v e = scan_none_left [] p v e
 
-  pub redex-take : (p : List ℕ) (n : ℕ) → redex rules p ≡ none → redex rules (take n p) ≡ none
+  pub redex-take : (p : List ℕ) (n : ℕ) → redex rules p ≡ None → redex rules (take n p) ≡ None
   redex-take p n e = redex_left (take n p) (drop n p) (rw take-append-drop e)
 
   -- no left side ends a string without an occurrence
-  pub ending-none : (p : List ℕ) (a : ℕ) → redex rules (p ++ a ∷ []) ≡ none → ending rules true (p ++ a ∷ []) ≡ none
+  pub ending-none : (p : List ℕ) (a : ℕ) → redex rules (p ++ a ∷ []) ≡ None → ending rules true (p ++ a ∷ []) ≡ None
   ending-none p a e = scan-ending p a [] (sym (redex_behind p (a ∷ []) (redex_left p (a ∷ []) e)) ∙ e)
 
 -- rule j has the left side v, and a mark or not
@@ -113,8 +118,8 @@ each_with_left r rules marked v P first others (suc j) h p = others j (le_of_suc
 
 -- what is found is the lowest of these rules, and nothing is found only if there is none
 abbrev LowestIs : List Rule → Bool → List ℕ → Option ℕ → Type 0
-LowestIs rules marked v none = (j : ℕ) → j < length rules → HasLeft rules marked v j → ⊥
-LowestIs rules marked v (some i) =
+LowestIs rules marked v None = (j : ℕ) → j < length rules → HasLeft rules marked v j → ⊥
+LowestIs rules marked v (Some i) =
     (i < length rules) × HasLeft rules marked v i × ((j : ℕ) → j < length rules → HasLeft rules marked v j → i ≤ j)
 
 lowest-is : (rules : List Rule) (marked : Bool) (v : List ℕ) → LowestIs rules marked v (lowest rules marked v)
@@ -132,7 +137,7 @@ lowest-is (r ∷ rules) marked v =
         omega arith
 
     go : (b : Bool) → (alike marked r.marked && same r.left v) ≡ b → (o : Option ℕ) → LowestIs rules marked v o
-        → LowestIs (r ∷ rules) marked v (cond b (some 0) (map suc o))
+        → LowestIs (r ∷ rules) marked v (cond b (Some 0) (option_map suc o))
     go true s o f = (
       omega arith,
       (
@@ -141,20 +146,20 @@ lowest-is (r ∷ rules) marked v =
       ),
       λ j h p. omega arith,
     )
-    go false s none f = each_with_left r rules marked v (λ j. ⊥) (differs s) f
-    go false s (some k) f = (
+    go false s None f = each_with_left r rules marked v (λ j. ⊥) (differs s) f
+    go false s (Some k) f = (
       omega arith,
       f.1,
       each_with_left r rules marked v (λ j. suc k ≤ j) (λ p. absurd (differs s p)) (λ j h p. suc-le-suc (f.2 j h p)),
     )
 
 -- the rule found has the left side v, and none below it has
-pub lowest_left_lem : (rules : List Rule) (marked : Bool) (v : List ℕ) (i : ℕ) → lowest rules marked v ≡ some i
+pub lowest_left_lem : (rules : List Rule) (marked : Bool) (v : List ℕ) (i : ℕ) → lowest rules marked v ≡ Some i
     → (i < length rules) × HasLeft rules marked v i × ((j : ℕ) → j < length rules → HasLeft rules marked v j → i ≤ j)
 lowest_left_lem rules marked v i e = subst (λ o. LowestIs rules marked v o) e (lowest-is rules marked v)
 
 -- nothing is found only if no rule has the left side v
-pub lowest-none : (rules : List Rule) (marked : Bool) (v : List ℕ) → lowest rules marked v ≡ none
+pub lowest-none : (rules : List Rule) (marked : Bool) (v : List ℕ) → lowest rules marked v ≡ None
     → (j : ℕ) → j < length rules → HasLeft rules marked v j → ⊥
 lowest-none rules marked v e = subst (λ o. LowestIs rules marked v o) e (lowest-is rules marked v)
 
@@ -182,20 +187,19 @@ lower rules i j e h = ⊎_elim (λ (p : i ≡ j). inl p) (λ (l : i < j). inr (i
 
 -- what is found is a rule that may occur, and is taken before all others; nothing is found only if there is none
 abbrev SpanningIs : List Rule → Bool → List ℕ → Option ℕ → Type 0
-SpanningIs rules start v none = (j : ℕ) → MayOccur rules start v j → ⊥
-SpanningIs rules start v (some i) = MayOccur rules start v i × ((j : ℕ) → MayOccur rules start v j → NotWeaker rules i j)
+SpanningIs rules start v None = (j : ℕ) → MayOccur rules start v j → ⊥
+SpanningIs rules start v (Some i) = MayOccur rules start v i × ((j : ℕ) → MayOccur rules start v j → NotWeaker rules i j)
 
 elsewhere : (rules : List Rule) (v : List ℕ) (o : Option ℕ) → LowestIs rules false v o → SpanningIs rules false v o
-elsewhere rules v none f = λ j m. f j m.is-rule (no_mark m, m.is_left)
-elsewhere rules v (some i) f = (
+elsewhere rules v None f = λ j m. f j m.is-rule (no_mark m, m.is_left)
+elsewhere rules v (Some i) f = (
   record { is-rule = f.0; is_left = f.1.1; in_place = λ e. sym f.1.0 ∙ e },
   λ j m. lower rules i j (f.1.0 ∙ sym (no_mark m)) (f.2 j m.is-rule (no_mark m, m.is_left)),
 )
 
 at_start_lem : (rules : List Rule) (v : List ℕ) (o : Option ℕ) → LowestIs rules true v o → (n : Option ℕ) → LowestIs rules false v n
-    → SpanningIs rules true v (or_else o n)
-unfolding or_else
-at_start_lem rules v (some i) f n g = (
+    → SpanningIs rules true v (option_or o n)
+at_start_lem rules v (Some i) f n g = (
   record { is-rule = f.0; is_left = f.1.1; in_place = λ e. refl },
   λ j m. by_mark j m (rule rules j).marked refl,
 )
@@ -203,7 +207,7 @@ at_start_lem rules v (some i) f n g = (
     by_mark : (j : ℕ) → MayOccur rules true v j → (b : Bool) → (rule rules j).marked ≡ b → NotWeaker rules i j
     by_mark j m true e = lower rules i j (f.1.0 ∙ sym e) (f.2 j m.is-rule (e, m.is_left))
     by_mark j m false e = inr (inl (f.1.0, e))
-at_start_lem rules v none f (some i) g = (
+at_start_lem rules v None f (Some i) g = (
   record { is-rule = g.0; is_left = g.1.1; in_place = λ e. refl },
   λ j m. by_mark j m (rule rules j).marked refl,
 )
@@ -211,7 +215,7 @@ at_start_lem rules v none f (some i) g = (
     by_mark : (j : ℕ) → MayOccur rules true v j → (b : Bool) → (rule rules j).marked ≡ b → NotWeaker rules i j
     by_mark j m true e = absurd (f j m.is-rule (e, m.is_left))
     by_mark j m false e = lower rules i j (g.1.0 ∙ sym e) (g.2 j m.is-rule (e, m.is_left))
-at_start_lem rules v none f none g = λ j m. by_mark j m (rule rules j).marked refl
+at_start_lem rules v None f None g = λ j m. by_mark j m (rule rules j).marked refl
   where
     by_mark : (j : ℕ) → MayOccur rules true v j → (b : Bool) → (rule rules j).marked ≡ b → ⊥
     by_mark j m true e = f j m.is-rule (e, m.is_left)
@@ -223,12 +227,12 @@ spanning-is rules true v = at_start_lem rules v (lowest rules true v) (lowest-is
 spanning-is rules false v = elsewhere rules v (lowest rules false v) (lowest-is rules false v)
 
 -- the rule found may occur, and is taken before all others that may
-pub spanning-some : (rules : List Rule) (start : Bool) (v : List ℕ) (i : ℕ) → spanning rules start v ≡ some i
+pub spanning-some : (rules : List Rule) (start : Bool) (v : List ℕ) (i : ℕ) → spanning rules start v ≡ Some i
     → MayOccur rules start v i × ((j : ℕ) → MayOccur rules start v j → NotWeaker rules i j)
 spanning-some rules start v i e = subst (λ o. SpanningIs rules start v o) e (spanning-is rules start v)
 
 -- nothing is found only if none may
-pub spanning-none : (rules : List Rule) (start : Bool) (v : List ℕ) → spanning rules start v ≡ none
+pub spanning-none : (rules : List Rule) (start : Bool) (v : List ℕ) → spanning rules start v ≡ None
     → (j : ℕ) → MayOccur rules start v j → ⊥
 spanning-none rules start v e = subst (λ o. SpanningIs rules start v o) e (spanning-is rules start v)
 
@@ -253,14 +257,14 @@ ends_with rules start p i h l u e m =
     record { is-rule = h; some_left = l; fits = omega arith; ends = cc; in_place = λ k. ((m k).0, before ∙ (m k).1) }
 
 -- the rule that `ending` finds is such a rule
-pub ending_left : (rules : List Rule) (start : Bool) (p : List ℕ) (i : ℕ) → ending rules start p ≡ some i → EndsWith rules start p i
+pub ending_left : (rules : List Rule) (start : Bool) (p : List ℕ) (i : ℕ) → ending rules start p ≡ Some i → EndsWith rules start p i
 unfolding ending
 ending_left rules start [] i e = let z : ◌≡◌ {A = ℕ} 0 1 = cc in absurd (omega arith)
 ending_left rules start (x ∷ p) i e =
     ⊎_elim whole (λ later. longer (ending_left rules false p i later))
     (tie-some (spanning rules start (x ∷ p)) (ending rules false p) i e)
   where
-    whole : spanning rules start (x ∷ p) ≡ some i → EndsWith rules start (x ∷ p) i
+    whole : spanning rules start (x ∷ p) ≡ Some i → EndsWith rules start (x ∷ p) i
     whole e =
         let found = (spanning-some rules start (x ∷ p) i e).0 in
         ends_with rules start (x ∷ p) i found.is-rule (rw found.is_left (omega arith)) [] (sym found.is_left)

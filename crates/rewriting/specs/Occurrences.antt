@@ -1,6 +1,6 @@
 -- Occurrences of left sides in a string, and the one that a rewrite takes.
-use Rattle.std.specs.Prelude.{ℕ, suc, ◌+◌, ◌-◌, ◌<◌, ◌≡◌, Bool, true, false, cond, ◌&&◌, ◌⊎◌, List, [], ◌∷◌, ◌++◌, length, take}
-use Rattle.std.proofs.Math.Option.{Option, none, some, map, or_else}
+use Rattle.std.specs.Prelude.{ℕ, suc, ◌+◌, ◌-◌, ◌<◌, ◌≡◌, Bool, true, false, cond, ◌&&◌, ◌⊎◌, List, [], ◌∷◌, ◌++◌, length, take, Option, None, Some, option_map}
+use Rattle.std.specs.Option.{option_or}
 use Rattle.rewriting.specs.Lists.{alike, same}
 use Rattle.rewriting.specs.Rules.{Rule, rule}
 
@@ -43,24 +43,24 @@ Sooner rules o o' =
 
 -- "the lowest rule" with the left side v, of those with a mark or of those without
 unfoldable pub lowest : List Rule → Bool → List ℕ → Option ℕ
-lowest [] marked v = none
+lowest [] marked v = None
 lowest (r ∷ rules) marked v =
-    cond (alike marked r.marked && same r.left v) (some 0) (map suc (lowest rules marked v))
+    cond (alike marked r.marked && same r.left v) (Some 0) (option_map suc (lowest rules marked v))
 
 -- The rule that is taken among those with the left side v, where v stands at the string's start or elsewhere. Only there does a
 -- marked one occur, and then "a marked rule wins over an unmarked one".
 unfoldable pub spanning : List Rule → Bool → List ℕ → Option ℕ
-spanning rules true v = or_else (lowest rules true v) (lowest rules false v)
+spanning rules true v = option_or (lowest rules true v) (lowest rules false v)
 spanning rules false v = lowest rules false v
 
 -- Of two occurrences that end together, the first of which begins before the second, the one that is taken:
 -- "the one that begins first". No other place chooses by where they begin.
 unfoldable pub tie : Option ℕ → Option ℕ → Option ℕ
-tie earlier later = or_else earlier later
+tie earlier later = option_or earlier later
 
 -- the rule of the occurrence that is taken among those that end where p ends, where p stands at the string's start or elsewhere
 unfoldable pub ending : List Rule → Bool → List ℕ → Option ℕ
-ending rules start [] = none
+ending rules start [] = None
 ending rules start (x ∷ p) = tie (spanning rules start (x ∷ p)) (ending rules false p)
 
 -- p without rule i's left side at its end
@@ -73,9 +73,9 @@ ending_at rules p q i = record { before = cut rules p i; rule = i; after = q }
 
 -- "take the one that ends first": of the occurrences in p ++ q that end behind p
 unfoldable pub scan : List Rule → List ℕ → List ℕ → Option Occurrence
-scan rules p [] = none
+scan rules p [] = None
 scan rules p (a ∷ q) =
-    or_else (map (ending_at rules (p ++ a ∷ []) q) (ending rules true (p ++ a ∷ []))) (scan rules (p ++ a ∷ []) q)
+    option_or (option_map (ending_at rules (p ++ a ∷ []) q) (ending rules true (p ++ a ∷ []))) (scan rules (p ++ a ∷ []) q)
 
 -- the occurrence that a rewrite of the string w takes
 unfoldable pub redex : List Rule → List ℕ → Option Occurrence

@@ -5,13 +5,14 @@ ghost use Rattle.std.specs.Prelude.{◌≡◌, true, length, replicate};
 ghost use Rattle.rewriting.specs.Lists.{prefix};
 ghost use Rattle.layout.specs.Image.{read, valid};
 ghost use Rattle.layout.specs.Table.{table_of};
+ghost use Rattle.layout.specs.Refusals.{numbered};
 ghost use Rattle.layout.specs.Compile.{compile_of};
 ghost use Rattle.layout.specs.TableCheck.{check_of};
 ghost use Rattle.layout.specs.Words as Words;
 ghost use Rattle.trie.specs.Nodes.{Roomy, Built};
 
 use image::wide;
-use layout::{Checked, Compiled};
+use layout::Refusal;
 use trie::{FEW_WORDS, WORDS, rows};
 
 mod compare;
@@ -34,27 +35,27 @@ fn write(image: &[u8], root: usize, nodes: &mut [u16], n: usize, table: &mut [u1
 
 // Compile for a valid image, with words for the trie. It is built first, since the number of states decides whether the
 // table fits.
-fn compile_with(image: &[u8], root: usize, nodes: &mut [u16], table: &mut [u16]) -> Compiled
+fn compile_with(image: &[u8], root: usize, nodes: &mut [u16], table: &mut [u16]) -> Result<usize, Refusal>
     requires image { valid image.now ≡ true }
     requires root { root ≡ Words.root (read image.now).rules }
     requires words { (nodes.old ≡ replicate (length nodes.old) 0) × (Roomy (read image.now) (length nodes.old)) }
-    ensures answer { result ≡ (compile_of image.now table.old).answer }
+    ensures answer { numbered result ≡ (compile_of image.now table.old).answer }
     ensures area { table.new ≡ (compile_of image.now table.old).area }
 {
     trie::begin(image, root, nodes);
     let n = trie::build(image, root, nodes);
     let words = 2 + n + n * image::symbols(image);
     if table.len() < words {
-        return Compiled::Refused(8);
+        return Err(Refusal::ShortTable);
     }
     write(image, root, nodes, n, &mut table[..words]);
-    Compiled::Words(words)
+    Ok(words)
 }
 
 // Writes the table of the image. A small rule set has a small array for its trie: to clear the large one takes longer than
 // all the rest.
-pub fn compile(image: &[u8], table: &mut [u16]) -> Compiled
-    ensures answer { result ≡ (compile_of image.now table.old).answer }
+pub fn compile(image: &[u8], table: &mut [u16]) -> Result<usize, Refusal>
+    ensures answer { numbered result ≡ (compile_of image.now table.old).answer }
     ensures area { table.new ≡ (compile_of image.now table.old).area }
 {
     let validity = validity::validity(image);
@@ -67,7 +68,7 @@ pub fn compile(image: &[u8], table: &mut [u16]) -> Compiled
         let mut nodes = [0u16; WORDS];
         return compile_with(image, root, &mut nodes, table);
     }
-    Compiled::Refused(7)
+    return Err(Refusal::BadImage);
 }
 
 // Whether the table begins with that of a valid image, with words for the trie.
@@ -97,16 +98,16 @@ fn begins_with_table(image: &[u8], root: usize, table: &[u16]) -> bool
 }
 
 // The check of a lent image and table: refusals 7 and 9.
-pub fn check(image: &[u8], table: &[u16]) -> Checked
-    ensures { result ≡ check_of image.now table.now }
+pub fn check(image: &[u8], table: &[u16]) -> Result<(), Refusal>
+    ensures { numbered result ≡ check_of image.now table.now }
 {
     let validity = validity::validity(image);
     if 0 < validity {
         let root = wide::byte(validity - 1);
         if begins_with_table(image, root, table) {
-            return Checked::Passed;
+            return Ok(());
         }
-        return Checked::Refused(9);
+        return Err(Refusal::OtherTable);
     }
-    Checked::Refused(7)
+    Err(Refusal::BadImage)
 }

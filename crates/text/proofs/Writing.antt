@@ -2,7 +2,7 @@
 -- Assumes nothing.
 use Prim.Native.Nat.{ℕ, ◌+◌, ◌*◌, ◌≤◌, ◌<◌}
 use mathlib.Core.Path.{◌≡◌, refl, sym, ap, ◌∙◌}
-use mathlib.Core.Option.{some}
+use Rattle.std.specs.Prelude.{Some}
 use mathlib.Core.List.{List, [], ◌∷◌, ◌++◌, append-nil, flat_map}
 use native.Mathlib.Omega.{arith}
 use lib.ListN.{length, set, take, drop, length-append}
@@ -148,7 +148,7 @@ names_written symbols words names m n =
 
 -- The answers.
 module _ (text image names : List ℕ) where
-  refused_with : (n : ℕ) → refusal (read_checks text image names) ≡ some n
+  refused_with : (n : ℕ) → refusal (read_checks text image names) ≡ Some n
       → read_of text image names ≡ record { answer = read.Refused n 0; image = image; names = names }
   unfolding read_of unless written
   refused_with n e = rw e

@@ -2,8 +2,8 @@
 -- Assumes nothing.
 use Prim.Native.Nat.{ℕ, suc, ◌+◌, ◌-◌, ◌≤◌, ◌<◌}
 use mathlib.Core.Path.{◌≡◌, refl, sym, ap, ◌∙◌}
-use mathlib.Core.Bool.{Bool, true, false, ◌&&◌, and-false}
-use mathlib.Core.Option.{none}
+use mathlib.Core.Bool.{Bool, true, false, and-false}
+use Rattle.std.specs.Prelude.{Option, None}
 use mathlib.Core.List.{List, [], ◌∷◌}
 use native.Mathlib.Omega.{arith}
 use native.Mathlib.Numerals.{add-one}
@@ -12,7 +12,7 @@ use Rattle.std.proofs.lemmas.Bool.{false≢true}
 use lib.ListN.{length, get_or, take, drop, length-drop, drop_of_length-le, get_or-eq_default}
 use lib.Seq.{drop-cons, drop-drop}
 use borrow.Author.Rules.{part_to_end}
-use borrow.Author.Tests.{ltb-true, ltb-false, eqb-true, eq-eqb, ne_eqb}
+use borrow.Author.Tests.{ltb-true, ltb-false, eqb-true}
 use Rattle.rewriting.specs.Lists.{all}
 use Rattle.tokens.specs.declared.Kind.{Kind}
 use Rattle.grammar.specs.Tokens.{separator, letter, digit, name_byte, unbroken, token_of}
@@ -223,13 +223,13 @@ bytes-some text start end e some = rw (bytes_rest text start end e) (omega (arit
 
 module _ {text : List ℕ} {start from : ℕ} (l : Leading text start from) where
   -- a byte of the name may not be in one
-  pub run_no_token : all name_byte (rest_of text from) ≡ false → token_of (rest_of text start) ≡ none
+  pub run_no_token : all name_byte (rest_of text from) ≡ false → token_of (rest_of text start) ≡ None
   run_no_token e =
       let by = (told (rest_of text start)).0 in
       rw (← l.name, e) at by
 
   -- all may: which token the run is, and that its name is a name
-  module _ (end : ℕ) (stop : end ≡ stop_of text start) (k : Kind) (kind : k ≡ kind_of (bytes_of text start end))
+  module _ (end : ℕ) (stop : end ≡ stop_of text start) (k : Option Kind) (kind : k ≡ kind_of (bytes_of text start end))
       (passed : all name_byte (rest_of text from) ≡ true) where
     kind_rest : k ≡ kind_of (rest_of text start)
     kind_rest = kind ∙ ap kind_of (bytes_rest text start end stop)

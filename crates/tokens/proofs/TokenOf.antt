@@ -3,7 +3,7 @@
 use Prim.Native.Nat.{ℕ}
 use mathlib.Core.Path.{◌≡◌, refl, ◌∙◌}
 use mathlib.Core.Bool.{Bool, true, false, cond, ◌&&◌, and-true, and-false}
-use mathlib.Core.Option.{Option, none}
+use Rattle.std.specs.Prelude.{Option, None}
 use mathlib.Core.List.{List, [], ◌∷◌}
 use native.Mathlib.Omega.{arith}
 use lib.Dec.{eqb, leb}
@@ -20,9 +20,9 @@ abbrev pub name_of : List ℕ → List ℕ
 name_of run = drop (lead run) run
 
 -- a run of the kind k is the token of that kind, if all bytes of its name may be in one, and then its name is a name
-abbrev pub Told : Kind → List ℕ → Type 0
+abbrev pub Told : Option Kind → List ℕ → Type 0
 Told k run =
-    (token_of run ≡ cond (all name_byte (name_of run)) (token_as k (name_of run)) none)
+    (token_of run ≡ cond (all name_byte (name_of run)) (token_as k (name_of run)) None)
     × (all name_byte (name_of run) ≡ true → Named k (name_of run))
 
 letter-named : (b : ℕ) → letter b ≡ true → name_byte b ≡ true
@@ -42,7 +42,7 @@ name-is y u = go (letter y) refl (leb (length (y ∷ u)) 24)
     go false e false = refl
 
 -- whatever the bytes, no token
-neither : (h : Bool) → ◌≡◌ {A = Option Token} none (cond h none none)
+neither : (h : Bool) → ◌≡◌ {A = Option Token} None (cond h None None)
 neither true = refl
 neither false = refl
 

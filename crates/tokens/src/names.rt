@@ -26,7 +26,9 @@ pub(crate) fn find(area: &[u8], n: usize, key: &[u8; SLOT_BYTES], last: usize) -
     ensures { result ≡ slot_at key.now n area.now }
 {
     let (slots, _) = area.as_chunks::<SLOT_BYTES>();
-    slots[..n].iter().position(|slot| slot[last] == key[last] && slot == key)
+    slots[..n]
+        .iter()
+        .position(|slot| slot[last] == key[last] && slot == key)
 }
 
 // The number of a name among the names in the first `count` slots, and how many names there are then. A new one is kept in the

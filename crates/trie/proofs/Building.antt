@@ -4,7 +4,8 @@ use Prim.Native.Nat.{ℕ, zero, suc, ◌+◌, ◌*◌, ◌≤◌, ◌<◌}
 use mathlib.Core.Path.{◌≡◌, refl, sym, ap, ◌∙◌}
 use mathlib.Core.Bool.{Bool, true, false, cond, ◌&&◌}
 use mathlib.Core.Logic.{◌≢◌, ◌⊎◌, inl, inr}
-use mathlib.Core.Option.{Option, none, some, map, or_else}
+use Rattle.std.specs.Prelude.{Option, None, Some, option_map}
+use Rattle.std.specs.Option.{option_or}
 use mathlib.Core.List.{List, [], ◌∷◌, ◌++◌, flat_map}
 use native.Mathlib.Omega.{arith}
 use native.Mathlib.Numerals.{add-one}
@@ -51,22 +52,22 @@ fits marked v r = alike marked r.marked && same r.left v
 
 -- the lowest rule with a left side, when a rule more comes last
 lowest_append : (rules : List Rule) (r : Rule) (marked : Bool) (v : List ℕ)
-    → lowest (rules ++ r ∷ []) marked v ≡ or_else (lowest rules marked v) (cond (fits marked v r) (some (length rules)) none)
-unfolding lowest or_else
+    → lowest (rules ++ r ∷ []) marked v ≡ option_or (lowest rules marked v) (cond (fits marked v r) (Some (length rules)) None)
+unfolding lowest
 lowest_append [] r marked v = go (fits marked v r)
   where
-    go : (b : Bool) → cond b (some 0) (map suc none) ≡ cond b (some 0) none
+    go : (b : Bool) → cond b (Some 0) (option_map suc None) ≡ cond b (Some 0) None
     go true = refl
     go false = refl
 lowest_append (x ∷ rules) r marked v = go (fits marked v x) (fits marked v r) (lowest rules marked v) (lowest_append rules r marked v)
   where
-    go : (b d : Bool) (o : Option ℕ) → lowest (rules ++ r ∷ []) marked v ≡ or_else o (cond d (some (length rules)) none)
-        → cond b (some 0) (map suc (lowest (rules ++ r ∷ []) marked v))
-        ≡ or_else (cond b (some 0) (map suc o)) (cond d (some (suc (length rules))) none)
+    go : (b d : Bool) (o : Option ℕ) → lowest (rules ++ r ∷ []) marked v ≡ option_or o (cond d (Some (length rules)) None)
+        → cond b (Some 0) (option_map suc (lowest (rules ++ r ∷ []) marked v))
+        ≡ option_or (cond b (Some 0) (option_map suc o)) (cond d (Some (suc (length rules))) None)
     go true d o e = refl
-    go false d (some k) e = rw e
-    go false true none e = rw e
-    go false false none e = rw e
+    go false d (Some k) e = rw e
+    go false true None e = rw e
+    go false false None e = rw e
 
 -- a rule has its own pattern, and what has it is that pattern
 fits-own : (r : Rule) → Plain r.left → fits (starts (pattern r)) (symbols_in (pattern r)) r ≡ true
@@ -84,7 +85,7 @@ module _ (set : RuleSet) (in_range_lem : in_range set ≡ true) (i : ℕ) (lt : 
     (f : FollowedRule set i w t) (room : 8 * w.nodes ≤ length t) where
   own-next : (v : List ℕ)
       → own (take (suc i) set.rules) v
-      ≡ or_else (own (take i set.rules) v) (cond (fits (starts v) (symbols_in v) (rule set.rules i)) (some i) none)
+      ≡ option_or (own (take i set.rules) v) (cond (fits (starts v) (symbols_in v) (rule set.rules i)) (Some i) None)
   unfolding own
   own-next v =
       let n : length (take i set.rules) ≡ i = length-take-le i set.rules (omega arith) in
@@ -92,16 +93,15 @@ module _ (set : RuleSet) (in_range_lem : in_range set ≡ true) (i : ℕ) (lt : 
 
   -- the node's own rule is the lowest
   claimed-own : matched (claimed t w.node i) w.node
-      ≡ match_word (or_else (own (take i set.rules) (pattern (rule set.rules i))) (some i))
-  unfolding claimed match_word or_else
+      ≡ match_word (option_or (own (take i set.rules) (pattern (rule set.rules i))) (Some i))
+  unfolding claimed match_word
   claimed-own = go (own (take i set.rules) (pattern (rule set.rules i))) (f.owned w.node (rw f.nodes at f.node) ∙ rw f.ends)
     where
-      go : (o : Option ℕ) → matched t w.node ≡ match_word o → matched (claimed t w.node i) w.node ≡ match_word (or_else o (some i))
-      go none e = rw e (get_or-set_same t (8 * w.node + 6) (i + 1) 0 (omega (arith, f.node)) ∙ add-one i)
-      go (some k) e = rw (e, ne_eqb (suc k) 0 (λ z. omega arith)) e
+      go : (o : Option ℕ) → matched t w.node ≡ match_word o → matched (claimed t w.node i) w.node ≡ match_word (option_or o (Some i))
+      go None e = rw e (get_or-set_same t (8 * w.node + 6) (i + 1) 0 (omega (arith, f.node)) ∙ add-one i)
+      go (Some k) e = rw (e, ne_eqb (suc k) 0 (λ z. omega arith)) e
 
   claimed_owned : Owned (take (suc i) set.rules) (states_of set (suc i)) (claimed t w.node i)
-  unfolding or_else
   claimed_owned c h = go (same_or w.node c)
     where
       there : List ℕ
@@ -129,9 +129,9 @@ module _ (set : RuleSet) (in_range_lem : in_range set ≡ true) (i : ℕ) (lt : 
               (sym eq ∙ sym f.ends)))
           unlike false e = refl
 
-          or_else-none : (o : Option ℕ) → or_else o none ≡ o
-          or_else-none none = refl
-          or_else-none (some k) = refl
+          or_else-none : (o : Option ℕ) → option_or o None ≡ o
+          or_else-none None = refl
+          or_else-none (Some k) = refl
 
   -- The trie of a rule more.
   pub grown_next : Grown set (suc i) (claimed t w.node i)

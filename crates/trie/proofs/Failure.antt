@@ -5,7 +5,8 @@ use Prim.Native.Nat.{ℕ, suc, ◌+◌, ◌*◌, ◌≤◌, ◌<◌}
 use mathlib.Core.Path.{◌≡◌, refl, sym, ap, ◌∙◌}
 use mathlib.Core.Bool.{Bool, true, false, cond}
 use mathlib.Core.Logic.{◌≢◌, ◌⊎◌, inl, inr}
-use mathlib.Core.Option.{Option, none, some, or_else}
+use Rattle.std.specs.Prelude.{Option, None, Some}
+use Rattle.std.specs.Option.{option_or}
 use mathlib.Core.List.{List, [], ◌∷◌, ◌++◌}
 use native.Mathlib.Omega.{arith}
 use native.Mathlib.Nat.{not-suc-le-zero}
@@ -58,10 +59,10 @@ unfolding next state
 next-root rules a k = state-drop rules a [] (sym (known_snoc rules [] a) ∙ k)
 
 -- the match word of two rules, the first before the second
-match_own : (own other : Option ℕ) → match_word (or_else own other) ≡ own_or (match_word own) (match_word other)
-unfolding match_word or_else
-match_own none other = refl
-match_own (some i) other = rw (ne_eqb (suc i) 0 (λ p. omega arith))
+match_own : (own other : Option ℕ) → match_word (option_or own other) ≡ own_or (match_word own) (match_word other)
+unfolding match_word
+match_own None other = refl
+match_own (Some i) other = rw (ne_eqb (suc i) 0 (λ p. omega arith))
 
 -- a state's match word is that of its own left side, or else its failure state's
 pub match_failure : (rules : List Rule) → NonEmpty rules → (v : List ℕ) → 0 < length v → Plain (drop 1 v)

@@ -5,7 +5,7 @@ use Prim.Native.Nat.{ℕ, suc, ◌+◌, ◌*◌, ◌≤◌, ◌<◌}
 use mathlib.Core.Path.{◌≡◌, refl, sym, ap, ◌∙◌}
 use mathlib.Core.Bool.{Bool, true, false, ◌||◌, or-false}
 use mathlib.Core.Logic.{◌≢◌, ◌⊎◌, inl, inr}
-use mathlib.Core.Option.{none}
+use Rattle.std.specs.Prelude.{None}
 use mathlib.Core.List.{List, [], ◌∷◌, ◌++◌}
 use native.Mathlib.Omega.{arith}
 use native.Mathlib.Numerals.{add-one}
@@ -263,7 +263,7 @@ module _ (root : ℕ) (s : List (List ℕ)) (symbols : ℕ) (t : List ℕ) (h : 
       first = omega (arith, h.some_node)
 
   -- its match word is 0, which is right if no rule has it as its left side
-  pub owned_added : (rules : List Rule) → Owned rules s t → own rules (get_or s q [] ++ a ∷ []) ≡ none
+  pub owned_added : (rules : List Rule) → Owned rules s t → own rules (get_or s q [] ++ a ∷ []) ≡ None
       → Owned rules (s ++ (get_or s q [] ++ a ∷ []) ∷ []) (added t (length s) q a)
   unfolding match_word
   owned_added rules owned low c k = go (last_or (length s) c (rw more_length at k))
@@ -286,7 +286,7 @@ module _ (root : ℕ) (s : List (List ℕ)) (symbols : ℕ) (t : List ℕ) (h : 
     pub node : w.node < length (numbered s ((get_or s q [] ++ a ∷ []) ∷ []))
     pub state : get_or (numbered s ((get_or s q [] ++ a ∷ []) ∷ [])) w.node [] ≡ get_or s q [] ++ a ∷ []
     pub size : length t' ≡ length t
-    pub owned : (rules : List Rule) → Owned rules s t → (known s (get_or s q [] ++ a ∷ []) ≡ false → own rules (get_or s q [] ++ a ∷ []) ≡ none)
+    pub owned : (rules : List Rule) → Owned rules s t → (known s (get_or s q [] ++ a ∷ []) ≡ false → own rules (get_or s q [] ++ a ∷ []) ≡ None)
         → Owned rules (numbered s ((get_or s q [] ++ a ∷ []) ∷ [])) t'
 
   stays : known s (get_or s q [] ++ a ∷ []) ≡ true → numbered s ((get_or s q [] ++ a ∷ []) ∷ []) ≡ s

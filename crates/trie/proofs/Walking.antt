@@ -3,7 +3,7 @@
 use Prim.Native.Nat.{ℕ, zero, suc, ◌+◌, ◌*◌, ◌-◌, ◌≤◌, ◌<◌}
 use mathlib.Core.Path.{◌≡◌, refl, sym, ap, ◌∙◌}
 use mathlib.Core.Bool.{Bool, true, false, cond, ◌||◌}
-use mathlib.Core.Option.{none}
+use Rattle.std.specs.Prelude.{None}
 use mathlib.Core.List.{List, [], ◌∷◌, ◌++◌, map, flat_map, append-nil}
 use native.Mathlib.Omega.{arith}
 use native.Mathlib.Nat.{le_of_suc-le-suc, not-suc-le-zero, min-le_left}
@@ -136,7 +136,7 @@ lead_left r j = go r.marked
     go : (b : Bool) → (get_or (cond b (mark ∷ r.left) r.left) (cond b 1 0 + j) 0 ≡ get_or r.left j 0)
         × (length (cond b (mark ∷ r.left) r.left) ≡ cond b 1 0 + length r.left)
     go true = let one : 1 + j ≡ suc j = omega arith in rw one (refl, omega arith)
-    go false = let none : 0 + j ≡ j = omega arith in rw none (refl, omega arith)
+    go false = let None : 0 + j ≡ j = omega arith in rw None (refl, omega arith)
 
 lead_small : (r : Rule) → lead r ≤ 1
 unfolding lead
@@ -244,7 +244,7 @@ module _ (set : RuleSet) (i words : ℕ) where
       ∙ first_or_later set.rules (take i set.rules) v e)
 
   -- so a new state is the left side of none of them
-  new_own : (j : ℕ) (v : List ℕ) → known (sofar j) v ≡ false → own (take i set.rules) v ≡ none
+  new_own : (j : ℕ) (v : List ℕ) → known (sofar j) v ≡ false → own (take i set.rules) v ≡ None
   new_own j v new = own_no_prefix (take i set.rules) v (go (is_prefix (take i set.rules) v) refl)
     where
       go : (b : Bool) → is_prefix (take i set.rules) v ≡ b → b ≡ false
@@ -280,8 +280,8 @@ module _ (set : RuleSet) (i words : ℕ) where
             min-le_left j (length (map (λ (v : List ℕ). mark ∷ v) (prefixes (rule set.rules i).left))),
           ))
       go false m =
-          let none : 0 + j ≡ j = omega arith in
-          rw none
+          let None : 0 + j ≡ j = omega arith in
+          rw None
           (omega (
             arith,
             length-numbered (states_of set i) (take j (prefixes (rule set.rules i).left)),

@@ -1,4 +1,5 @@
 -- `areas::rewrite` meets its contract: the step that its rule makes, or none where it does not fit.
+use Rattle.std.specs.Prelude.{None}
 use Prim.Native.Nat.{ℕ, ◌+◌, ◌-◌, ◌≤◌, ◌<◌}
 use mathlib.Core.Path.{◌≡◌, refl, sym, ap, ◌∙◌}
 use mathlib.Core.Bool.{true}
@@ -9,7 +10,6 @@ use Rattle.rewriting.specs.Rules.{Put, Close, rule}
 use Rattle.layout.specs.declared.RightSide.{RightSide}
 use Rattle.layout.specs.Image.{read, valid}
 use Rattle.layout.specs.Places.{right_side_of}
-use Rattle.machine.specs.declared.Standing.{Standing}
 use Rattle.machine.specs.Areas.{Monitor}
 use Rattle.machine.specs.Lent.{monitor_with}
 use Rattle.machine.proofs.RightSides.{is_put, is_close, left_few, close_few, put_few, put_within, put_here}
@@ -31,7 +31,7 @@ use Rattle.areas.proofs.rewrite.Goals as goal
 -- what is lent
 
 abbrev given : Start → Monitor
-given s = monitor_with s.args.settled s.args.waiting Standing.None 0 s.args.bytes.now s.args.words.now
+given s = monitor_with s.args.settled s.args.waiting None 0 s.args.bytes.now s.args.words.now
 
 facts : (s : Start) → Held (read s.args.image.now) (length s.args.bytes.now) (given s)
 facts s = held (length s.args.bytes.now) s.args.image.now s.args.table.now (given s) s.requires.lent

@@ -1,10 +1,10 @@
 -- `events_of` meets its contract.
 use Prim.Native.Nat.{ℕ, zero, suc}
 use mathlib.Core.Path.{◌≡◌, refl}
-use mathlib.Core.Option.{Option, none, some}
+use Rattle.std.specs.Prelude.{Option, None, Some}
 use native.Mathlib.Omega.{arith}
 use lib.ListN.{length}
-use Rattle.machine.specs.Calls.{refused_by}
+use Rattle.layout.specs.Refusals.{refused_by}
 use Rattle.machine.specs.Play.{events_of}
 use Rattle.calls.specs.Encoding.{decoded_call}
 use Rattle.calls.proofs.events_of.Goals as goal
@@ -12,11 +12,11 @@ use Rattle.calls.proofs.events_of.Goals as goal
 -- a go-on has no event, an accepted offer one
 none_of : (o : Option ℕ) (first : ℕ) → first ≡ 0 → 0 ≡ length (events_of o (decoded_call first 0))
 unfolding events_of decoded_call
-none_of none zero e = refl
-none_of (some n) zero e = refl
+none_of None zero e = refl
+none_of (Some n) zero e = refl
 none_of o (suc x) e = absurd (omega (arith, e))
 
-one_of : (first : ℕ) → (first ≡ 0 → ⊥) → 1 ≡ length (events_of none (decoded_call first 0))
+one_of : (first : ℕ) → (first ≡ 0 → ⊥) → 1 ≡ length (events_of None (decoded_call first 0))
 unfolding events_of decoded_call
 one_of zero h = absurd (h refl)
 one_of (suc x) h = refl

@@ -2,7 +2,7 @@
 use mathlib.Core.Path.{refl, ◌∙◌}
 use native.Mathlib.Omega.{arith}
 use Rattle.machine.specs.Run.{no_counts, plus}
-use Rattle.layout.specs.Refusals.{refused_as}
+use Rattle.layout.specs.Refusals.{refused_by}
 use Rattle.calls.proofs.Playing.{playing_first, playing_call, playing_sums, playing_next, playing_all}
 use Rattle.calls.proofs.made_all.Goals as goal
 
@@ -61,5 +61,5 @@ loop-k-preserved c =
     )
 
 pub returns : goal.returns
-unfolding refused_as
+unfolding refused_by
 returns c = playing_all c.loop-k.invariant.0 c.loop-k-test.false

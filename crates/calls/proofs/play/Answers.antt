@@ -1,17 +1,17 @@
 -- `play` meets its contract, by what its two checks say; demand 3 by the theorem about every list of calls.
 use Prim.Native.Nat.{ℕ}
 use mathlib.Core.Path.{◌≡◌, sym, ap, ◌∙◌}
-use mathlib.Core.Option.{none, some}
+use Rattle.std.specs.Prelude.{None, Some}
 use native.Mathlib.Omega.{arith}
-use Rattle.layout.specs.Refusals.{refused_as}
+use Rattle.layout.specs.Refusals.{refused_by}
 use Rattle.calls.proofs.Demand.{not_a_list, not-fresh, is_played, demand}
 use Rattle.calls.proofs.play.Goals as goal
 
-refused_is : {n : ℕ} → ◌≡◌ (some n) none → ⊥
+refused_is : {n : ℕ} → ◌≡◌ (Some n) None → ⊥
 refused_is p = let z : ◌≡◌ {A = ℕ} 0 1 = cc in absurd (omega arith)
 
 pub returns-then-not-is_list : goal.returns-then-not-is_list
-unfolding refused_as
+unfolding refused_by
 returns-then-not-is_list c = record {
   outcome = rw c.refused.ensures (not_a_list _ _ _ _ _ _ (sym c.is_list.ensures ∙ c.if-not-is_list.true));
   promise = λ p. absurd (refused_is (rw c.refused.ensures at p));
@@ -22,19 +22,19 @@ made_all-requires c =
     sym c.is_list.ensures ∙ c.if-not-is_list.false
 
 pub returns-in-Refused : goal.returns-in-Refused
-unfolding refused_as
+unfolding refused_by
 returns-in-Refused c =
     let list = sym c.is_list.ensures ∙ c.if-not-is_list.false in record {
       outcome = rw c.refused-in-Refused.ensures
-          (not-fresh _ _ _ _ _ _ list _ c.fresh-begun.ensures _ (ap refused_as c.in-Refused.is));
+          (not-fresh _ _ _ _ _ _ list _ c.fresh-begun.ensures _ (ap refused_by c.in-Refused.is));
       promise = λ p. absurd (refused_is (rw c.refused-in-Refused.ensures at p));
     }
 
 pub returns-in-Passed : goal.returns-in-Passed
-unfolding refused_as
+unfolding refused_by
 returns-in-Passed c =
     let list = sym c.is_list.ensures ∙ c.if-not-is_list.false in
-    let taken = ap refused_as c.in-Passed.is in record {
+    let taken = ap refused_by c.in-Passed.is in record {
       outcome = c.made_all.ensures ∙ is_played _ _ _ _ _ _ list _ c.fresh-begun.ensures taken;
       promise = λ _. demand _ _ _ _ _ _ _ _ _ _ c.fresh-begun.ensures taken c.made_all.ensures;
     }

@@ -1,6 +1,5 @@
 -- `told` meets its contract.
-use Rattle.layout.specs.Refusals.{refusal_number}
-use Rattle.machine.specs.Calls.{refused_by}
+use Rattle.layout.specs.Refusals.{refusal_number, refused_by}
 use Rattle.machine.proofs.AnswerKinds.{not_refused}
 use Rattle.ffi.specs.Heads.{head_after, call_words}
 use Rattle.ffi.proofs.told.Goals as goal

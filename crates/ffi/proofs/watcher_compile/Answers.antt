@@ -1,7 +1,7 @@
 -- `ffi::watcher_compile` meets its contract, by the answer of compile.
 use mathlib.Core.Path.{sym, ◌∙◌}
-use Rattle.layout.specs.Compile.{refused_by, word_count}
-use Rattle.layout.specs.Refusals.{refusal_number}
+use Rattle.layout.specs.Compile.{word_count}
+use Rattle.layout.specs.Refusals.{refusal_number, refused_by}
 use Rattle.ffi.specs.Numbers.{compiled_number}
 use Rattle.ffi.proofs.watcher_compile.Goals as goal
 

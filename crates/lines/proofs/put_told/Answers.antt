@@ -1,16 +1,17 @@
 -- `lines::put_told` meets its contract.
 use Prim.Native.Nat.{ℕ}
 use mathlib.Core.Path.{◌≡◌, refl}
-use mathlib.Core.Option.{none}
+use Rattle.std.specs.Prelude.{None}
 use mathlib.Core.List.{List}
 use native.Mathlib.Omega.{arith}
+use Rattle.layout.specs.Refusals.{refused_by}
 use Rattle.machine.specs.declared.Answer.{Answer}
-use Rattle.machine.specs.Calls.{Outcome, refused_by}
+use Rattle.machine.specs.Calls.{Outcome}
 use Rattle.machine.proofs.AnswerKinds.{not_refused}
 use Rattle.printing.specs.Lines.{answer_word, counted, told}
 use Rattle.lines.proofs.put_told.Goals as goal
 
-counts_told : (names : List ℕ) (o : Outcome) (a : Answer) → refused_by a ≡ none → told names o a ≡ counted names o
+counts_told : (names : List ℕ) (o : Outcome) (a : Answer) → refused_by a ≡ None → told names o a ≡ counted names o
 unfolding told refused_by
 counts_told names o Answer.Quiet e = refl
 counts_told names o Answer.Spent e = refl

@@ -3,7 +3,7 @@ use mathlib.Core.Path.{◌∙◌}
 use Rattle.machine.specs.Areas.{document_capacity, Monitor}
 use Rattle.machine.specs.Lent.{offer_or_go_on}
 use Rattle.monitor.specs.Lent.{lent}
-use Rattle.layout.specs.Refusals.{refused_as}
+use Rattle.layout.specs.Refusals.{refused_by}
 use Rattle.machine.specs.Play.{offers_of}
 use Rattle.machine.specs.Batch.{offers}
 use Rattle.machine.proofs.LentRefusal.{lent_none, lent-some}
@@ -26,7 +26,7 @@ abbrev given : Start → Monitor
 given s = lent s.args.self s.args.bytes.now s.args.words.now
 
 pub returns-in-Refused : goal.returns-in-Refused
-unfolding refused_as
+unfolding refused_by
 returns-in-Refused c =
     let s = (goal.at.returns-in-Refused c).Start in
     rw c.batch_refused.ensures
@@ -36,7 +36,7 @@ returns-in-Refused c =
     c.in-Refused.is))
 
 pub returns-then-fuel-gt-FUEL_MOST : goal.returns-then-fuel-gt-FUEL_MOST
-unfolding refused_as
+unfolding refused_by
 returns-then-fuel-gt-FUEL_MOST c =
     let s = (goal.at.returns-then-fuel-gt-FUEL_MOST c).Start in
     rw c.batch_refused-then-fuel-gt-FUEL_MOST.ensures
@@ -46,7 +46,7 @@ returns-then-fuel-gt-FUEL_MOST c =
     c.in-Passed.is) c.if-fuel-gt-FUEL_MOST.true)
 
 pub returns-then-events-gt-EVENTS_MOST : goal.returns-then-events-gt-EVENTS_MOST
-unfolding refused_as
+unfolding refused_by
 returns-then-events-gt-EVENTS_MOST c =
     let s = (goal.at.returns-then-events-gt-EVENTS_MOST c).Start in
     rw c.batch_refused-then-events-gt-EVENTS_MOST.ensures
@@ -56,7 +56,7 @@ returns-then-events-gt-EVENTS_MOST c =
     c.in-Passed.is) c.if-fuel-gt-FUEL_MOST.false c.if-events-gt-EVENTS_MOST.true)
 
 pub returns-then-answers-events : goal.returns-then-answers-events
-unfolding refused_as
+unfolding refused_by
 returns-then-answers-events c =
     let s = (goal.at.returns-then-answers-events c).Start in
     rw c.batch_refused-then-answers-events.ensures
@@ -94,7 +94,7 @@ in_turn-r-requires c =
     }
 
 pub returns : goal.returns
-unfolding refused_as offers offers_of offer_or_go_on
+unfolding refused_by offers offers_of offer_or_go_on
 returns c =
     let s = (goal.at.returns c).Start in
     let image = c.args.image.now in

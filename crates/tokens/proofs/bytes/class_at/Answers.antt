@@ -1,5 +1,4 @@
 -- `tokens::bytes::class_at` meets its contract: behind the last byte there is a separator's class.
-use native.Mathlib.Omega.{arith}
 use borrow.Author.Rules.{rules}
 use Rattle.tokens.proofs.Classes.{class_behind}
 use Rattle.tokens.proofs.bytes.class_at.Goals as goal

@@ -1,7 +1,7 @@
 -- `tokens::bytes::named` meets its contract: a law for each way out.
 use mathlib.Core.Path.{sym, ◌∙◌}
 use Rattle.grammar.specs.Tokens.{letter}
-use Rattle.tokens.proofs.ByteTests.{named_letter, named_long, named_other, named-nothing}
+use Rattle.tokens.proofs.Scans.{named_letter, named_long, named_other, named-nothing}
 use Rattle.tokens.proofs.bytes.named.Goals as goal
 
 pub returns-in-len1-up : goal.returns-in-len1-up

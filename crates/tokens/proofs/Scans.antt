@@ -8,7 +8,7 @@ use native.Mathlib.Omega.{arith}
 use lib.Dec.{eqb, leb}
 use lib.ListN.{length, get_or, drop, get_or-eq_default}
 use borrow.Author.Tests.{eqb-true, ne_eqb, le-leb, lt-leb}
-use Rattle.std.specs.Prelude.{Option, Some, None}
+use Rattle.std.specs.Prelude.{Some, None}
 use Rattle.rewriting.specs.Lists.{same}
 use Rattle.tokens.specs.declared.Kind.{Kind}
 use Rattle.tokens.specs.declared.Kind.TheVariants as kinds
@@ -20,7 +20,7 @@ pub lead_is :
     (t : List ℕ)
     → lead t
     ≡ cond (eqb (get_or t 0 0) 35) 1
-      (cond (eqb (get_or t 0 0) 46) 1 (cond (eqb (get_or t 0 0) 94) 1 (cond (eqb (get_or t 0 0) 45 && eqb 62 (get_or t 1 0)) 2 0)))
+    (cond (eqb (get_or t 0 0) 46) 1 (cond (eqb (get_or t 0 0) 94) 1 (cond (eqb (get_or t 0 0) 45 && eqb 62 (get_or t 1 0)) 2 0)))
 unfolding lead
 lead_is [] = refl
 lead_is (b ∷ []) = refl
@@ -67,9 +67,9 @@ pub kind_is :
     (run : List ℕ)
     → kind_of run
     ≡ cond (eqb (length run) 1 && eqb (get_or run 0 0) 46) (Some kinds.Stop)
-      (cond (eqb (length run) 2 && (eqb (get_or run 0 0) 45 && eqb (get_or run 1 0) 62)) (Some kinds.Arrow)
-      (cond (eqb (length run) 1 && eqb (get_or run 0 0) 94) (Some kinds.Mark)
-      (cond (eqb (get_or run 0 0) 35) (named_as kinds.Word (drop 1 run)) (named_as kinds.Name run))))
+    (cond (eqb (length run) 2 && (eqb (get_or run 0 0) 45 && eqb (get_or run 1 0) 62)) (Some kinds.Arrow)
+    (cond (eqb (length run) 1 && eqb (get_or run 0 0) 94) (Some kinds.Mark)
+    (cond (eqb (get_or run 0 0) 35) (named_as kinds.Word (drop 1 run)) (named_as kinds.Name run))))
 unfolding kind_of named_as letter
 kind_is [] = refl
 kind_is (b ∷ t) = stop (eqb b 46) refl
@@ -78,9 +78,9 @@ kind_is (b ∷ t) = stop (eqb b 46) refl
     P b =
         kind_of (b ∷ t)
         ≡ cond (eqb (length (b ∷ t)) 1 && eqb b 46) (Some kinds.Stop)
-          (cond (eqb (length (b ∷ t)) 2 && (eqb b 45 && eqb (get_or t 0 0) 62)) (Some kinds.Arrow)
-          (cond (eqb (length (b ∷ t)) 1 && eqb b 94) (Some kinds.Mark)
-          (cond (eqb b 35) (named_as kinds.Word t) (named_as kinds.Name (b ∷ t)))))
+        (cond (eqb (length (b ∷ t)) 2 && (eqb b 45 && eqb (get_or t 0 0) 62)) (Some kinds.Arrow)
+        (cond (eqb (length (b ∷ t)) 1 && eqb b 94) (Some kinds.Mark)
+        (cond (eqb b 35) (named_as kinds.Word t) (named_as kinds.Name (b ∷ t)))))
 
     mark : (h : Bool) → eqb b 94 ≡ h → eqb b 46 ≡ false → eqb b 45 ≡ false → P b
     mark true e f g = rw (eqb-true b 94 e) (simp (and-false, and-true))
@@ -93,3 +93,8 @@ kind_is (b ∷ t) = stop (eqb b 46) refl
     stop : (h : Bool) → eqb b 46 ≡ h → P b
     stop true e = rw (eqb-true b 46 e) (simp (and-false, and-true))
     stop false e = dash (eqb b 45) refl e
+
+pub kind-word : (run : List ℕ) → get_or run 0 0 ≡ 35 → named_as kinds.Word (drop 1 run) ≡ kind_of run
+unfolding kind_of
+kind-word [] e = absurd (omega (arith, e))
+kind-word (b ∷ t) e = rw e
