@@ -14,7 +14,7 @@ ghost use Rattle.monitor.specs.Lent.{head_in, lent, stop_number};
 ghost use Rattle.ffi.specs.Numbers.{read_number, read_words, refused_number};
 ghost use Rattle.ffi.specs.Heads.{standing_word, head_from, head_words, head_after, call_words, fresh_made, call_made, batch_made};
 
-use grammar::{Found, Read};
+use grammar::Read;
 use layout::Refusal;
 use machine::Answer;
 use monitor::{Head, Returned};
@@ -50,8 +50,8 @@ pub extern "C" fn watcher_symbol(names: &[u8], name: &[u8]) -> u32
     ensures { result ≡ number_or 32 (symbol_named names.now name.now) }
 {
     match tokens::symbol(names, name) {
-        Found::Symbol(i) => i as u32,
-        Found::None => 32,
+        Some(i) => i as u32,
+        None => 32,
     }
 }
 

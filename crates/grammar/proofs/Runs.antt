@@ -5,60 +5,15 @@ use mathlib.Core.Path.{◌≡◌, refl, sym, ap, ◌∙◌}
 use mathlib.Core.Bool.{Bool, true, false}
 use mathlib.Core.List.{List, [], ◌∷◌}
 use native.Mathlib.Nat.{le_of_suc-le-suc, not-suc-le-zero}
-use native.Mathlib.Numerals.{add-one}
 use native.Mathlib.Omega.{arith}
 use lib.Dec.{ltb}
-use lib.ListN.{length, get_or, take, drop, length-drop, drop_of_length-le}
-use lib.Seq.{drop-cons, drop-drop}
+use lib.ListN.{length, take, drop, length-drop}
+use lib.Seq.{drop-drop}
 use borrow.Author.Rules.{part_to_end}
 use borrow.Author.Tests.{ltb-true, ltb-false}
-use Rattle.grammar.specs.declared.Run as code
+use Rattle.std.specs.declared.ops.Range.{Range}
 use Rattle.grammar.specs.Tokens.{separator, Run, unbroken, runs_from, runs}
 use Rattle.grammar.specs.FirstRun.{gap, first_run}
-
--- The separators are counted up to byte i.
-module _ (t : List ℕ) (i : ℕ) (counted : gap t ≡ i + gap (drop i t)) where
-  pub gap_stops : i < length t → separator (get_or t i 0) ≡ false → i ≡ gap t
-  unfolding gap
-  gap_stops h e =
-      let here : gap (drop i t) ≡ 0 = rw (drop-cons t i 0 h, e) in
-      omega arith
-
-  pub gap_passes : i < length t → separator (get_or t i 0) ≡ true → gap t ≡ i + 1 + gap (drop (i + 1) t)
-  unfolding gap
-  gap_passes h e =
-      let next : gap (drop i t) ≡ suc (gap (drop (i + 1) t)) = rw (add-one, drop-cons t i 0 h, e) in
-      omega arith
-
-  pub gap_ends : length t ≤ i → i ≡ gap t
-  unfolding gap
-  gap_ends h =
-      let here : gap (drop i t) ≡ 0 = rw (drop_of_length-le t h) in
-      omega arith
-
--- The bytes other than separators are counted up to byte i.
-module _ (t : List ℕ) (i : ℕ) (counted : length (unbroken t) ≡ i + length (unbroken (drop i t))) where
-  pub unbroken_stops : i < length t → separator (get_or t i 0) ≡ true → i ≡ length (unbroken t)
-  unfolding unbroken
-  unbroken_stops h e =
-      let here : length (unbroken (drop i t)) ≡ 0 = rw (drop-cons t i 0 h, e) in
-      omega arith
-
-  pub unbroken_passes :
-      i < length t → separator (get_or t i 0) ≡ false
-      → length (unbroken t) ≡ i + 1 + length (unbroken (drop (i + 1) t))
-  unfolding unbroken
-  unbroken_passes h e =
-      let next : length (unbroken (drop i t)) ≡ suc (length (unbroken (drop (i + 1) t))) =
-      rw (add-one, drop-cons t i 0 h, e)
-      in
-      omega arith
-
-  pub unbroken-ends : length t ≤ i → i ≡ length (unbroken t)
-  unfolding unbroken
-  unbroken-ends h =
-      let here : length (unbroken (drop i t)) ≡ 0 = rw (drop_of_length-le t h) in
-      omega arith
 
 pub gap_le : (t : List ℕ) → gap t ≤ length t
 unfolding gap
@@ -181,7 +136,7 @@ module _
   pub run_to : start + size ≤ length t
   run_to = omega (arith, s, sized, run_end t)
 
-  pub run_first : ◌≡◌ {A = code.Run} (record { start = start; end = start + size }) (first_run t)
+  pub run_first : ◌≡◌ {A = Range ℕ} (record { start = start; end = start + size }) (first_run t)
   unfolding first_run
   run_first = λ i. record { start = s i; end = s i + sized i }
 

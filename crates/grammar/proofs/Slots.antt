@@ -1,21 +1,18 @@
--- Name slots: how the code makes, compares, finds and keeps them. What is found in them: Lookup.antt.
+-- Name slots: how the code makes and keeps them. What is found in them: Lookup.antt.
 -- Assumes nothing.
 use Prim.Native.Nat.{ℕ, zero, suc, ◌+◌, ◌*◌, ◌-◌, ◌≤◌, ◌<◌}
 use mathlib.Core.Path.{◌≡◌, refl, sym, ap, ◌∙◌}
-use mathlib.Core.Bool.{Bool, true, false, ◌&&◌, and-true, and-false}
-use Rattle.std.specs.Prelude.{Option, None, Some, option_map}
+use mathlib.Core.Bool.{Bool, true, false, ◌&&◌}
 use mathlib.Core.List.{List, [], ◌∷◌, ◌++◌, flat_map}
 use native.Mathlib.Omega.{arith}
-use native.Mathlib.Nat.{le_of_suc-le-suc, not-suc-le-zero}
-use lib.Dec.{eqb, leb}
+use lib.Dec.{leb}
 use lib.ListN.{length, get_or, set, take, drop, replicate, length-append, length-replicate}
-use lib.Seq.{paste, take-length, take_at, drop-append-add, take-append_seam, take_all, drop-drop}
-use borrow.Author.Tests.{leb-true, eq-eqb, ne_eqb}
+use lib.Seq.{paste, take-length, take_at, drop-append-add, take-append_seam, take_all}
+use borrow.Author.Tests.{leb-true}
 use Rattle.rewriting.specs.Lists.{all, same}
 use Rattle.rewriting.proofs.Lists.{flat_map_snoc, and_left, and_right, same_eq, eq_same}
 use Rattle.grammar.specs.Tokens.{letter, name_byte, is_name}
 use Rattle.grammar.specs.Names.{slot, slots}
-use Rattle.grammar.specs.Lookup.{slot_at, number_or}
 
 -- A name has 1 to 24 bytes.
 pub name-some : (x : List ℕ) → is_name x ≡ true → 1 ≤ length x
@@ -69,116 +66,6 @@ same-slot x y = go (same y x) refl
             let q : y ≡ x = sym (slot-name x y (same_eq (slot x) (slot y) p)) in
             let r : same y x ≡ true = eq_same y x q in
             let z : ◌≡◌ {A = ℕ} 0 1 = cc in absurd (omega arith)
-
--- Comparing two lists, element by element.
-
-pub same-take : (u v : List ℕ) (k : ℕ) → k < length u → k < length v
-    → same (take (suc k) u) (take (suc k) v) ≡ (same (take k u) (take k v) && eqb (get_or u k 0) (get_or v k 0))
-same-take [] v k h g = absurd (not-suc-le-zero h)
-same-take (x ∷ u) [] k h g = absurd (not-suc-le-zero g)
-same-take (x ∷ u) (y ∷ v) zero h g = and-true (eqb x y)
-same-take (x ∷ u) (y ∷ v) (suc k) h g = go (eqb x y) (same-take u v k (le_of_suc-le-suc h) (le_of_suc-le-suc g))
-  where
-    go : (b : Bool)
-        → same (take (suc k) u) (take (suc k) v) ≡ (same (take k u) (take k v) && eqb (get_or u k 0) (get_or v k 0))
-        → (b && same (take (suc k) u) (take (suc k) v)) ≡ ((b && same (take k u) (take k v)) && eqb (get_or u k 0) (get_or v k 0))
-    go true ih = ih
-    go false ih = refl
-
--- b says whether the first k elements of u and v are equal
-pub record Comparing (u v : List ℕ) (b : Bool) (k : ℕ) : Type 0 where
-  pub inside : length u ≤ length v
-  pub so_far : k ≤ length u
-  pub answer : b ≡ same (take k u) (take k v)
-
-pub comparing_first : (u v : List ℕ) → length u ≤ length v → Comparing u v true 0
-comparing_first u v h = record { inside = h; so_far = omega arith; answer = refl }
-
-module _ {u v : List ℕ} {b : Bool} {k : ℕ} (c : Comparing u v b k) (more : k < length u) where
-  next_answer : same (take (suc k) u) (take (suc k) v) ≡ (b && eqb (get_or u k 0) (get_or v k 0))
-  next_answer = rw c.answer (same-take u v k more (omega (arith, c.inside)))
-
-  pub comparing_equal : get_or v k 0 ≡ get_or u k 0 → Comparing u v b (k + 1)
-  comparing_equal e =
-      let n : k + 1 ≡ suc k = omega arith in
-      let t : eqb (get_or u k 0) (get_or v k 0) ≡ true = eq-eqb (get_or u k 0) (get_or v k 0) (sym e) in
-      record { inside = c.inside; so_far = omega arith; answer = rw n (sym (next_answer ∙ rw t (and-true b))) }
-
-  pub comparing_differ : (get_or v k 0 ≡ get_or u k 0 → ⊥) → Comparing u v false (k + 1)
-  comparing_differ e =
-      let n : k + 1 ≡ suc k = omega arith in
-      let t : eqb (get_or u k 0) (get_or v k 0) ≡ false = ne_eqb (get_or u k 0) (get_or v k 0) (λ p. e (sym p)) in
-      record { inside = c.inside; so_far = omega arith; answer = rw n (sym (next_answer ∙ rw t (and-false b))) }
-
-pub comparing_last : {u v : List ℕ} {b : Bool} {k : ℕ} (n : ℕ) → length u ≡ n → Comparing u v b k → n ≤ k → b ≡ same u (take n v)
-comparing_last {u} {v} {b} {k} n m c all =
-    let e : k ≡ n = omega (arith, c.so_far) in
-    let whole : take n u ≡ u = take_all n u (omega arith) in
-    rw (e, whole) at c.answer
-
--- Finding a slot.
-
-pub number_here : (key area : List ℕ) (n : ℕ) → same key (take 25 area) ≡ true → number_or (suc n) (slot_at key (suc n) area) ≡ 0
-unfolding slot_at number_or
-number_here key area n e = rw e
-
-pub number_later : (key area : List ℕ) (n : ℕ) → same key (take 25 area) ≡ false
-    → number_or (suc n) (slot_at key (suc n) area) ≡ suc (number_or n (slot_at key n (drop 25 area)))
-unfolding slot_at number_or
-number_later key area n e = rw e (go (slot_at key n (drop 25 area)))
-  where
-    go : (o : Option ℕ) → number_or (suc n) (option_map suc o) ≡ suc (number_or n o)
-    go None = refl
-    go (Some i) = refl
-
-pub number_end : (key area : List ℕ) → number_or 0 (slot_at key 0 area) ≡ 0
-unfolding slot_at number_or
-number_end key area = refl
-
--- the first i slots are not the one looked for
-pub record Finding (key : List ℕ) (n : ℕ) (area : List ℕ) (i : ℕ) : Type 0 where
-  pub inside : 25 * n ≤ length area
-  pub so_far : i ≤ n
-  pub on : number_or n (slot_at key n area) ≡ i + number_or (n - i) (slot_at key (n - i) (drop (25 * i) area))
-
-pub finding_first : (key : List ℕ) (n : ℕ) (area : List ℕ) → 25 * n ≤ length area → Finding key n area 0
-finding_first key n area h =
-    let e : n - 0 ≡ n = omega arith in
-    let z : 25 * 0 ≡ 0 = omega arith in
-    record { inside = h; so_far = omega arith; on = rw (e, z) (omega arith) }
-
-module _ {key : List ℕ} {n : ℕ} {area : List ℕ} {i : ℕ} (f : Finding key n area i) where
-  pub finding_inside : i < n → 25 * i + 25 ≤ length area
-  finding_inside more = omega (arith, f.inside)
-
-  pub finding_here : i < n → same key (take 25 (drop (25 * i) area)) ≡ true → i ≡ number_or n (slot_at key n area)
-  finding_here more e =
-      let one : n - i ≡ suc (n - suc i) = omega arith in
-      let here : number_or (n - i) (slot_at key (n - i) (drop (25 * i) area)) ≡ 0 =
-      rw one (number_here key (drop (25 * i) area) (n - suc i) e)
-      in
-      omega (arith, f.on)
-
-  pub finding_later : i < n → same key (take 25 (drop (25 * i) area)) ≡ false → Finding key n area (i + 1)
-  finding_later more e =
-      let one : n - i ≡ suc (n - (i + 1)) = omega arith in
-      let at : drop 25 (drop (25 * i) area) ≡ drop (25 * (i + 1)) area =
-      let n' : 25 * i + 25 ≡ 25 * (i + 1) = omega arith in
-      drop-drop 25 (25 * i) area ∙ ap (λ (k : ℕ). drop k area) n'
-      in
-      let later : number_or (n - i) (slot_at key (n - i) (drop (25 * i) area))
-      ≡ suc (number_or (n - (i + 1)) (slot_at key (n - (i + 1)) (drop (25 * (i + 1)) area))) =
-      rw (one, ← at) (number_later key (drop (25 * i) area) (n - (i + 1)) e)
-      in
-      record { inside = f.inside; so_far = omega arith; on = omega (arith, f.on) }
-
-  pub finding_none : n ≤ i → n ≡ number_or n (slot_at key n area)
-  finding_none all =
-      let none_left : n - i ≡ 0 = omega arith in
-      let end : number_or (n - i) (slot_at key (n - i) (drop (25 * i) area)) ≡ 0 =
-      rw none_left (number_end key (drop (25 * i) area))
-      in
-      omega (arith, f.on, f.so_far)
 
 -- The slots of names.
 

@@ -2,8 +2,6 @@
 -- `lookup_read` (proofs/Lookup.antt).
 use Rattle.std.specs.Prelude.{ℕ, zero, suc, cond, ◌&&◌, List, leb, length, take, drop, Option, None, Some, option_map}
 use Rattle.rewriting.specs.Lists.{same, between}
-use Rattle.grammar.specs.declared.Found.{Found}
-use Rattle.grammar.specs.declared.Found.TheVariants as found
 use Rattle.grammar.specs.Names.{symbols_size, slot_size, slot}
 
 -- the first of n slots that is this one
@@ -19,8 +17,3 @@ number_or n (Some i) = i
 -- "Slots 0..31 are symbols": the symbol with the name x, in whatever area. A name has 1 to 24 bytes.
 unfoldable pub symbol_named : List ℕ → List ℕ → Option ℕ
 symbol_named area x = cond (between 1 (length x) 24 && leb symbols_size (length area)) (slot_at (slot x) 32 area) None
-
--- what a lookup answers
-unfoldable pub found_as : Found → Option ℕ
-found_as (found.Symbol i) = Some i
-found_as found.None = None

@@ -21,17 +21,3 @@ pub enum Read {
     Image(usize),
     Refused(u32, usize),
 }
-
-// The first run of a part of a text: where in that part it begins and ends.
-#[derive(Clone, Copy)]
-pub struct Run {
-    pub start: usize,
-    pub end: usize,
-}
-
-// What a lookup answers.
-#[derive(Clone, Copy)]
-pub enum Found {
-    Symbol(usize),
-    None,
-}

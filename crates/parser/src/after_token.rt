@@ -11,7 +11,7 @@ ghost use Rattle.parser.specs.Held.{contents_size, bodies_size, Keeps, Held, Tak
 ghost use Rattle.grammar.specs.Names.{slot_size, symbols_size, words_size};
 
 use crate::{Place, Reader, Taken};
-use tokens::{Kind, bytes, names};
+use tokens::{Kind, names};
 
 impl Reader {
     // The same at another place.
@@ -46,10 +46,10 @@ impl Reader {
     fn first(self, x: &[u8]) -> Taken
         ensures { (a b c d : List ℕ) → self.place ≡ Place.First → Takes (λ s. name s x.now s.place) self a b c d result a b c d }
     {
-        if bytes::is_same(x, b"events") {
-            return Taken::Goes(self.at(Place::Events));
+        match x {
+            b"events" => Taken::Goes(self.at(Place::Events)),
+            _ => Taken::Breaks(4),
         }
-        Taken::Breaks(4)
     }
 
     // A name in the list of events.
@@ -59,12 +59,12 @@ impl Reader {
         ensures { (b c d : List ℕ) → self.place ≡ Place.Events
             → Takes (λ s. name s x.now s.place) self symbols.old b c d result symbols.new b c d }
     {
-        let n = names::number_of(symbols, self.symbols, x);
+        let n = match names::number_of(symbols, self.symbols, x) {
+            Some(n) => n,
+            None => return Taken::Breaks(5),
+        };
         if n.number < self.symbols {
             return Taken::Breaks(6);
-        }
-        if 32 <= n.number {
-            return Taken::Breaks(5);
         }
         let mut next = self;
         next.symbols = n.count;
@@ -83,10 +83,10 @@ impl Reader {
         if 8 <= self.side {
             return Taken::Breaks(5);
         }
-        let n = names::number_of(symbols, self.symbols, x);
-        if 32 <= n.number {
-            return Taken::Breaks(5);
-        }
+        let n = match names::number_of(symbols, self.symbols, x) {
+            Some(n) => n,
+            None => return Taken::Breaks(5),
+        };
         let end = self.bodies;
         bodies[end] = n.number as u8;
         let mut next = self.at(to);
@@ -144,13 +144,13 @@ impl Reader {
             return Taken::Breaks(4);
         }
         let mut next = self.at(Place::Ending);
-        if bytes::is_same(x, b"epsilon") {
+        if matches!(x, b"epsilon") {
             return Taken::Goes(next);
         }
-        let n = names::number_of(words, self.words, x);
-        if 16 <= n.number {
-            return Taken::Breaks(5);
-        }
+        let n = match names::number_of(words, self.words, x) {
+            Some(n) => n,
+            None => return Taken::Breaks(5),
+        };
         next.words = n.count;
         next.side = n.number as u8;
         next.kind = self.kind + 1;
@@ -258,7 +258,7 @@ impl Reader {
     // A token of this kind, with this name.
     pub(crate) fn token(
         self,
-        kind: Kind,
+        kind: Option<Kind>,
         x: &[u8],
         symbols: &mut [u8],
         words: &mut [u8],
@@ -274,12 +274,12 @@ impl Reader {
             symbols.new words.new contents.new bodies.new }
     {
         match kind {
-            Kind::Name => self.name(x, symbols, bodies),
-            Kind::Word => self.word(x, words),
-            Kind::Arrow => self.arrow(),
-            Kind::Stop => self.stop(contents),
-            Kind::Mark => self.mark(),
-            Kind::None => Taken::Breaks(3),
+            Some(Kind::Name) => self.name(x, symbols, bodies),
+            Some(Kind::Word) => self.word(x, words),
+            Some(Kind::Arrow) => self.arrow(),
+            Some(Kind::Stop) => self.stop(contents),
+            Some(Kind::Mark) => self.mark(),
+            None => Taken::Breaks(3),
         }
     }
 }

@@ -10,6 +10,7 @@ ghost use Rattle.grammar.specs.Sound.{Sound};
 ghost use Rattle.parser.specs.Held.{contents_size, bodies_size, reader_of, Keeps, FinishedIs};
 
 use grammar::SLOT_BYTES;
+use tokens::bytes::Class;
 use tokens::{bytes, names};
 
 mod after_token;
@@ -67,12 +68,8 @@ fn begin(words: &mut [u8]) -> Reader
     ensures value { result ≡ reader_of begun }
     ensures words_after { words.new ≡ slots 16 begun.words }
 {
-    let mut fail: [u8; SLOT_BYTES] = [0; SLOT_BYTES];
-    names::make_slot(&mut fail, b"fail");
-    names::keep(words, 0, &fail);
-    let mut succeed: [u8; SLOT_BYTES] = [0; SLOT_BYTES];
-    names::make_slot(&mut succeed, b"succeed");
-    names::keep(words, SLOT_BYTES, &succeed);
+    words[..SLOT_BYTES].copy_from_slice(&names::slot_of(b"fail"));
+    words[SLOT_BYTES..2 * SLOT_BYTES].copy_from_slice(&names::slot_of(b"succeed"));
     Reader {
         place: Place::First,
         symbols: 0,
@@ -113,7 +110,6 @@ pub fn read_tokens(
     ensures { FinishedIs (read_text text.now) result
         symbols.new words.new contents.new bodies.new }
 {
-    let classes = bytes::class_table();
     let mut reader = begin(words);
     let mut at: usize = 0;
     'tokens: loop {
@@ -124,18 +120,15 @@ pub fn read_tokens(
         let from = start + bytes::lead_of(&text[start..]);
         let mut end = from;
         loop {
-            if bytes::is_name_pair(&classes, text, end) {
+            if bytes::is_name_pair(text, end) {
                 end += 2;
                 continue;
             }
-            let class = bytes::class_at(&classes, text, end);
-            if class != bytes::NAME_BYTE {
-                if class == bytes::SEPARATOR {
-                    break;
-                }
-                break 'tokens Finished::Bad(3, start);
+            match bytes::class_at(text, end) {
+                Class::Name => end += 1,
+                Class::Separator => break,
+                Class::Other => break 'tokens Finished::Bad(3, start),
             }
-            end += 1;
         }
         let kind = bytes::kind_of(&text[start..end]);
         match reader.token(kind, &text[from..end], symbols, words, contents, bodies) {

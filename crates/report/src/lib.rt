@@ -9,7 +9,7 @@ ghost use Rattle.printing.specs.Watch.{input_most, rule_part, fresh_monitor};
 ghost use Rattle.printing.specs.Turns.{line_most, Events, offering, next_of, turn_of, watch_with, watch_in, events_at, areas, begin_of, begins_from, Inside};
 ghost use Rattle.report.specs.Lent.{walk_in, begun_in, turn_from};
 
-use grammar::{Found, NAMES_BYTES, Read};
+use grammar::{NAMES_BYTES, Read};
 use layout::{IMAGE_BYTES, TABLE_WORDS};
 use machine::CAPACITY;
 use monitor::Head;
@@ -188,14 +188,14 @@ impl Walk {
         at = lines::put_byte(line, at, b' ');
         let head = self.head;
         match tokens::symbol(names, x) {
-            Found::None => {
+            None => {
                 let length = lines::put_refused(line, at, 12);
                 Line {
                     walk: self.onward(head, end),
                     length: length,
                 }
             }
-            Found::Symbol(a) => {
+            Some(a) => {
                 let called = head.offer(image, table, bytes, words, a as u8, FUEL);
                 let length = lines::put_told(line, at, names, called, bytes);
                 let left = called.head;

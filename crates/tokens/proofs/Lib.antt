@@ -1,7 +1,8 @@
 -- Laws, in reading order.
-pub mod ByteTests
+pub mod Scans
 pub mod Classes
-pub mod Same
+pub mod Firsts
 pub mod TokenOf
 pub mod RunBytes
+pub mod Places
 pub mod Numbering

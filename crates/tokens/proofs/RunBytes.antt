@@ -2,73 +2,58 @@
 -- Assumes nothing.
 use Prim.Native.Nat.{ℕ, suc, ◌+◌, ◌-◌, ◌≤◌, ◌<◌}
 use mathlib.Core.Path.{◌≡◌, refl, sym, ap, ◌∙◌}
-use mathlib.Core.Bool.{Bool, true, false, ◌&&◌}
-use Rattle.std.specs.Prelude.{None}
+use mathlib.Core.Bool.{Bool, true, false, and-false}
+use Rattle.std.specs.Prelude.{Option, None}
 use mathlib.Core.List.{List, [], ◌∷◌}
 use native.Mathlib.Omega.{arith}
 use native.Mathlib.Numerals.{add-one}
 use lib.Dec.{eqb, ltb}
+use Rattle.std.proofs.lemmas.Bool.{false≢true}
 use lib.ListN.{length, get_or, take, drop, length-drop, drop_of_length-le, get_or-eq_default}
 use lib.Seq.{drop-cons, drop-drop}
 use borrow.Author.Rules.{part_to_end}
-use borrow.Author.Tests.{ltb-true, ltb-false, eqb-true, eq-eqb, ne_eqb}
+use borrow.Author.Tests.{ltb-true, ltb-false, eqb-true}
 use Rattle.rewriting.specs.Lists.{all}
 use Rattle.tokens.specs.declared.Kind.{Kind}
-use Rattle.grammar.specs.Tokens.{separator, name_byte, unbroken, token_of}
-use Rattle.tokens.specs.Classes.{separator_class, name_class, class_of, class_table, name_pair}
+use Rattle.grammar.specs.Tokens.{separator, letter, digit, name_byte, unbroken, token_of}
+use Rattle.tokens.specs.declared.bytes.Class.{Class}
+use Rattle.tokens.specs.declared.bytes.Class.TheVariants as classes
+use Rattle.tokens.specs.Classes.{class_of, name_pair}
 use Rattle.tokens.specs.Scanned.{lead, kind_of, token_as, Named}
-use Rattle.tokens.proofs.ByteTests.{false-true}
-use Rattle.tokens.proofs.Classes.{table_entry, class_separator, class_name, class_other}
+use Rattle.tokens.proofs.Classes.{class_separator, class_name, class_other, name-class}
 use Rattle.rewriting.proofs.Lists.{and_left, and_right}
 use Rattle.grammar.proofs.Runs.{unbroken_le, unbroken-take, rest_of, stop_of}
 use Rattle.tokens.proofs.TokenOf.{name_of, told}
 
 -- the byte at a place, and a space behind the last
-pub byte_here : (t : List ℕ) (i : ℕ) → i < length t → get_or t i 0 ≡ get_or t i 32
+byte_here : (t : List ℕ) (i : ℕ) → i < length t → get_or t i 0 ≡ get_or t i 32
 byte_here t i h = let e : get_or t i 0 ∷ drop (suc i) t ≡ get_or t i 32 ∷ drop (suc i) t = sym (drop-cons t i 0 h) ∙ drop-cons t i 32 h in
     ap (λ (l : List ℕ). get_or l 0 0) e
-
--- Its class: by the table, and a separator's behind the last.
-pub class_here :
-    (table t : List ℕ) (i : ℕ) → table ≡ class_table → get_or t i 0 < 256 → i < length t
-    → get_or table (get_or t i 0) 0 ≡ class_of (get_or t i 32)
-class_here table t i e byte h =
-    ap (λ (classes : List ℕ). get_or classes (get_or t i 0) 0) e ∙ table_entry (get_or t i 0) byte ∙ ap class_of (byte_here t i h)
-
-pub class_behind : (t : List ℕ) (i : ℕ) → length t ≤ i → separator_class ≡ class_of (get_or t i 32)
-unfolding class_of separator
-class_behind t i h = sym (ap class_of (get_or-eq_default t 32 {n = i} h))
 
 -- Two bytes that may be in a name.
 module _ (t : List ℕ) (i : ℕ) where
   pub pair_short : length t ≤ i + 1 → false ≡ name_pair t i
-  unfolding name_pair
-  pair_short h = go (eqb (class_of (get_or t i 32)) name_class)
-    where
-      go : (b : Bool) → false ≡ b && eqb (class_of (get_or t (i + 1) 32)) name_class
-      go true = rw (← class_behind t (i + 1) h)
-      go false = refl
+  unfolding name_pair name_byte letter digit
+  pair_short h = rw (get_or-eq_default t 32 {n = i + 1} h) (sym (and-false (name_byte (get_or t i 32))))
 
-  pub pair_other : (class_of (get_or t i 32) ≡ name_class → ⊥) → false ≡ name_pair t i
-  unfolding name_pair
-  pair_other e = rw (ne_eqb (class_of (get_or t i 32)) name_class e)
+  module _ (inside : i + 1 < length t) where
+    pub pair_other : name_byte (get_or t i 0) ≡ false → false ≡ name_pair t i
+    unfolding name_pair
+    pair_other e = rw (← byte_here t i (omega arith), e)
 
-  pub pair_second : class_of (get_or t i 32) ≡ name_class → eqb (class_of (get_or t (i + 1) 32)) name_class ≡ name_pair t i
-  unfolding name_pair
-  pair_second e = rw (eq-eqb (class_of (get_or t i 32)) name_class e)
+    pub pair_second : name_byte (get_or t i 0) ≡ true → name_byte (get_or t (i + 1) 0) ≡ name_pair t i
+    unfolding name_pair
+    pair_second e = rw (← byte_here t i (omega arith), e, ← byte_here t (i + 1) inside)
 
   module _ (both : name_pair t i ≡ true) where
-    pub pair_first_named : class_of (get_or t i 32) ≡ name_class
+    pub pair_first_named : class_of (get_or t i 32) ≡ classes.Name
     unfolding name_pair
-    pair_first_named =
-        eqb-true (class_of (get_or t i 32)) name_class
-        (and_left (eqb (class_of (get_or t i 32)) name_class) (eqb (class_of (get_or t (i + 1) 32)) name_class) both)
+    pair_first_named = name-class (get_or t i 32) (and_left (name_byte (get_or t i 32)) (name_byte (get_or t (i + 1) 32)) both)
 
-    pub pair_second_named : class_of (get_or t (i + 1) 32) ≡ name_class
+    pub pair_second_named : class_of (get_or t (i + 1) 32) ≡ classes.Name
     unfolding name_pair
     pair_second_named =
-        eqb-true (class_of (get_or t (i + 1) 32)) name_class
-        (and_right (eqb (class_of (get_or t i 32)) name_class) (eqb (class_of (get_or t (i + 1) 32)) name_class) both)
+        name-class (get_or t (i + 1) 32) (and_right (name_byte (get_or t i 32)) (name_byte (get_or t (i + 1) 32)) both)
 
 -- A separator ends a run; any other byte is in it.
 module _ (text : List ℕ) (i : ℕ) where
@@ -88,7 +73,7 @@ module _ (text : List ℕ) (i : ℕ) where
       go true h = ltb-true i (length text) h
       go false h =
           let space : get_or text i 32 ≡ 32 = get_or-eq_default text 32 {n = i} (ltb-false i (length text) h) in
-          absurd (false-true (sym (rw space at e)))
+          absurd (false≢true (sym (rw space at e)))
 
   pub rest_byte : separator (get_or text i 32) ≡ false → rest_of text i ≡ get_or text i 32 ∷ rest_of text (i + 1)
   unfolding unbroken
@@ -174,9 +159,9 @@ scanning_first l = record { stop = l.stop; passed = refl; behind = omega arith; 
 
 -- The next byte, by its class.
 module _
-    {text : List ℕ} {start from end class : ℕ} (s : Scanning text start from end) (looked : class ≡ class_of (get_or text end 32)) where
+    {text : List ℕ} {start from end : ℕ} {class : Class} (s : Scanning text start from end) (looked : class ≡ class_of (get_or text end 32)) where
   -- it may be in a name
-  module _ (named : class ≡ name_class) where
+  module _ (named : class ≡ classes.Name) where
     name : (separator (get_or text end 32) ≡ false) × (name_byte (get_or text end 32) ≡ true)
     name = class_name (get_or text end 32) (sym looked ∙ named)
 
@@ -194,7 +179,7 @@ module _
         }
 
   -- a separator: here the run ends
-  module _ (apart : class ≡ separator_class) where
+  module _ (apart : class ≡ classes.Separator) where
     none_left : rest_of text end ≡ []
     none_left = rest_none text end (class_separator (get_or text end 32) (sym looked ∙ apart))
 
@@ -205,13 +190,10 @@ module _
     scanning_passed = s.passed ∙ rw none_left
 
   -- neither
-  pub scanning_breaks : (class ≡ name_class → ⊥) → (class ≡ separator_class → ⊥) → all name_byte (rest_of text from) ≡ false
-  scanning_breaks not_named not_apart =
-      let other =
-      class_other (get_or text end 32) (λ (e : class_of (get_or text end 32) ≡ name_class). not_named (looked ∙ e))
-      (λ (e : class_of (get_or text end 32) ≡ separator_class). not_apart (looked ∙ e))
-      in
-      s.passed ∙ rw (rest_byte text end other.0, other.1)
+  pub scanning_breaks : class ≡ classes.Other → all name_byte (rest_of text from) ≡ false
+  scanning_breaks other =
+      let byte = class_other (get_or text end 32) (sym looked ∙ other) in
+      s.passed ∙ rw (rest_byte text end byte.0, byte.1)
 
 -- The next two bytes may be in a name.
 module _ {text : List ℕ} {start from end : ℕ} (s : Scanning text start from end) (both : name_pair text end ≡ true) where
@@ -247,7 +229,7 @@ module _ {text : List ℕ} {start from : ℕ} (l : Leading text start from) wher
       rw (← l.name, e) at by
 
   -- all may: which token the run is, and that its name is a name
-  module _ (end : ℕ) (stop : end ≡ stop_of text start) (k : Kind) (kind : k ≡ kind_of (bytes_of text start end))
+  module _ (end : ℕ) (stop : end ≡ stop_of text start) (k : Option Kind) (kind : k ≡ kind_of (bytes_of text start end))
       (passed : all name_byte (rest_of text from) ≡ true) where
     kind_rest : k ≡ kind_of (rest_of text start)
     kind_rest = kind ∙ ap kind_of (bytes_rest text start end stop)

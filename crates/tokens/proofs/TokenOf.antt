@@ -20,7 +20,7 @@ abbrev pub name_of : List ℕ → List ℕ
 name_of run = drop (lead run) run
 
 -- a run of the kind k is the token of that kind, if all bytes of its name may be in one, and then its name is a name
-abbrev pub Told : Kind → List ℕ → Type 0
+abbrev pub Told : Option Kind → List ℕ → Type 0
 Told k run =
     (token_of run ≡ cond (all name_byte (name_of run)) (token_as k (name_of run)) None)
     × (all name_byte (name_of run) ≡ true → Named k (name_of run))

@@ -6,11 +6,13 @@ use Rattle.grammar.specs.Names.{slots, Numbered, numbered}
 use Rattle.tokens.specs.declared.Numbered as numbered_as
 
 -- the code's number of a name, and the slots then, are the definition's
-abbrev pub NumberedIs : ℕ → List (List ℕ) → Option Numbered → numbered_as.Numbered → List ℕ → Type 0
-NumberedIs most names None r area = (r.number ≡ most) × (r.count ≡ length names) × (area ≡ slots most names)
-NumberedIs most names (Some n) r area = (r.number ≡ n.number) × (r.count ≡ length n.names) × (area ≡ slots most n.names)
+abbrev pub NumberedIs : ℕ → List (List ℕ) → Option Numbered → Option numbered_as.Numbered → List ℕ → Type 0
+NumberedIs most names None None area = area ≡ slots most names
+NumberedIs most names None (Some r) area = ⊥
+NumberedIs most names (Some n) None area = ⊥
+NumberedIs most names (Some n) (Some r) area = (r.number ≡ n.number) × (r.count ≡ length n.names) × (area ≡ slots most n.names)
 
-abbrev pub NumberedAs : ℕ → List (List ℕ) → ℕ → List ℕ → List ℕ → numbered_as.Numbered → List ℕ → Type 0
+abbrev pub NumberedAs : ℕ → List (List ℕ) → ℕ → List ℕ → List ℕ → Option numbered_as.Numbered → List ℕ → Type 0
 NumberedAs most names count area x r area' =
     area ≡ slots most names → count ≡ length names → length names ≤ most → all is_name names ≡ true → is_name x ≡ true
     → NumberedIs most names (numbered most names x) r area'

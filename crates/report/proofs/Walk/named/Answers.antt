@@ -2,12 +2,11 @@
 use Prim.Native.Nat.{ℕ}
 use mathlib.Core.Path.{◌≡◌, sym, ap, ◌∙◌}
 use native.Mathlib.Omega.{arith}
-use Rattle.std.specs.Prelude.{Option, None, Some}
+use Rattle.std.specs.Prelude.{Some}
 use mathlib.Core.List.{List}
 use Rattle.machine.specs.Areas.{Monitor, document_capacity}
 use Rattle.machine.specs.Calls.{Outcome, offer_of}
-use Rattle.grammar.specs.declared.Found.{Found}
-use Rattle.grammar.specs.Lookup.{found_as, symbol_named}
+use Rattle.grammar.specs.Lookup.{symbol_named}
 use Rattle.tokens.proofs.Numbering.{lookup_below}
 use Rattle.printing.specs.Watch.{Watch, offered, offered_name}
 use Rattle.report.specs.Lent.{walk_in}
@@ -16,14 +15,6 @@ use Rattle.lines.proofs.Writing.{writes_then, writes_as, writes_all, reaches}
 use Rattle.report.proofs.Walking.{turn_is}
 use Rattle.report.proofs.Offered.{named_short, made_slot, made_small, line_unknown, line_offered}
 use Rattle.report.proofs.Walk.named.Goals as goal
-
-found : (o : Option ℕ) (r : Found) (i : ℕ) → found_as r ≡ o → r ≡ Found.Symbol i → o ≡ Some i
-unfolding found_as
-found o r i e p = sym e ∙ ap found_as p
-
-missing : (o : Option ℕ) (r : Found) → found_as r ≡ o → r ≡ Found.None → o ≡ None
-unfolding found_as
-missing o r e p = sym e ∙ ap found_as p
 
 -- the monitor that the offer of a known name leaves
 left_by :
@@ -46,11 +37,11 @@ put_refused-length-requires c =
 
 pub overflow_cast-a : goal.overflow_cast-a
 overflow_cast-a c =
-    omega (arith, lookup_below _ _ _ (found _ _ _ c.symbol.ensures c.in-Symbol.is))
+    omega (arith, lookup_below _ _ _ (sym c.symbol.ensures ∙ c.in-Some.is))
 
 pub put_told-length-requires : goal.put_told-length-requires
 put_told-length-requires c =
-    let short = named_short _ _ _ (found _ _ _ c.symbol.ensures c.in-Symbol.is) in
+    let short = named_short _ _ _ (sym c.symbol.ensures ∙ c.in-Some.is) in
     let put = reaches 24 c.put-at.ensures c.put-at.auto.line (omega arith) short in
     let size = c.told-line in
     let byte = reaches 1 c.put_byte-at.ensures c.put_byte-at.auto.line (omega (arith, put.end, put.size, size)) (omega arith) in record {
@@ -66,7 +57,7 @@ unfolding offering offered_name offered
 returns-in-None c =
     let w = watch_with (walk_in c.args.self) c.args.image.now c.args.table.now c.args.names.now c.args.bytes.now
     c.args.words.now in
-    let unknown = missing _ _ c.symbol.ensures c.in-None.is in
+    let unknown = sym c.symbol.ensures ∙ c.in-None.is in
     let all = writes_all
     (writes_as (line_unknown w c.args.x.now unknown)
     (writes_then c.put-at.ensures (writes_then c.put_byte-at.ensures c.put_refused-length.ensures))) in
@@ -75,16 +66,16 @@ returns-in-None c =
     (c.put_refused-length.auto.line ∙ c.put_byte-at.auto.line ∙ c.put-at.auto.line) c.told-line
     in record { line_after = p.0; length_le_line_most = p.1 }
 
-pub returns-in-Symbol : goal.returns-in-Symbol
+pub returns-in-Some : goal.returns-in-Some
 unfolding offering offered_name offered
-returns-in-Symbol c =
+returns-in-Some c =
     let w = watch_with (walk_in c.args.self) c.args.image.now c.args.table.now c.args.names.now c.args.bytes.now
     c.args.words.now in
-    let known = found _ _ _ c.symbol.ensures c.in-Symbol.is in
+    let known = sym c.symbol.ensures ∙ c.in-Some.is in
     let line = line_offered w c.args.x.now _ _ _ _ known c.offer-called.ensures in
     let all = writes_all (writes_as line (writes_then c.put-at.ensures (writes_then c.put_byte-at.ensures c.put_told-length.ensures))) in
     let p =
-    turn_is _ _ _ _ _ _ _ _ all.0 c.onward-in-Symbol.ensures
+    turn_is _ _ _ _ _ _ _ _ all.0 c.onward-in-Some.ensures
     (left_by w c.args.x.now _ _ known (ap (λ (o : Outcome). o.monitor) c.offer-called.ensures)) all.1
     (c.put_told-length.auto.line ∙ c.put_byte-at.auto.line ∙ c.put-at.auto.line) c.told-line
     in record { line_after = p.0; length_le_line_most = p.1 }

@@ -1,34 +1,17 @@
--- `tokens::bytes::gap_of` meets its contract. The loop's invariant: the separators are counted up to byte i.
+-- `tokens::bytes::gap_of` meets its contract: the place of the first byte that is no separator.
 use mathlib.Core.Path.{sym, ◌∙◌}
-use native.Mathlib.Omega.{arith}
-use Rattle.grammar.proofs.Runs.{gap_stops, gap_passes, gap_ends}
+use mathlib.Core.Bool.{not}
+use borrow.Author.Rules.{rules}
+use borrow.Author.Tests.{tests}
+use Rattle.std.proofs.lemmas.Iterator.{YieldsList-from_slice}
+use Rattle.std.proofs.lemmas.Iterator.Search.{position_from_yields_List}
+use Rattle.grammar.specs.Tokens.{separator}
+use Rattle.tokens.proofs.Firsts.{place_or_length, gap-place}
 use Rattle.tokens.proofs.bytes.gap_of.Goals as goal
 
-pub loop-i-init : goal.loop-i-init
-loop-i-init c = omega arith
-
-pub bounds-part-i : goal.bounds-part-i
-bounds-part-i c = omega arith
-
-pub returns-then-not-is_separator : goal.returns-then-not-is_separator
-returns-then-not-is_separator c =
-    let l = c.loop-i in
-    gap_stops _ _ l.invariant.1 c.loop-i-test.true
-    (sym c.is_separator.ensures ∙ c.if-not-is_separator.true)
-
-pub overflow_add-i : goal.overflow_add-i
-overflow_add-i c = omega arith
-
-pub loop-i-smaller : goal.loop-i-smaller
-loop-i-smaller c = omega arith
-
-pub loop-i-preserved : goal.loop-i-preserved
-loop-i-preserved c =
-    let l = c.loop-i in (
-      omega arith,
-      gap_passes _ _ l.invariant.1 c.loop-i-test.true
-          (sym c.is_separator.ensures ∙ c.if-not-is_separator.false),
-    )
-
 pub returns : goal.returns
-returns c = gap_ends _ _ c.loop-i.invariant.1 c.loop-i-test.false
+returns c =
+    let t = c.args.part.now in
+    let found = position_from_yields_List (λ b. not (separator b)) _ _ c.position.result c.position.ensures.ran
+    (YieldsList-from_slice t c.iter.ensures.rest) (λ x b q k. search (rules, tests)) in
+    c.unwrap_or.ensures ∙ place_or_length _ _ _ found ∙ sym (gap-place t)

@@ -1,33 +1,38 @@
--- `tokens::bytes::kind_of` meets its contract: a law for each way out.
-use mathlib.Core.Path.{sym, ◌∙◌}
-use mathlib.Core.Bool.{true, false}
+-- `tokens::bytes::kind_of` meets its contract: what none of the tests finds is a name, if it is a token.
+use mathlib.Core.Path.{◌≡◌, ◌∙◌}
 use native.Mathlib.Omega.{arith}
-use Rattle.tokens.proofs.ByteTests.{kind-stop, kind_no_stop, kind-dash, kind-word, kind-mark, kind_no_mark, kind-name}
+use lib.ListN.{get_or}
+use borrow.Author.Rules.{rules, part_to_end}
+use Rattle.std.proofs.lemmas.Grind.{common_steps}
+use Rattle.tokens.proofs.Scans.{first_past, kind-word, kind_is}
+use Rattle.tokens.proofs.bytes.kind_of.Goals.{
+  then-run-lt1,
+  else-run-lt1+in_default-1,
+  in_default-run-via-then-run-lt1-2,
+  in_default-run-via-else-run-lt1-2+then-run-lt2+in_default-1,
+  in_default-run-via-else-run-lt1-2+else-run-lt2+then-run-lt3+in-45+in_default-1,
+  in_default-run-via-else-run-lt1-2+else-run-lt2+then-run-lt3+in_default-1,
+  in_default-run-via-else-run-lt1-2+else-run-lt2+else-run-lt3,
+}
 use Rattle.tokens.proofs.bytes.kind_of.Goals as goal
 
-pub returns-then-run-eq1 : goal.returns-then-run-eq1
-returns-then-run-eq1 c = kind-stop _ c.if-first-eq46.true c.if-run-eq1.true
+pub returns-in-35 : goal.returns-in-35
+returns-in-35 c = c.named.ensures ∙ rw part_to_end (kind-word c.args.run.now (search rules))
 
-pub returns-then-first-eq46 : goal.returns-then-first-eq46
-returns-then-first-eq46 c = kind_no_stop _ c.if-first-eq46.true c.if-run-eq1.false
-
-pub returns-then-is_same : goal.returns-then-is_same
-returns-then-is_same c = kind-dash _ true c.if-first-eq45.true (sym c.is_same.ensures ∙ c.if-is_same.true)
-
-pub returns-then-first-eq45 : goal.returns-then-first-eq45
-returns-then-first-eq45 c = kind-dash _ false c.if-first-eq45.true (sym c.is_same.ensures ∙ c.if-is_same.false)
-
-pub returns-then-first-eq35 : goal.returns-then-first-eq35
-returns-then-first-eq35 c = c.named.ensures ∙ kind-word _ c.if-first-eq35.true
-
-pub returns-then-run-eq1-2 : goal.returns-then-run-eq1-2
-returns-then-run-eq1-2 c = kind-mark _ c.if-first-eq94.true c.if-run-eq1-2.true
-
-pub returns-then-first-eq94 : goal.returns-then-first-eq94
-returns-then-first-eq94 c = kind_no_mark _ c.if-first-eq94.true c.if-run-eq1-2.false
-
-pub returns : goal.returns
-returns c =
-    c.named-2.ensures
-    ∙ kind-name _ (omega arith) c.if-first-eq46.false c.if-first-eq45.false
-    c.if-first-eq35.false c.if-first-eq94.false
+pub returns-in_default-run : goal.returns-in_default-run
+returns-in_default-run c =
+    let run = c.args.run.now in
+    let is = kind_is run in
+    let no_hash : get_or run 0 0 ≡ 35 → ⊥ =
+    elim c.if-run-lt1.branch [
+      | then-run-lt1 w ↦ λ e. omega (arith, e, first_past run (search rules))
+      | else-run-lt1+in_default-1 w ↦ λ e. omega (arith, e)
+    ]
+    in
+    elim c.in_default-run.branch [
+      | in_default-run-via-then-run-lt1-2 w ↦ grind (arith, common_steps, is, no_hash)
+      | in_default-run-via-else-run-lt1-2+then-run-lt2+in_default-1 w ↦ grind (arith, common_steps, is, no_hash)
+      | in_default-run-via-else-run-lt1-2+else-run-lt2+then-run-lt3+in-45+in_default-1 w ↦ grind (arith, common_steps, is, no_hash)
+      | in_default-run-via-else-run-lt1-2+else-run-lt2+then-run-lt3+in_default-1 w ↦ grind (arith, common_steps, is, no_hash)
+      | in_default-run-via-else-run-lt1-2+else-run-lt2+else-run-lt3 w ↦ grind (arith, common_steps, is, no_hash)
+    ]

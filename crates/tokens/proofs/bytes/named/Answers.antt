@@ -1,29 +1,20 @@
 -- `tokens::bytes::named` meets its contract: a law for each way out.
 use mathlib.Core.Path.{sym, ◌∙◌}
-use mathlib.Core.Bool.{true, false}
-use native.Mathlib.Omega.{arith}
-use Rattle.tokens.proofs.ByteTests.{named-nothing, named_long, named_by}
+use Rattle.grammar.specs.Tokens.{letter}
+use Rattle.tokens.proofs.Scans.{named_letter, named_long, named_other, named-nothing}
 use Rattle.tokens.proofs.bytes.named.Goals as goal
 
-pub returns-then-n-lt1 : goal.returns-then-n-lt1
-returns-then-n-lt1 c =
-    let a = c.args in
-    named-nothing a.kind a.run.now a.at c.if-n-lt1.true
+pub returns-in-len1-up : goal.returns-in-len1-up
+unfolding letter
+returns-in-len1-up c =
+    named_letter _ _ c.if-name-le-NAME_BYTES.true (sym c.is_ascii_alphabetic.ensures.value ∙ c.if-is_ascii_alphabetic.true)
 
-pub returns-then-n-gt-NAME_BYTES : goal.returns-then-n-gt-NAME_BYTES
-returns-then-n-gt-NAME_BYTES c =
-    let a = c.args in
-    named_long a.kind a.run.now a.at c.if-n-gt-NAME_BYTES.true
+pub returns-in_default : goal.returns-in_default
+returns-in_default c = named-nothing _ _ c.in_default.len_below
 
-pub bounds-run-at : goal.bounds-run-at
-bounds-run-at c = omega arith
+pub returns-in_default-2 : goal.returns-in_default-2
+returns-in_default-2 c = named_long _ _ c.if-name-le-NAME_BYTES.false
 
-pub returns-then-is_letter : goal.returns-then-is_letter
-returns-then-is_letter c =
-    let a = c.args in
-    named_by a.kind a.run.now a.at true (omega arith) (omega arith) (sym c.is_letter.ensures ∙ c.if-is_letter.true)
-
-pub returns : goal.returns
-returns c =
-    let a = c.args in
-    named_by a.kind a.run.now a.at false (omega arith) (omega arith) (sym c.is_letter.ensures ∙ c.if-is_letter.false)
+pub returns-in_default-3 : goal.returns-in_default-3
+unfolding letter
+returns-in_default-3 c = named_other _ _ (sym c.is_ascii_alphabetic.ensures.value ∙ c.if-is_ascii_alphabetic.false)

@@ -1,34 +1,16 @@
--- `tokens::bytes::unbroken_length` meets its contract. The loop's invariant: the bytes before the first separator are counted up
+-- `tokens::bytes::unbroken_length` meets its contract: the place of the first separator.
 use mathlib.Core.Path.{sym, ◌∙◌}
-use native.Mathlib.Omega.{arith}
-use Rattle.grammar.proofs.Runs.{unbroken_stops, unbroken_passes, unbroken-ends}
+use borrow.Author.Rules.{rules}
+use borrow.Author.Tests.{tests}
+use Rattle.std.proofs.lemmas.Iterator.{YieldsList-from_slice}
+use Rattle.std.proofs.lemmas.Iterator.Search.{position_from_yields_List}
+use Rattle.grammar.specs.Tokens.{separator}
+use Rattle.tokens.proofs.Firsts.{place_or_length, unbroken-place}
 use Rattle.tokens.proofs.bytes.unbroken_length.Goals as goal
 
-pub loop-i-init : goal.loop-i-init
-loop-i-init c = omega arith
-
-pub bounds-part-i : goal.bounds-part-i
-bounds-part-i c = omega arith
-
-pub returns-then-is_separator : goal.returns-then-is_separator
-returns-then-is_separator c =
-    let l = c.loop-i in
-    unbroken_stops _ _ l.invariant.1 c.loop-i-test.true
-    (sym c.is_separator.ensures ∙ c.if-is_separator.true)
-
-pub overflow_add-i : goal.overflow_add-i
-overflow_add-i c = omega arith
-
-pub loop-i-smaller : goal.loop-i-smaller
-loop-i-smaller c = omega arith
-
-pub loop-i-preserved : goal.loop-i-preserved
-loop-i-preserved c =
-    let l = c.loop-i in (
-      omega arith,
-      unbroken_passes _ _ l.invariant.1 c.loop-i-test.true
-          (sym c.is_separator.ensures ∙ c.if-is_separator.false),
-    )
-
 pub returns : goal.returns
-returns c = unbroken-ends _ _ c.loop-i.invariant.1 c.loop-i-test.false
+returns c =
+    let t = c.args.part.now in
+    let found = position_from_yields_List separator _ _ c.position.result c.position.ensures.ran
+    (YieldsList-from_slice t c.iter.ensures.rest) (λ x b q k. search (rules, tests)) in
+    c.unwrap_or.ensures ∙ place_or_length _ _ _ found ∙ sym (unbroken-place t)

@@ -1,24 +1,22 @@
--- `tokens::names::find` meets its contract. The loop's invariant: what is looked for is `i` slots on.
-use mathlib.Core.Path.{sym, ◌∙◌}
-use Rattle.grammar.proofs.Slots.{finding_first, finding_inside, finding_here, finding_later, finding_none}
+-- `tokens::names::find` meets its contract: the place of the slot among the slots.
+use mathlib.Core.Path.{ap, ◌∙◌}
+use mathlib.Core.List.{List}
+use Prim.Native.Nat.{ℕ, ◌≤◌, ◌/◌}
+use native.Mathlib.Omega.{arith}
+use lib.ListN.{length, take}
+use borrow.Author.Rules.{rules}
+use borrow.Author.Tests.{tests}
+use Rattle.std.proofs.lemmas.Iterator.{YieldsList-from_slice}
+use Rattle.std.proofs.lemmas.Iterator.Search.{position_from_yields_List}
+use Rattle.tokens.proofs.Places.{is_key, first_place, slot_place}
 use Rattle.tokens.proofs.names.find.Goals as goal
 
-pub loop-i-init : goal.loop-i-init
-loop-i-init c =
-    finding_first c.args.key.now c.args.n c.args.area.now c.requires.slots
-
-pub is_slot-requires : goal.is_slot-requires
-is_slot-requires c = record {
-  size = c.requires.size;
-  slot = finding_inside c.loop-i.invariant c.loop-i-test.true;
-  last = c.requires.last;
-}
-
-pub returns-then-is_slot : goal.returns-then-is_slot
-returns-then-is_slot c = finding_here c.loop-i.invariant c.loop-i-test.true (sym c.is_slot.ensures ∙ c.if-is_slot.true)
-
-pub loop-i-preserved : goal.loop-i-preserved
-loop-i-preserved c = finding_later c.loop-i.invariant c.loop-i-test.true (sym c.is_slot.ensures ∙ c.if-is_slot.false)
-
 pub returns : goal.returns
-returns c = finding_none c.loop-i.invariant c.loop-i-test.false
+returns c =
+    let a = c.args in
+    let inside : a.n ≤ length a.area.now / 25 = omega (arith, c.requires.slots) in
+    let found = position_from_yields_List (is_key a.key.now a.last) _ _ c.position.result c.position.ensures.ran
+    (YieldsList-from_slice (take a.n c.as_chunks.result.0.now) c.iter.ensures.rest) (λ x b q k. search (rules, tests)) in
+    found
+    ∙ ap (λ (slots : List (List ℕ)). first_place (is_key a.key.now a.last) (take a.n slots)) c.as_chunks.ensures.front
+    ∙ slot_place a.key.now a.last a.n _ a.area.now inside
