@@ -159,7 +159,8 @@ scanning_first l = record { stop = l.stop; passed = refl; behind = omega arith; 
 
 -- The next byte, by its class.
 module _
-    {text : List ℕ} {start from end : ℕ} {class : Class} (s : Scanning text start from end) (looked : class ≡ class_of (get_or text end 32)) where
+    {text : List ℕ} {start from end : ℕ} {class : Class} (s : Scanning text start from end)
+    (looked : class ≡ class_of (get_or text end 32)) where
   -- it may be in a name
   module _ (named : class ≡ classes.Name) where
     name : (separator (get_or text end 32) ≡ false) × (name_byte (get_or text end 32) ≡ true)
