@@ -1,2 +1,3 @@
--- What a rewrite gives back.
+-- What a rewrite gives back, and what gathers bits.
+pub mod Bits
 pub mod Rewritten

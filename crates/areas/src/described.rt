@@ -7,10 +7,70 @@ ghost use Rattle.layout.specs.Image.{read, valid};
 ghost use Rattle.layout.specs.Table.{table_of};
 ghost use Rattle.machine.specs.Areas.{stands_by, described};
 ghost use Rattle.machine.specs.Lent.{monitor_with, Settled};
+ghost use Rattle.areas.specs.Bits.{Gathers, or_gathers};
+ghost use lib.Bits.{bit_or};
 
 use crate::held;
 use image::wide;
 use layout::RightSide;
+
+// Unsigned numbers, whose bits `or` gathers: it is 0 where both numbers are, and nowhere else.
+trait Bits: Copy {
+    ghost zero: { Self };
+
+    ghost or_of: { Self → Self → Self };
+
+    fn zero() -> Self
+        ensures { result ≡ zero };
+
+    fn or(self, other: Self) -> Self
+        ensures { result ≡ or_of self other };
+
+    fn is_zero(self) -> bool
+        ensures { Decides result (self ≡ zero) };
+
+    ghost gathers: { Gathers zero or_of };
+}
+
+impl Bits for u8 {
+    ghost zero = { 0 };
+
+    ghost or_of = { bit_or };
+
+    ghost gathers = { or_gathers };
+
+    fn zero() -> u8 {
+        0
+    }
+
+    fn or(self, other: u8) -> u8 {
+        self | other
+    }
+
+    fn is_zero(self) -> bool {
+        self == 0
+    }
+}
+
+impl Bits for u16 {
+    ghost zero = { 0 };
+
+    ghost or_of = { bit_or };
+
+    ghost gathers = { or_gathers };
+
+    fn zero() -> u16 {
+        0
+    }
+
+    fn or(self, other: u16) -> u16 {
+        self | other
+    }
+
+    fn is_zero(self) -> bool {
+        self == 0
+    }
+}
 
 // A quarter of n, rounded up to a multiple of 32: a loop of so many turns becomes vector code with nothing left over. From 384 on
 // three of them fit into n.
@@ -22,61 +82,39 @@ fn quarter(n: usize) -> usize
     (n - 1) / 128 * 32 + 32
 }
 
-// Whether all bytes are 0, one after another, where they are too few for quarters.
-fn few_zero_bytes(bytes: &[u8]) -> bool
-    ensures { Decides result (bytes.now ≡ replicate (length bytes.now) 0) }
+// Whether all numbers are 0, one after another, where they are too few for quarters.
+fn few_zero<T: Bits>(items: &[T]) -> bool
+    ensures { Decides result (items.now ≡ replicate (length items.now) T.zero) }
 {
-    let mut all: u8 = 0;
-    for i in 0..bytes.len() {
-        all |= bytes[i];
+    let mut all = T::zero();
+    for x in items {
+        all = all.or(*x);
     }
-    all == 0
+    all.is_zero()
 }
 
-// Whether all bytes are 0: three quarters from the start, and one that ends with the bytes, where some may be looked at twice. A turn
-// takes a byte of each, so that the strides are wide, and the loop has no other way out.
-fn zero_bytes(bytes: &[u8]) -> bool
-    ensures { Decides result (bytes.now ≡ replicate (length bytes.now) 0) }
+// Whether all numbers are 0: three quarters from the start, and one that ends with the numbers, where some may be looked at twice. A
+// turn takes a number of each, so that the strides are wide, and the loop has no other way out. Places are counted, since a loop over
+// the four quarters side by side does not become vector code and takes four times as long.
+fn all_zero<T: Bits>(items: &[T]) -> bool
+    ensures { Decides result (items.now ≡ replicate (length items.now) T.zero) }
 {
-    if bytes.len() < 384 {
-        return few_zero_bytes(bytes);
+    if items.len() < 384 {
+        return few_zero(items);
     }
-    let size = quarter(bytes.len());
+    let size = quarter(items.len());
     let third = size + size;
-    let last = bytes.len() - size;
-    let mut all: u8 = 0;
+    let last = items.len() - size;
+    let mut all = T::zero();
     for i in 0..size {
-        all |= bytes[i] | bytes[size + i] | bytes[third + i] | bytes[last + i];
+        all = all.or(
+            items[i]
+                .or(items[size + i])
+                .or(items[third + i])
+                .or(items[last + i]),
+        );
     }
-    all == 0
-}
-
-// The same for words.
-fn few_zero_words(words: &[u16]) -> bool
-    ensures { Decides result (words.now ≡ replicate (length words.now) 0) }
-{
-    let mut all: u16 = 0;
-    for i in 0..words.len() {
-        all |= words[i];
-    }
-    all == 0
-}
-
-// Whether all words are 0, as with bytes.
-fn zero_words(words: &[u16]) -> bool
-    ensures { Decides result (words.now ≡ replicate (length words.now) 0) }
-{
-    if words.len() < 384 {
-        return few_zero_words(words);
-    }
-    let size = quarter(words.len());
-    let third = size + size;
-    let last = words.len() - size;
-    let mut all: u16 = 0;
-    for i in 0..size {
-        all |= words[i] | words[size + i] | words[third + i] | words[last + i];
-    }
-    all == 0
+    all.is_zero()
 }
 
 // Whether the verdict is that of its rule; with none the rule is 0.
@@ -87,21 +125,18 @@ fn stands_by(image: &[u8], verdict: Option<u64>, rule: usize) -> bool
     match verdict {
         None => rule == 0,
         Some(v) => {
-            if rule < image::rules(image) {
-                match image::right_side(image, rule) {
+            rule < image::rules(image)
+                && match image::right_side(image, rule) {
                     RightSide::Put(_) => false,
                     RightSide::Close(u) => v == u,
                 }
-            } else {
-                false
-            }
         }
     }
 }
 
 // Whether these are settled symbols and their words: each symbol below S, each word the state after its symbol, and none
 // of the states has a match. Symbols come first, in a loop that becomes vector code. Each word is tested against the one lent before
-// it, so that no turn waits for the one before.
+// it, so that no turn waits for the one before. A loop over symbols and words side by side takes up to a fifth longer.
 fn settled_right(image: &[u8], table: &[u16], symbols: &[u8], words: &[u16]) -> bool
     requires image { valid image.now ≡ true }
     requires table { prefix (table_of (read image.now)) table.now ≡ true }
@@ -113,9 +148,9 @@ fn settled_right(image: &[u8], table: &[u16], symbols: &[u8], words: &[u16]) -> 
     }
     let rows = 2 + wide::word(table[0]);
     let width = wide::word(table[1]);
-    for i in 0..symbols.len() {
+    for (i, &symbol) in symbols.iter().enumerate() {
         let q = held::word_before(words, i);
-        let next = held::next_at(table, rows, width, q, wide::byte(symbols[i]));
+        let next = held::next_at(table, rows, width, q, wide::byte(symbol));
         if wide::word(words[i]) != next {
             return false;
         }
@@ -157,11 +192,11 @@ pub fn as_described(
     if !settled_right(image, table, &bytes[..settled], &words[..settled]) {
         return false;
     }
-    if !zero_bytes(&bytes[settled..first]) {
+    if !all_zero(&bytes[settled..first]) {
         return false;
     }
     if !validity::all_below(&bytes[first..], image[0]) {
         return false;
     }
-    zero_words(&words[settled..])
+    all_zero(&words[settled..])
 }

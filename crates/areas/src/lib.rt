@@ -1,8 +1,9 @@
 // What the monitor does with its two areas: writes, the check that they are as described, and a rewrite. What these functions ask of
-// their caller, the checks of a call have shown; the crate monitor is the only one that calls them.
+// their caller, the checks of a call have shown; the crate monitor is the only one that calls them. The areas are lent as two slices: of
+// a struct with two `&mut` fields each clause would have to name what they become, which is no plainer.
 #![tactic(auto)]
 
-ghost use Rattle.std.specs.Prelude.{◌≡◌, length, Some, None};
+ghost use Rattle.std.specs.Prelude.{ℕ, ◌<◌, ◌≡◌, IfSome, length, Some, None};
 ghost use Rattle.layout.specs.Image.{read};
 ghost use Rattle.machine.specs.Areas.{state_of};
 ghost use Rattle.machine.specs.Lent.{monitor_with, Passed, Starts, Matches, step_of, tried};
@@ -10,24 +11,22 @@ ghost use Rattle.areas.specs.Rewritten.{rewritten_from};
 
 use image::wide;
 use layout::RightSide;
-use machine::{FULL, VERDICT};
 
 pub mod described;
 pub mod held;
 
-// A rewrite that was tried: the head's numbers after it, its rewrites (0 or 1) and the symbols that it put back. The answer is 16 + the
-// verdict that it set, 2 (Full) where it does not fit and was not made, else 0. A struct without unused bytes stays in registers.
+// A rewrite that was made: the head's numbers after it, and the symbols that it put back.
 #[derive(Clone, Copy)]
 pub struct Rewritten {
     pub settled: usize,
     pub waiting: usize,
-    pub answer: u64,
+    pub verdict: Option<u64>,
     pub rule: usize,
-    pub rewrites: u64,
     pub put: u64,
 }
 
-// The first waiting symbol completes rule i's left side: that is taken off, and the right side put back or the verdict set.
+// The first waiting symbol completes rule i's left side: that is taken off, and the right side put back or the verdict set. Where it
+// does not fit, it is not made.
 pub fn rewrite(
     settled: usize,
     waiting: usize,
@@ -37,14 +36,15 @@ pub fn rewrite(
     bytes: &mut [u8],
     words: &mut [u16],
     i: usize,
-) -> Rewritten
+) -> Option<Rewritten>
     requires lent { Passed (length bytes.old) image.now table.now (monitor_with settled waiting None 0 bytes.old words.old) }
     requires starts { Starts image.now starts.now }
     requires next { Matches (read image.now).rules (state_of (monitor_with settled waiting None 0 bytes.old words.old)) (Some i) }
-    ensures { rewritten_from result bytes.new words.new
+    ensures tried { rewritten_from settled waiting result bytes.new words.new
         ≡ tried (read image.now).rules (length bytes.old)
         (monitor_with settled waiting None 0 bytes.old words.old)
         (step_of (read image.now).rules (state_of (monitor_with settled waiting None 0 bytes.old words.old))) }
+    ensures verdict { IfSome result (λ r. (v : ℕ) → r.verdict ≡ Some v → v < 16) }
 {
     let first = bytes.len() - waiting;
     let size = image::left_length(image, i);
@@ -53,36 +53,27 @@ pub fn rewrite(
     match image::right_side(image, i) {
         RightSide::Put(n) => {
             if behind + size < settled + 1 + n {
-                return Rewritten {
-                    settled: settled,
-                    waiting: waiting,
-                    answer: FULL,
-                    rule: 0,
-                    rewrites: 0,
-                    put: 0,
-                };
+                return None;
             }
             let kept = held::take_off(bytes, words, first, settled, size);
             let held = held::put_back(image, wide::word(starts[i]), n, bytes, rest);
-            Rewritten {
+            Some(Rewritten {
                 settled: kept,
                 waiting: held,
-                answer: 0,
+                verdict: None,
                 rule: 0,
-                rewrites: 1,
                 put: n as u64,
-            }
+            })
         }
         RightSide::Close(v) => {
             let kept = held::take_off(bytes, words, first, settled, size);
-            Rewritten {
+            Some(Rewritten {
                 settled: kept,
                 waiting: rest,
-                answer: VERDICT + v,
+                verdict: Some(v),
                 rule: i,
-                rewrites: 1,
                 put: 0,
-            }
+            })
         }
     }
 }

@@ -45,7 +45,7 @@ use Rattle.machine.specs.Areas.{
   holds,
   described,
 }
-use Rattle.machine.specs.Calls.{sized, freshened, fresh_of, fuel_of, lent_checks, is_none, fuel_check, verdict_check, call_checks, offered, outcome, decided, call_of, offer_of, answer_number}
+use Rattle.machine.specs.Calls.{sized, freshened, fresh_of, fuel_of, lent_checks, fuel_check, verdict_check, call_checks, offered, outcome, decided, call_of, offer_of, answer_number}
 use Rattle.machine.specs.Batch.{stopped, and_then, in_turn, offers, batch_checks, batched, batch_of}
 use Rattle.machine.specs.Play.{string_of, no_calls, events_of, logged, play, offers_of}
 use Rattle.cases.specs.Cases.{Case, fresh, found_in, find, worked, abcd, cases}
@@ -80,7 +80,7 @@ unfolding
     body image_of read_right read_rule read_rules read valid refusal pattern is_prefix state next starts symbols_in matching prefixes known numbered
     has_mark first_states states number match_word row table_of empty active replace settle step no_counts plus counts_of ended counted fits
     proceed tests run head_of area_of bytes_of states_after words_of monitor_of state_of no_match unmatched closes_with stands_by holds described sized
-    freshened fresh_of fuel_of lent_checks is_none fuel_check
+    freshened fresh_of fuel_of lent_checks fuel_check
     verdict_check call_checks offered outcome decided call_of refused_by string_of no_calls events_of logged play fresh found_in find worked abcd
 computes = tt
 

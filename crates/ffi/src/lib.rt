@@ -1,7 +1,7 @@
 // The C interface of the watcher. Each function calls the library function of its name and spells the answer in numbers.
 #![tactic(auto)]
 
-ghost use Rattle.std.specs.Prelude.{◌≡◌, ◌≤◌, ◌<◌, [], ◌∷◌, None};
+ghost use Rattle.std.specs.Prelude.{◌≡◌, ◌≤◌, ◌<◌, [], ◌∷◌, None, Ok};
 ghost use Rattle.layout.specs.Refusals.{refusal_number, refused_by, numbered};
 ghost use Rattle.layout.specs.Compile.{compile_of, word_count};
 ghost use Rattle.layout.specs.TableCheck.{check_of};
@@ -141,16 +141,26 @@ fn set_head(words: &mut [u64; 4], head: Head)
     ];
 }
 
-// An answer as a word.
+// The answer of a call that was not refused as a word.
+fn code_of(answer: Answer) -> u64
+    requires { answer_number (Ok answer) < 256 }
+    ensures { result ≡ answer_number (Ok answer) }
+{
+    match answer {
+        Answer::Quiet => 0,
+        Answer::Spent => 1,
+        Answer::Full => 2,
+        Answer::Verdict(v) => 16 + v,
+    }
+}
+
+// An answer as a word, 0 beside a refusal.
 fn answer_word(answer: Result<Answer, Refusal>) -> u64
     requires { answer_number (numbered answer) < 256 }
     ensures { result ≡ answer_number (numbered answer) }
 {
     match answer {
-        Ok(Answer::Quiet) => 0,
-        Ok(Answer::Spent) => 1,
-        Ok(Answer::Full) => 2,
-        Ok(Answer::Verdict(v)) => 16 + v,
+        Ok(accepted) => code_of(accepted),
         Err(_) => 0,
     }
 }

@@ -1,12 +1,13 @@
 -- Laws of `refusal`: it passes over the checks that hold and stops at the first that does not.
 -- Assumes nothing.
-use Prim.Native.Nat.{ℕ}
+use Prim.Native.Nat.{ℕ, ◌<◌}
 use mathlib.Core.Path.{◌≡◌, refl}
 use mathlib.Core.Bool.{Bool, true, false, cond}
-use Rattle.std.specs.Prelude.{None, Some}
+use Rattle.std.specs.Prelude.{Option, None, Some, Result, Ok, Err, option_map}
 use mathlib.Core.List.{List, [], ◌∷◌, ◌++◌, map, Memᴰ}
 use native.Mathlib.Omega.{arith}
-use Rattle.layout.specs.Refusals.{Check, refusal}
+use Rattle.layout.specs.declared.Refusal.{Refusal}
+use Rattle.layout.specs.Refusals.{Check, refusal, refusal_number, number}
 
 -- no check, no refusal
 pub refusal_nil : refusal [] ≡ None
@@ -78,3 +79,33 @@ refusal-number (c ∷ cs) n e = go c.0 e (refusal-number cs n)
         → (refusal cs ≡ Some n → Memᴰ n (map (λ (d : Check). d.1) cs)) → Memᴰ n (c.1 ∷ map (λ (d : Check). d.1) cs)
     go true p ih = Memᴰ.tail (ih p)
     go false p ih = let q : n ≡ c.1 = cc in Memᴰ.head q
+
+-- What the code knows behind an `if let` that did not match.
+pub not_refused : (r : Result (Unit {0}) Refusal) → ((x : Refusal) → r ≡ Err x → ⊥) → r ≡ Ok tt
+not_refused (Ok u) h = refl
+not_refused (Err x) h = absurd (h x refl)
+
+pub not_stopped : (s : Option Refusal) → ((x : Refusal) → s ≡ Some x → ⊥) → refusal_number (option_map number s) ≡ 0
+unfolding refusal_number
+not_stopped None h = refl
+not_stopped (Some x) h = absurd (h x refl)
+
+-- no refusal has the number 0
+pub number_positive : (x : Refusal) → 0 < number x
+number_positive Refusal.LongText = omega arith
+number_positive Refusal.ShortArea = omega arith
+number_positive Refusal.NoToken = omega arith
+number_positive Refusal.Misplaced = omega arith
+number_positive Refusal.TooMany = omega arith
+number_positive Refusal.Repeated = omega arith
+number_positive Refusal.BadImage = omega arith
+number_positive Refusal.ShortTable = omega arith
+number_positive Refusal.OtherTable = omega arith
+number_positive Refusal.AreaLength = omega arith
+number_positive Refusal.NotAsDescribed = omega arith
+number_positive Refusal.NoEvent = omega arith
+number_positive Refusal.TooMuchFuel = omega arith
+number_positive Refusal.VerdictStands = omega arith
+number_positive Refusal.NoRoom = omega arith
+number_positive Refusal.BatchLength = omega arith
+number_positive Refusal.NoCalls = omega arith

@@ -1,7 +1,6 @@
 -- How the functions that write a line speak of it, and what they ask of an outcome.
-use Rattle.std.specs.Prelude.{ℕ, ◌+◌, ◌≤◌, ◌<◌, ◌≡◌, true, List, ◌++◌, length, Result, Ok, Err}
+use Rattle.std.specs.Prelude.{ℕ, ◌+◌, ◌≤◌, ◌<◌, ◌≡◌, true, List, ◌++◌, length}
 use Rattle.rewriting.specs.Lists.{below, over}
-use Rattle.layout.specs.declared.Refusal.{Refusal}
 use Rattle.machine.specs.declared.Answer.{Answer}
 use Rattle.machine.specs.Calls.{Outcome}
 use Rattle.machine.specs.Play.{string_of}
@@ -17,12 +16,11 @@ abbrev pub Writes : List ℕ → List ℕ → ℕ → List ℕ → ℕ → Type 
 Writes x line at line' at' = (area v : List ℕ) → Wrote area v line at → Wrote area (v ++ x) line' at'
 
 -- a verdict has a slot
-abbrev pub HasSlot : Result Answer Refusal → Type 0
-HasSlot (Ok Answer.Quiet) = Unit {0}
-HasSlot (Ok Answer.Spent) = Unit {0}
-HasSlot (Ok Answer.Full) = Unit {0}
-HasSlot (Ok (Answer.Verdict v)) = v < 16
-HasSlot (Err refusal) = Unit {0}
+abbrev pub HasSlot : Answer → Type 0
+HasSlot Answer.Quiet = Unit {0}
+HasSlot Answer.Spent = Unit {0}
+HasSlot Answer.Full = Unit {0}
+HasSlot (Answer.Verdict v) = v < 16
 
 -- what an outcome keeps to where it is no refusal
 pub record Small (o : Outcome) : Type 0 where

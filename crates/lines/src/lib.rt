@@ -2,7 +2,7 @@
 // What they ask, that there is room above all, the crate report shows: it is the only one that calls them.
 #![tactic(auto)]
 
-ghost use Rattle.std.specs.Prelude.{◌+◌, ◌*◌, ◌≤◌, ◌<◌, ◌≡◌, true, length, None};
+ghost use Rattle.std.specs.Prelude.{◌+◌, ◌*◌, ◌≤◌, ◌<◌, ◌≡◌, true, length, None, Ok};
 ghost use mathlib.Core.List.{[], ◌∷◌, ◌++◌, flat_map};
 ghost use Rattle.rewriting.specs.Lists.{below};
 ghost use Rattle.layout.specs.Refusals.{refused_by, numbered};
@@ -11,6 +11,7 @@ ghost use Rattle.printing.specs.Lines.{space, comma, newline, refused_word, deci
 ghost use Rattle.printing.specs.Turns.{line_most};
 ghost use Rattle.lines.specs.Wrote.{Writes, HasSlot, Small};
 ghost use Rattle.grammar.specs.Names.{slot_size, names_size};
+ghost use Rattle.machine.specs.declared.Answer.{Answer};
 ghost use Rattle.machine.specs.Areas.{document_capacity};
 
 use grammar::SLOT_BYTES;
@@ -66,21 +67,20 @@ fn put_name(line: &mut [u8], at: usize, names: &[u8], slot: usize) -> usize
 }
 
 // The word for an answer.
-fn put_answer(line: &mut [u8], at: usize, names: &[u8], answer: Result<Answer, Refusal>) -> usize
+fn put_answer(line: &mut [u8], at: usize, names: &[u8], answer: Answer) -> usize
     requires slot { HasSlot answer }
     requires names { length names.now ≡ names_size }
     requires room { at + slot_size ≤ length line.old }
-    ensures { Writes (answer_word names.now (numbered answer)) line.old at line.new result }
+    ensures { Writes (answer_word names.now (Ok answer)) line.old at line.new result }
 {
     match answer {
-        Ok(Answer::Quiet) => put(line, at, b"quiet"),
-        Ok(Answer::Spent) => put(line, at, b"spent"),
-        Ok(Answer::Full) => put(line, at, b"full"),
-        Ok(Answer::Verdict(v)) => {
+        Answer::Quiet => put(line, at, b"quiet"),
+        Answer::Spent => put(line, at, b"spent"),
+        Answer::Full => put(line, at, b"full"),
+        Answer::Verdict(v) => {
             let end = put_byte(line, at, b'#');
             put_name(line, end, names, 32 + v as usize)
         }
-        Err(_) => put(line, at, b"refused"),
     }
 }
 
@@ -143,17 +143,23 @@ fn put_counted(line: &mut [u8], at: usize, names: &[u8], called: Returned, bytes
 }
 
 // What is told of a call that is not refused: the answer, the counts, the string.
-fn put_accepted(line: &mut [u8], at: usize, names: &[u8], called: Returned, bytes: &[u8]) -> usize
-    requires slot { HasSlot called.answer }
+fn put_accepted(
+    line: &mut [u8],
+    at: usize,
+    names: &[u8],
+    answer: Answer,
+    called: Returned,
+    bytes: &[u8],
+) -> usize
+    requires slot { HasSlot answer }
     requires small { Small (outcome_from called bytes.now []) }
     requires names { length names.now ≡ names_size }
     requires bytes { length bytes.now ≡ document_capacity }
     requires room { (at ≤ slot_size) × (line_most ≤ length line.old) }
-    ensures { Writes (answer_word names.now (numbered called.answer)
+    ensures { Writes (answer_word names.now (Ok answer)
         ++ space ∷ (counted names.now (outcome_from called bytes.now []) ++ newline ∷ []))
         line.old at line.new result }
 {
-    let answer = called.answer;
     let mut end = put_answer(line, at, names, answer);
     end = put_byte(line, end, b' ');
     put_counted(line, end, names, called, bytes)
@@ -171,7 +177,7 @@ pub fn put_refused(line: &mut [u8], at: usize, n: u32) -> usize
 
 // The rest of the line for a name, from the answer on.
 pub fn put_told(line: &mut [u8], at: usize, names: &[u8], called: Returned, bytes: &[u8]) -> usize
-    requires slot { HasSlot called.answer }
+    requires slot { (answer : Answer) → called.answer ≡ Ok answer → HasSlot answer }
     requires small { refused_by (numbered called.answer) ≡ None → Small (outcome_from called bytes.now []) }
     requires names { length names.now ≡ names_size }
     requires bytes { length bytes.now ≡ document_capacity }
@@ -180,10 +186,9 @@ pub fn put_told(line: &mut [u8], at: usize, names: &[u8], called: Returned, byte
         ++ space ∷ (told names.now (outcome_from called bytes.now []) (numbered called.answer) ++ newline ∷ []))
         line.old at line.new result }
 {
-    let answer = called.answer;
-    match answer {
+    match called.answer {
         Err(refusal) => put_refused(line, at, refusal.number()),
-        Ok(_) => put_accepted(line, at, names, called, bytes),
+        Ok(answer) => put_accepted(line, at, names, answer, called, bytes),
     }
 }
 

@@ -25,7 +25,6 @@ pub mod AnswerNumbers
 pub mod Offering
 pub mod BatchChecks
 pub mod TableWords
-pub mod Zeros
 pub mod VerdictRule
 pub mod SettledTurns
 pub mod AreaTests

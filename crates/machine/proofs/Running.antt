@@ -91,10 +91,11 @@ tried_yes rules capacity m t rewrites put to e p = go (fits capacity t.to) refl
         absurd (omega arith)
 
 -- A step without a rewrite adds nothing.
-pub added_none : (rewrites put : ℕ) (m : Monitor) (to : Tried) → record { taken = true; monitor = m; rewrites = 0; put = 0 } ≡ to
-    → record { taken = true; monitor = m; rewrites = rewrites; put = put } ≡ added_to rewrites put to
-added_none rewrites put m to e =
-    (λ i. record { taken = true; monitor = m; rewrites = sym (add-zero rewrites) i; put = sym (add-zero put) i })
+pub added_none : (taken : Bool) (rewrites put : ℕ) (m : Monitor) (to : Tried)
+    → record { taken = taken; monitor = m; rewrites = 0; put = 0 } ≡ to
+    → record { taken = taken; monitor = m; rewrites = rewrites; put = put } ≡ added_to rewrites put to
+added_none taken rewrites put m to e =
+    (λ i. record { taken = taken; monitor = m; rewrites = sym (add-zero rewrites) i; put = sym (add-zero put) i })
     ∙ ap (added_to rewrites put) e
 
 -- A step that was tried makes at most one rewrite, and puts back at most 8 symbols.

@@ -1,12 +1,12 @@
 -- One step in the areas: what the code writes is the state that the step leads to.
 -- Assumes nothing.
+use Rattle.std.specs.Prelude.{Option, None, Some}
 use Prim.Native.Nat.{ℕ, zero, suc, ◌+◌, ◌-◌, ◌≤◌, ◌<◌}
 use mathlib.Core.Path.{◌≡◌, refl, sym, ap, ◌∙◌}
-use mathlib.Core.Bool.{true, false, not}
-use Rattle.std.specs.Prelude.{None, Some, Option}
+use mathlib.Core.Bool.{true, false}
+use Rattle.std.specs.Prelude.{None, Some}
 use mathlib.Core.List.{List, [], ◌∷◌, ◌++◌, map, map-append}
 use native.Mathlib.Omega.{arith}
-use lib.Dec.{eqb}
 use lib.ListN as ListN
 use lib.ListN.{length, get_or, take, replicate, length-append, length-map}
 use lib.Seq.{paste, take-append-le, take_all, length-take-le}
@@ -26,8 +26,7 @@ use Rattle.machine.specs.State.{State, Step, active, replace, settle, step}
 use Rattle.machine.specs.Run.{fits}
 use Rattle.machine.specs.Areas.{Monitor, head_of, area_of, bytes_of, states_after, words_of, monitor_of, state_of, stands_by, described}
 use Rattle.machine.specs.Calls.{sized, lent_checks}
-use Rattle.machine.specs.Lent.{monitor_in, Passed, word_before, Matches, step_waiting, step_of, Tried, tried, standing_after}
-use Rattle.machine.proofs.ByNumber.{stands_after, verdict_taken}
+use Rattle.machine.specs.Lent.{monitor_in, Passed, word_before, Matches, step_waiting, step_of, Tried, tried}
 use Rattle.machine.proofs.Legal.{Legal, legal_plain}
 use Rattle.machine.proofs.Areas.{length_area, length-states_after, states_after_snoc, word_at}
 use Rattle.machine.proofs.Described.{Described, is-described}
@@ -363,13 +362,13 @@ module _ (set : RuleSet) (capacity : ℕ) (m : Monitor) (h : Held set capacity m
       (tried_full set.rules capacity m (record { to = active s (v ++ e.1); rewrites = 1; put = length v })
       (rw (length-append v e.1) (omega (arith, full, f, w, room, short, nv))))
 
-  -- or the verdict is set: its answer has the number 16 + v
+  -- or the verdict is set
   pub close_step : {first kept : ℕ} {bytes words : List ℕ} → TakenOff first kept bytes words → (v : ℕ)
       → (rule set.rules i).right ≡ Close v
       → ◌≡◌ {A = Tried}
       (record {
-        taken = not (eqb (16 + v) 2);
-        monitor = monitor_in (record { settled = kept; waiting = m.head.waiting - 1; verdict = standing_after (16 + v); rule = i }) bytes words;
+        taken = true;
+        monitor = monitor_in (record { settled = kept; waiting = m.head.waiting - 1; verdict = Some v; rule = i }) bytes words;
         rewrites = 1;
         put = 0;
       })
@@ -380,7 +379,7 @@ module _ (set : RuleSet) (capacity : ℕ) (m : Monitor) (h : Held set capacity m
       let room : length (state_of m).settled + suc (length e.1) ≤ capacity = first_room set capacity m h e.0 e.1 e.2 in
       let s : List ℕ = take kept (state_of m).settled in
       let short : length s ≡ kept = kept_length t in
-      rw (replaced kept t.kept_is, r, stands_after v, verdict_taken v)
+      rw (replaced kept t.kept_is, r)
       (tried-taken set.rules capacity m
       (record { to = record { settled = s; waiting = e.1; verdict = Some v; rule = i }; rewrites = 1; put = 0 }) _ 1 0
       (omega (arith, room, short, kept_short t, h.settled_count))

@@ -1,55 +1,13 @@
 -- Loops that write: places set to 0, symbols copied, bytes moved. Each is `paste`, element by element.
 -- Assumes nothing.
 use Prim.Native.Nat.{ℕ, zero, suc, ◌+◌, ◌-◌, ◌≤◌, ◌<◌}
-use mathlib.Core.Path.{◌≡◌, refl, sym, ap, ◌∙◌}
+use mathlib.Core.Path.{◌≡◌, sym, ap, ◌∙◌}
 use mathlib.Core.List.{List, [], ◌∷◌}
 use native.Mathlib.Omega.{arith}
 use native.Mathlib.Numerals.{add-one}
 use lib.ListN.{length, get_or, set, drop, replicate, length-replicate, length-drop}
 use lib.Seq.{paste, paste-zero, length-paste, drop-cons, get_or-drop}
-use Rattle.rewriting.proofs.Copying.{Copying, copying_first, copying_length, copying_next, copying_last, copying_behind}
-
-zero_at : (n i : ℕ) → get_or {A = ℕ} (replicate n 0) i 0 ≡ 0
-zero_at zero i = refl
-zero_at (suc n) zero = refl
-zero_at (suc n) (suc i) = zero_at n i
-
--- places from .. to are set to 0
-pub record Clearing (d : List ℕ) (from to : ℕ) (xs : List ℕ) (i : ℕ) : Type 0 where
-  pub begun : from ≤ i
-  pub ended : i ≤ to
-  pub copying : Copying d from (replicate (to - from) 0) (to - from) xs (i - from)
-
-pub clearing_first : (d : List ℕ) (from to : ℕ) → from ≤ to → to ≤ length d → Clearing d from to d from
-clearing_first d from to order inside =
-    let e : from - from ≡ 0 = omega arith in
-    record {
-      begun = omega arith;
-      ended = order;
-      copying =
-          rw e (copying_first d from (replicate (to - from) 0) (to - from) (omega arith) (rw (length-replicate {A = ℕ}) (omega arith)));
-    }
-
-pub clearing_next : {d : List ℕ} {from to : ℕ} {xs : List ℕ} {i : ℕ} → Clearing d from to xs i → i < to
-    → Clearing d from to (set xs i 0) (i + 1)
-clearing_next {d} {from} {to} {xs} {i} k more =
-    let e : i + 1 - from ≡ suc (i - from) = omega (arith, k.begun) in
-    record {
-      begun = omega (arith, k.begun);
-      ended = omega arith;
-      copying =
-          rw e
-          (copying_next i 0 k.copying (omega (arith, k.begun)) (omega (arith, k.begun)) (sym (zero_at (to - from) (i - from))));
-    }
-
-pub clearing_last : {d : List ℕ} {from to : ℕ} {xs : List ℕ} {i : ℕ} → Clearing d from to xs i → to ≤ i
-    → xs ≡ paste d from (replicate (to - from) 0) (to - from)
-clearing_last k all = copying_last k.copying (omega (arith, k.begun, k.ended))
-
--- the place is inside
-pub clearing_inside : {d : List ℕ} {from to : ℕ} {xs : List ℕ} {i : ℕ} → Clearing d from to xs i → i < to → i < length xs
-clearing_inside k more =
-    omega (arith, k.begun, k.copying.room, copying_length k.copying)
+use Rattle.rewriting.proofs.Copying.{Copying, copying_first, copying_next, copying_last, copying_behind}
 
 -- one element more, before the others
 one_before : (d : List ℕ) (i n x : ℕ) (s : List ℕ) → suc i + n ≤ length d → set (paste d (suc i) s n) i x ≡ paste d i (x ∷ s) (suc n)

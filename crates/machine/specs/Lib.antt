@@ -1,4 +1,4 @@
--- Document 01, "Monitor". Read in this order. `Standing`, `Answer` and `Counts` are the types of src/lib.rt, which the
+-- Document 01, "Monitor". Read in this order. `Answer` and `Counts` are the types of src/lib.rt, which the
 -- definitions share with the code.
 pub mod State
 pub mod Run

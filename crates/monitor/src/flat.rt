@@ -1,6 +1,6 @@
 // A head in numbers alone, as the loops over steps and calls keep it. A head with an enum has unused bytes beside its verdict, and is
 // copied through memory with them; a struct of words stays in registers. Only this crate uses it.
-ghost use Rattle.std.specs.Prelude.{ℕ, ◌<◌, ◌≡◌, Some};
+ghost use Rattle.std.specs.Prelude.{ℕ, ◌<◌, ◌≡◌, true, not, eqb, Some};
 ghost use Rattle.machine.specs.Run.{no_counts};
 ghost use Rattle.machine.specs.Lent.{answer_from, standing_after};
 ghost use Rattle.monitor.specs.Lent.{head_in, flat_in, counts_in};
@@ -46,10 +46,11 @@ fn standing_after(number: u64) -> Option<u64>
     Some(number - VERDICT)
 }
 
-// A number of an answer after which this verdict stands.
-fn number_of(verdict: Option<u64>) -> u64
+// A number of an answer after which this verdict stands. It is not that of Full.
+pub(crate) fn number_of(verdict: Option<u64>) -> u64
     requires { (v : ℕ) → verdict ≡ Some v → v < 16 }
-    ensures { standing_after result ≡ verdict }
+    ensures stands { standing_after result ≡ verdict }
+    ensures fits { not (eqb result 2) ≡ true }
 {
     match verdict {
         None => 0,

@@ -8,7 +8,7 @@ ghost use Rattle.machine.specs.Calls.{outcome, answer_number};
 ghost use Rattle.machine.specs.Lent.{Passed, Starts, rows_in, width_in, step_of, tried, added_to, upon, answer_from};
 ghost use Rattle.monitor.specs.Lent.{active, counts_in, stepped_from, ran_from};
 
-use crate::flat::Flat;
+use crate::flat::{Flat, number_of};
 use areas::held;
 use machine::{FULL, QUIET, SPENT, VERDICT};
 
@@ -44,7 +44,7 @@ impl Flat {
         let next = held::next_at(table, rows, width, q, symbol as usize);
         let matched = held::match_word(table, next);
         if matched != 0 {
-            let rewritten = areas::rewrite(
+            return match areas::rewrite(
                 settled,
                 self.waiting,
                 image,
@@ -53,15 +53,25 @@ impl Flat {
                 bytes,
                 words,
                 matched - 1,
-            );
-            return Flat {
-                settled: rewritten.settled,
-                waiting: rewritten.waiting,
-                answer: rewritten.answer,
-                rule: rewritten.rule,
-                steps: self.steps,
-                rewrites: self.rewrites + rewritten.rewrites,
-                put: self.put + rewritten.put,
+            ) {
+                None => Flat {
+                    settled: settled,
+                    waiting: self.waiting,
+                    answer: FULL,
+                    rule: 0,
+                    steps: self.steps,
+                    rewrites: self.rewrites,
+                    put: self.put,
+                },
+                Some(rewritten) => Flat {
+                    settled: rewritten.settled,
+                    waiting: rewritten.waiting,
+                    answer: number_of(rewritten.verdict),
+                    rule: rewritten.rule,
+                    steps: self.steps,
+                    rewrites: self.rewrites + 1,
+                    put: self.put + rewritten.put,
+                },
             };
         }
         bytes[first] = 0;

@@ -53,7 +53,7 @@ unfolding
     States.matching States.prefixes States.known States.numbered States.has_mark States.first_states States.states States.number
     match_word row table_of empty active replace settle step Run.no_counts Run.plus Run.counts_of Run.ended Run.counted Run.fits
     Run.proceed Run.tests Run.run head_of area_of bytes_of states_after words_of monitor_of state_of no_match unmatched closes_with stands_by
-    holds described Calls.sized Calls.fuel_of Calls.lent_checks Calls.is_none Calls.fuel_check Calls.verdict_check Calls.call_checks Calls.offered
+    holds described Calls.sized Calls.fuel_of Calls.lent_checks Calls.fuel_check Calls.verdict_check Calls.call_checks Calls.offered
     Calls.outcome Calls.decided Calls.call_of Calls.offer_of string_of
 runs_on = tt
 

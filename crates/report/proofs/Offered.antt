@@ -1,9 +1,9 @@
 -- What an offer gives back fits its line, and the line is put together from its parts.
 -- Assumes nothing.
 use Prim.Native.Nat.{ℕ, ◌≤◌}
-use mathlib.Core.Path.{◌≡◌, refl, ap}
+use mathlib.Core.Path.{◌≡◌, refl, sym, ap, ◌∙◌}
 use mathlib.Core.Bool.{Bool, true, false, cond, ◌&&◌}
-use Rattle.std.specs.Prelude.{None, Some}
+use Rattle.std.specs.Prelude.{None, Some, Result, Ok, Err}
 use mathlib.Core.List.{List, [], ◌∷◌, ◌++◌}
 use native.Mathlib.Omega.{arith}
 use lib.Dec.{leb}
@@ -14,7 +14,7 @@ use Rattle.rewriting.proofs.Lists.{between_high, below_weaken}
 use Rattle.rewriting.proofs.Ranges.{ranges}
 use Rattle.layout.specs.Image.{read}
 use Rattle.layout.proofs.Image.{valid-in_range}
-use Rattle.layout.specs.Refusals.{refused_by}
+use Rattle.layout.specs.Refusals.{refused_by, numbered}
 use Rattle.machine.specs.declared.Answer.{Answer}
 use Rattle.monitor.specs.declared.Returned.{Returned}
 use Rattle.machine.specs.Run.{fits}
@@ -79,20 +79,14 @@ module _ (image table : List ℕ) (m : Monitor) (a : ℕ) where
             (rw (h.written, back) h.legal.symbols);
       }
 
-  offer_slot : HasSlot o.answer
+  offer_slot : (b : Answer) → o.answer ≡ Ok b → HasSlot b
   unfolding refused_by fuel_of state_of
-  offer_slot =
-      go o.answer (λ p. p) (call_theorem document_capacity image table m (Offer a 1000)).stopped
-    where
-      go :
-          (b : Answer) → (refused_by b ≡ None → refused_by o.answer ≡ None)
-          → (refused_by b ≡ None → Stopped (read image).rules document_capacity 1000 o.counts (state_of o.monitor) b)
-          → HasSlot b
-      go Answer.Quiet f s = tt
-      go Answer.Spent f s = tt
-      go Answer.Full f s = tt
-      go (Answer.Verdict v) f s = accepted_verdict document_capacity image table m (Offer a 1000) (f refl) v (s refl)
-      go (Answer.Refused n) f s = tt
+  offer_slot Answer.Quiet e = tt
+  offer_slot Answer.Spent e = tt
+  offer_slot Answer.Full e = tt
+  offer_slot (Answer.Verdict v) e =
+      accepted_verdict document_capacity image table m (Offer a 1000) (ap (λ (x : Result Answer ℕ). refused_by x) e) v
+      ((call_theorem document_capacity image table m (Offer a 1000)).stopped (Answer.Verdict v) e)
 
 -- the words of a monitor play no part in a line
 small_words : (r : Returned) (bytes words : List ℕ) → Small (outcome_from r bytes words) → Small (outcome_from r bytes [])
@@ -101,14 +95,11 @@ small_words r bytes words s =
     record { steps = s.steps; rewrites = s.rewrites; string = s.string; slots = s.slots }
 
 told_words :
-    (names : List ℕ) (r : Returned) (bytes words : List ℕ) (a : Answer)
+    (names : List ℕ) (r : Returned) (bytes words : List ℕ) (a : Result Answer ℕ)
     → told names (outcome_from r bytes []) a ≡ told names (outcome_from r bytes words) a
 unfolding told counted string_of state_of
-told_words names r bytes words Answer.Quiet = refl
-told_words names r bytes words Answer.Spent = refl
-told_words names r bytes words Answer.Full = refl
-told_words names r bytes words (Answer.Verdict v) = refl
-told_words names r bytes words (Answer.Refused n) = refl
+told_words names r bytes words (Ok a) = refl
+told_words names r bytes words (Err n) = refl
 
 -- The line for a name that no symbol has, and for one that is offered.
 pub line_unknown :
@@ -122,21 +113,21 @@ pub line_offered :
     → outcome_from r bytes words ≡ offer_of document_capacity w.image w.table w.monitor a 1000
     → x
     ++ space
-    ∷ (answer_word w.names r.answer
+    ∷ (answer_word w.names (numbered r.answer)
     ++ space
-    ∷ (told w.names (outcome_from r bytes []) r.answer ++ newline ∷ []))
+    ∷ (told w.names (outcome_from r bytes []) (numbered r.answer) ++ newline ∷ []))
     ≡ line_for w x
 unfolding line_for event_line offered_name offered
-line_offered w x a r bytes words e p = rw (e, ← p, told_words w.names r bytes words r.answer)
+line_offered w x a r bytes words e p = rw (e, ← p, told_words w.names r bytes words (numbered r.answer))
 
 -- what the code's offer gave back
 module _ (image table : List ℕ) (m : Monitor) (a : ℕ) (r : Returned) (bytes words : List ℕ)
     (made : outcome_from r bytes words ≡ offer_of document_capacity image table m a 1000) where
-  pub made_slot : HasSlot r.answer
+  pub made_slot : (b : Answer) → r.answer ≡ Ok b → HasSlot b
   unfolding offer_of
-  made_slot = rw (ap (λ (o : Outcome). o.answer) made) (offer_slot image table m a)
+  made_slot b e = offer_slot image table m a b (sym (ap (λ (o : Outcome). o.answer) made) ∙ ap numbered e)
 
-  pub made_small : refused_by r.answer ≡ None → Small (outcome_from r bytes [])
+  pub made_small : refused_by (numbered r.answer) ≡ None → Small (outcome_from r bytes [])
   unfolding offer_of
   made_small e =
       small_words r bytes words

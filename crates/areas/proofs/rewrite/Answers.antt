@@ -128,10 +128,14 @@ pub returns-then-behind-size : goal.returns-then-behind-size
 returns-then-behind-size c =
     let s = (goal.at.returns-then-behind-size c).Start in
     let r = string s _ (sym c.right_side.ensures ∙ c.in-Put.is) in
-    full_step (read c.args.image.now) (length c.args.bytes.now) (given s) (facts s) c.args.i c.requires.next _
-    (c.args.settled + 1 - c.left_length-size.result) r.0 _ refl
-    (ap (λ (x : ℕ). c.args.settled + 1 - x) c.left_length-size.ensures) r.1 r.2
-    (omega (arith, sizes s _ c.left_length-size.ensures, c.if-behind-size.true))
+    record {
+      tried =
+          full_step (read c.args.image.now) (length c.args.bytes.now) (given s) (facts s) c.args.i c.requires.next _
+          (c.args.settled + 1 - c.left_length-size.result) r.0 _ refl
+          (ap (λ (x : ℕ). c.args.settled + 1 - x) c.left_length-size.ensures) r.1 r.2
+          (omega (arith, sizes s _ c.left_length-size.ensures, c.if-behind-size.true));
+      verdict = tt;
+    }
 
 pub take_off-kept-requires : goal.take_off-kept-requires
 take_off-kept-requires c =
@@ -177,12 +181,6 @@ take_off-kept-requires-in-Close c =
       words = omega (arith, z);
     }
 
-pub overflow_add-result : goal.overflow_add-result
-overflow_add-result c =
-    let s = (goal.at.overflow_add-result c).Start in
-    let e = verdict s _ (sym c.right_side.ensures ∙ c.in-Close.is) in
-    omega (arith, close_few c.args.image.now (good s) c.args.i (is_rule s) _ e)
-
 pub returns-else-behind-size : goal.returns-else-behind-size
 returns-else-behind-size c =
     let s = (goal.at.returns-else-behind-size c).Start in
@@ -190,26 +188,36 @@ returns-else-behind-size c =
     let z = sizes s _ c.left_length-size.ensures in
     let r = string s _ (sym c.right_side.ensures ∙ c.in-Put.is) in
     let right_start = (c.requires.starts i (is_rule s)).1 in
-    put_step (read c.args.image.now) (length c.args.bytes.now) (given s) (facts s) i c.requires.next
-    (record {
-      first_is = refl;
-      kept_is = c.take_off-kept.ensures.kept ∙ ap (λ (x : ℕ). c.args.settled + 1 - x) c.left_length-size.ensures;
-      bytes-is = c.take_off-kept.ensures.bytes;
-      words_is = c.take_off-kept.ensures.words;
-    }) r.0 _ _ r.1 r.2
-    (rw (c.word.ensures, right_start) (put_here c.args.image.now (good s) i (is_rule s) r.0 r.1 _ r.2))
-    (omega (arith, z, c.take_off-kept.ensures.kept, c.if-behind-size.false)) c.put_back-held.ensures.waiting
-    (length c.take_off-kept.new.bytes - (c.args.waiting - 1 + c.in-Put.n)) (omega (arith, z, c.take_off-kept.auto.bytes, c.if-behind-size.false))
-    c.put_back-held.ensures.bytes
+    record {
+      tried =
+          put_step (read c.args.image.now) (length c.args.bytes.now) (given s) (facts s) i c.requires.next
+          (record {
+            first_is = refl;
+            kept_is = c.take_off-kept.ensures.kept ∙ ap (λ (x : ℕ). c.args.settled + 1 - x) c.left_length-size.ensures;
+            bytes-is = c.take_off-kept.ensures.bytes;
+            words_is = c.take_off-kept.ensures.words;
+          }) r.0 _ _ r.1 r.2
+          (rw (c.word.ensures, right_start) (put_here c.args.image.now (good s) i (is_rule s) r.0 r.1 _ r.2))
+          (omega (arith, z, c.take_off-kept.ensures.kept, c.if-behind-size.false)) c.put_back-held.ensures.waiting
+          (length c.take_off-kept.new.bytes - (c.args.waiting - 1 + c.in-Put.n)) (omega (arith, z, c.take_off-kept.auto.bytes, c.if-behind-size.false))
+          c.put_back-held.ensures.bytes;
+      verdict = λ v e. absurd (let z : ◌≡◌ {A = ℕ} 0 1 = cc in omega arith);
+    }
 
 pub returns-in-Close : goal.returns-in-Close
 returns-in-Close c =
     let s = (goal.at.returns-in-Close c).Start in
     let e = verdict s _ (sym c.right_side.ensures ∙ c.in-Close.is) in
-    close_step (read c.args.image.now) (length c.args.bytes.now) (given s) (facts s) c.args.i c.requires.next
-    (record {
-      first_is = refl;
-      kept_is = c.take_off-kept-in-Close.ensures.kept ∙ ap (λ (x : ℕ). c.args.settled + 1 - x) c.left_length-size.ensures;
-      bytes-is = c.take_off-kept-in-Close.ensures.bytes;
-      words_is = c.take_off-kept-in-Close.ensures.words;
-    }) _ e
+    record {
+      tried =
+          close_step (read c.args.image.now) (length c.args.bytes.now) (given s) (facts s) c.args.i c.requires.next
+          (record {
+            first_is = refl;
+            kept_is = c.take_off-kept-in-Close.ensures.kept ∙ ap (λ (x : ℕ). c.args.settled + 1 - x) c.left_length-size.ensures;
+            bytes-is = c.take_off-kept-in-Close.ensures.bytes;
+            words_is = c.take_off-kept-in-Close.ensures.words;
+          }) _ e;
+      verdict = λ v same.
+          let one : c.in-Close.v ≡ v = cc in
+          omega (arith, one, close_few c.args.image.now (good s) c.args.i (is_rule s) _ e);
+    }

@@ -24,22 +24,10 @@ one_of (suc x) h = refl
 pub returns-then-first-eq0 : goal.returns-then-first-eq0
 returns-then-first-eq0 c = none_of _ _ c.if-first-eq0.true
 
-pub returns-in-Quiet : goal.returns-in-Quiet
+pub returns-in-Ok : goal.returns-in-Ok
 unfolding refused_by
-returns-in-Quiet c = rw c.in-Quiet.is (one_of _ c.if-first-eq0.false)
+returns-in-Ok c = rw c.in-Ok.is (one_of _ c.if-first-eq0.false)
 
-pub returns-in-Spent : goal.returns-in-Spent
-unfolding refused_by
-returns-in-Spent c = rw c.in-Spent.is (one_of _ c.if-first-eq0.false)
-
-pub returns-in-Full : goal.returns-in-Full
-unfolding refused_by
-returns-in-Full c = rw c.in-Full.is (one_of _ c.if-first-eq0.false)
-
-pub returns-in-Verdict : goal.returns-in-Verdict
-unfolding refused_by
-returns-in-Verdict c = rw c.in-Verdict.is (one_of _ c.if-first-eq0.false)
-
-pub returns-in-Refused : goal.returns-in-Refused
+pub returns-in-Err : goal.returns-in-Err
 unfolding refused_by events_of
-returns-in-Refused c = rw c.in-Refused.is
+returns-in-Err c = rw c.in-Err.is

@@ -1,28 +1,13 @@
 -- `answer_word` meets its contract.
-use native.Mathlib.Omega.{arith}
 use Rattle.machine.specs.Calls.{answer_number}
 use Rattle.ffi.proofs.answer_word.Goals as goal
 
-pub overflow_add-result : goal.overflow_add-result
-unfolding answer_number
-overflow_add-result c = omega (arith, rw c.in-Verdict.is at c.requires)
+pub code_of-requires : goal.code_of-requires
+code_of-requires c = rw c.in-Ok.is at c.requires
 
-pub returns-in-Quiet : goal.returns-in-Quiet
-unfolding answer_number
-returns-in-Quiet c = rw c.in-Quiet.is
+pub returns-in-Ok : goal.returns-in-Ok
+returns-in-Ok c = rw (c.in-Ok.is, c.code_of.ensures)
 
-pub returns-in-Spent : goal.returns-in-Spent
+pub returns-in-Err : goal.returns-in-Err
 unfolding answer_number
-returns-in-Spent c = rw c.in-Spent.is
-
-pub returns-in-Full : goal.returns-in-Full
-unfolding answer_number
-returns-in-Full c = rw c.in-Full.is
-
-pub returns-in-Verdict : goal.returns-in-Verdict
-unfolding answer_number
-returns-in-Verdict c = rw c.in-Verdict.is
-
-pub returns-in-Refused : goal.returns-in-Refused
-unfolding answer_number
-returns-in-Refused c = rw c.in-Refused.is
+returns-in-Err c = rw c.in-Err.is

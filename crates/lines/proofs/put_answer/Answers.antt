@@ -37,8 +37,3 @@ pub returns-in-Verdict : goal.returns-in-Verdict
 unfolding answer_word bytes
 returns-in-Verdict c =
     rw c.in-Verdict.is (writes_then c.put_byte-end.ensures c.put_name.ensures)
-
-pub returns-in-Refused : goal.returns-in-Refused
-unfolding answer_word bytes
-returns-in-Refused c =
-    rw c.in-Refused.is c.put-in-Refused.ensures

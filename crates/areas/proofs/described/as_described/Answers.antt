@@ -60,12 +60,12 @@ returns-then-not-settled_right c =
     denied c.settled_right.result c.if-not-settled_right.true
     c.settled_right.ensures t.settled_part)
 
-pub returns-then-not-zero_bytes : goal.returns-then-not-zero_bytes
-returns-then-not-zero_bytes c =
-    not-described (read c.args.image.now) (given (goal.at.returns-then-not-zero_bytes c).Start) c.args.bytes.now c.args.words.now c.requires.size
+pub returns-then-not-all_zero : goal.returns-then-not-all_zero
+returns-then-not-all_zero c =
+    not-described (read c.args.image.now) (given (goal.at.returns-then-not-all_zero c).Start) c.args.bytes.now c.args.words.now c.requires.size
     (λ t.
-    denied c.zero_bytes.result c.if-not-zero_bytes.true
-    c.zero_bytes.ensures t.middle)
+    denied c.all_zero.result c.if-not-all_zero.true
+    c.all_zero.ensures t.middle)
 
 pub bounds-image-0 : goal.bounds-image-0
 bounds-image-0 c =
@@ -85,7 +85,7 @@ pub returns : goal.returns
 unfolding read
 returns c =
     rest_decides (read c.args.image.now) (given (goal.at.returns c).Start) c.args.bytes.now c.args.words.now c.requires.size
-    c.zero_words.result c.zero_words.ensures
+    c.all_zero-2.result c.all_zero-2.ensures
     (λ r.
     record {
       room = omega (arith, c.if-capacity-settled.false, c.if-capacity-settled-2.false);
@@ -94,8 +94,8 @@ returns c =
           decided c.settled_right.result c.if-not-settled_right.false
           c.settled_right.ensures;
       middle =
-          decided c.zero_bytes.result c.if-not-zero_bytes.false
-          c.zero_bytes.ensures;
+          decided c.all_zero.result c.if-not-all_zero.false
+          c.all_zero.ensures;
       waiting_part = is_so c.all_below.result c.all_below.ensures (ap not c.if-not-all_below.false);
       rest = r;
     })

@@ -1,5 +1,7 @@
 -- `areas::described::stands_by` meets its contract, by what the image has for the rule.
+use mathlib.Core.Path.{◌∙◌}
 use native.Mathlib.Omega.{arith}
+use borrow.Author.Tests.{le-ltb}
 use Rattle.layout.specs.Image.{read}
 use Rattle.machine.proofs.VerdictRule.{stands_none, stands_no_rule, stands_put, stands_close}
 use Rattle.areas.proofs.described.stands_by.Goals as goal
@@ -10,15 +12,16 @@ returns-in-None c =
 
 pub returns-in-Put : goal.returns-in-Put
 returns-in-Put c =
-    stands_put (read c.args.image.now).rules c.args.rule c.right_side.ensures _ c.in-Verdict.is
+    stands_put (read c.args.image.now).rules c.args.rule c.right_side.ensures _ c.in-Some.is
     _ c.in-Put.is
 
 pub returns-in-Close : goal.returns-in-Close
 returns-in-Close c =
-    stands_close (read c.args.image.now).rules c.args.rule c.right_side.ensures _ c.in-Verdict.is
+    stands_close (read c.args.image.now).rules c.args.rule c.right_side.ensures _ c.in-Some.is
     _ c.in-Close.is (omega (arith, c.if-rule-rules.true, c.rules.ensures))
 
 pub returns-else-rule-rules : goal.returns-else-rule-rules
 returns-else-rule-rules c =
-    stands_no_rule (read c.args.image.now).rules c.args.rule _ c.in-Verdict.is
+    le-ltb c.args.rule c.rules.result c.if-rule-rules.false
+    ∙ stands_no_rule (read c.args.image.now).rules c.args.rule _ c.in-Some.is
     (omega (arith, c.if-rule-rules.false, c.rules.ensures))

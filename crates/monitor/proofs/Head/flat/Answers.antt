@@ -9,6 +9,6 @@ number_of-requires c = c.requires
 pub returns : goal.returns
 unfolding no_counts
 returns c = record {
-  head = rw c.number_of.ensures;
+  head = rw c.number_of.ensures.stands;
   counts = refl;
 }

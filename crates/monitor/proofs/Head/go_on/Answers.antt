@@ -14,20 +14,20 @@ use Rattle.monitor.proofs.Head.go_on.Goals as goal
 abbrev given : Start → Monitor
 given s = lent s.args.self s.args.bytes.now s.args.words.now
 
-pub returns-in-Refused : goal.returns-in-Refused
+pub returns-in-Err : goal.returns-in-Err
 unfolding go_on_of
-returns-in-Refused c =
-    let s = (goal.at.returns-in-Refused c).Start in
+returns-in-Err c =
+    let s = (goal.at.returns-in-Err c).Start in
     rw c.refused.ensures
     (lent_refused document_capacity c.args.image.now c.args.table.now (given s) (GoOn c.args.fuel) _
     (lent-some document_capacity c.args.image.now c.args.table.now (given s) c.check_lent.ensures
-    c.in-Refused.is))
+    c.in-Err.is))
 
 pub index-requires : goal.index-requires
 index-requires c =
     let s = (goal.at.index-requires c).Start in
     let passed = passed_image document_capacity c.args.image.now c.args.table.now (given s)
-    (lent_none document_capacity c.args.image.now c.args.table.now (given s) c.check_lent.ensures c.in-Passed.is) in
+    (lent_none document_capacity c.args.image.now c.args.table.now (given s) c.check_lent.ensures c.in-Ok.is) in
     record { image = passed.0; room = passed.1 }
 
 pub once-requires : goal.once-requires
@@ -37,17 +37,17 @@ once-requires c =
     let table = c.args.table.now in record {
       lent = rw
           (passed_sizes document_capacity image table (given s)
-          (lent_none document_capacity image table (given s) c.check_lent.ensures c.in-Passed.is)).0
-          (lent_none document_capacity image table (given s) c.check_lent.ensures c.in-Passed.is);
+          (lent_none document_capacity image table (given s) c.check_lent.ensures c.in-Ok.is)).0
+          (lent_none document_capacity image table (given s) c.check_lent.ensures c.in-Ok.is);
       starts = c.index.ensures;
     }
 
-pub returns-in-Passed : goal.returns-in-Passed
+pub returns-in-Ok : goal.returns-in-Ok
 unfolding go_on_of offer_or_go_on
-returns-in-Passed c =
-    let s = (goal.at.returns-in-Passed c).Start in
+returns-in-Ok c =
+    let s = (goal.at.returns-in-Ok c).Start in
     rw
     (passed_sizes document_capacity c.args.image.now c.args.table.now (given s)
     (lent_none document_capacity c.args.image.now c.args.table.now (given s) c.check_lent.ensures
-    c.in-Passed.is)).0 at
+    c.in-Ok.is)).0 at
     c.once.ensures

@@ -1,7 +1,7 @@
 -- `monitor::flat::Flat::in_turn` meets its contract: the invariant is `Offering` (machine/proofs/Offering.antt), and that the answer byte
 -- written last is the head's answer.
 use Prim.Native.Nat.{ℕ, ◌+◌, ◌≤◌}
-use mathlib.Core.Path.{sym, ap, ◌∙◌}
+use mathlib.Core.Path.{refl, sym, ap, ◌∙◌}
 use native.Mathlib.Omega.{arith}
 use native.Mathlib.Numerals.{add-one}
 use lib.ListN.{length, get_or}
@@ -9,9 +9,10 @@ use Rattle.layout.specs.Image.{read}
 use Rattle.machine.specs.Areas.{Monitor}
 use Rattle.machine.specs.Lent.{offers_or_goes_on}
 use Rattle.monitor.specs.Lent.{flat, ran_from}
+use Rattle.layout.specs.Refusals.{refusal_number, refused_by, numbered}
 use Rattle.layout.proofs.Image.{valid-in_range}
+use Rattle.layout.proofs.Refusals.{not_refused}
 use Rattle.layout.proofs.States.{few_states}
-use Rattle.machine.proofs.ByNumber.{no_refusal}
 use Rattle.machine.proofs.Stepping.{Held, held, passed_valid, passed_table}
 use Rattle.machine.proofs.TableWords.{table_header, states_in}
 use Rattle.machine.proofs.LentRefusal.{answered_passed, answered_refused}
@@ -97,15 +98,16 @@ refusal-requires c =
       held = omega (arith, facts);
     }
 
-pub returns-in-Refused : goal.returns-in-Refused
-returns-in-Refused c =
-    let s = (goal.at.returns-in-Refused c).Start in
+pub returns-in-Err : goal.returns-in-Err
+unfolding refusal_number
+returns-in-Err c =
+    let s = (goal.at.returns-in-Err c).Start in
     let events = c.args.events.now in
     let fuel = c.args.fuel in
     let offering = c.args.offering in record {
       calls = offering_refused c.loop-k.invariant.0 (room s) (rw (calls_length offering events fuel) c.loop-k-test.true) _
           (rw (call_at offering events fuel c.loop-k.k c.loop-k-test.true)
-          (answered_refused _ _ (sym c.refusal.ensures ∙ c.in-Refused.is)));
+          (answered_refused _ _ (sym c.refusal.ensures ∙ ap numbered c.in-Err.is)));
       last = c.loop-k.invariant.1;
     }
 
@@ -120,7 +122,7 @@ call-head-requires c =
       starts = c.requires.starts;
       rows = ap (λ (x : ℕ). 2 + x) c.word-rows.ensures;
       width = c.word-width.ensures;
-      accepted = answered_passed _ (sym c.refusal.ensures ∙ c.in-Passed.is);
+      accepted = answered_passed _ (sym c.refusal.ensures ∙ ap numbered (not_refused _ c.in_default.not-Err));
       sums = offering_sums c.loop-k.invariant.0 (room s) (rw (calls_length offering events fuel) more) fuel (omega (arith, c.ranges.fuel))
           (few s);
     }
@@ -149,6 +151,7 @@ loop-k-smaller c =
     omega (arith, c.loop-k-test.true)
 
 pub loop-k-preserved : goal.loop-k-preserved
+unfolding refused_by
 loop-k-preserved c =
     let s = (goal.at.loop-k-preserved c).Start in
     let events = c.args.events.now in
@@ -161,11 +164,12 @@ loop-k-preserved c =
           {o = (ran_from c.call-head.result c.call-head.new.bytes c.call-head.new.words)}
           (rw (call_at offering events fuel c.loop-k.k more) c.call-head.ensures.outcome)
           (rw (call_at offering events fuel c.loop-k.k more, fuel_with offering (get_or events c.loop-k.k 0) fuel) (omega (arith, c.ranges.fuel)))
-          (no_refusal c.call-head.result.answer))),
+          refl)),
       written_last c.loop-k.answers c.loop-k.k _ (omega (arith, more, c.loop-k.invariant.0.size, c.requires.room)),
     )
 
 pub returns : goal.returns
+unfolding refusal_number
 returns c =
     let s = (goal.at.returns c).Start in
     let events = c.args.events.now in

@@ -1,6 +1,7 @@
 -- `monitor::flat::Flat::step` meets its contract: the symbol is settled, or its rule rewrites.
 use Prim.Native.Nat.{ℕ, ◌-◌}
 use mathlib.Core.Path.{◌≡◌, refl, ap}
+use mathlib.Core.Bool.{true, false}
 use mathlib.Core.List.{List, ◌∷◌}
 use native.Mathlib.Omega.{arith}
 use lib.ListN.{length, get_or, length-set}
@@ -72,9 +73,9 @@ match_word-matched-requires c =
     (one s).1 (one s).2 _ _ _ c.word_before-q.ensures (symbol s)
     (rw (c.requires.rows, c.requires.width) at c.next_at-next.ensures))
 
-pub rewrite-rewritten-requires : goal.rewrite-rewritten-requires
-rewrite-rewritten-requires c =
-    let s = (goal.at.rewrite-rewritten-requires c).Start in
+pub rewrite-requires : goal.rewrite-requires
+rewrite-requires c =
+    let s = (goal.at.rewrite-requires c).Start in
     let image = c.args.image.now in
     let table = c.args.table.now in
     let capacity = length c.args.bytes.now in record {
@@ -92,31 +93,33 @@ rewrite-rewritten-requires c =
       );
     }
 
+pub returns-in-None : goal.returns-in-None
+returns-in-None c = record {
+  tried = added_none false _ _ _ _ c.in-None.ensures.tried;
+  steps = refl;
+}
+
+pub number_of-requires : goal.number_of-requires
+number_of-requires c = c.in-Some.ensures.verdict
+
 pub overflow_add-result : goal.overflow_add-result
-overflow_add-result c =
-    let s = (goal.at.overflow_add-result c).Start in
-    let image = c.args.image.now in
+overflow_add-result c = omega (arith, c.requires.sums)
+
+pub overflow_add-result-in-Some : goal.overflow_add-result-in-Some
+overflow_add-result-in-Some c =
+    let s = (goal.at.overflow_add-result-in-Some c).Start in
     omega (
       arith,
       c.requires.sums,
-      tried_counts (length c.args.bytes.now) image c.args.table.now (given s) c.requires.lent (one s).0 (one s).1
-          (one s).2 _ c.rewrite-rewritten.ensures,
+      tried_counts (length c.args.bytes.now) c.args.image.now c.args.table.now (given s) c.requires.lent (one s).0 (one s).1 (one s).2 _
+          c.in-Some.ensures.tried,
     )
 
-pub overflow_add-result-then-matched-ne0 : goal.overflow_add-result-then-matched-ne0
-overflow_add-result-then-matched-ne0 c =
-    let s = (goal.at.overflow_add-result-then-matched-ne0 c).Start in
-    let image = c.args.image.now in
-    omega (
-      arith,
-      c.requires.sums,
-      tried_counts (length c.args.bytes.now) image c.args.table.now (given s) c.requires.lent (one s).0 (one s).1
-          (one s).2 _ c.rewrite-rewritten.ensures,
-    )
-
-pub returns-then-matched-ne0 : goal.returns-then-matched-ne0
-returns-then-matched-ne0 c = record {
-  tried = ap (added_to c.args.self.rewrites c.args.self.put) c.rewrite-rewritten.ensures;
+pub returns-in-Some : goal.returns-in-Some
+returns-in-Some c = record {
+  tried =
+      rw (c.number_of.ensures.stands, c.number_of.ensures.fits)
+      (ap (added_to c.args.self.rewrites c.args.self.put) c.in-Some.ensures.tried);
   steps = refl;
 }
 
@@ -167,7 +170,7 @@ returns c =
     let next = next-is (length bytes) image table (given s) c.requires.lent (one s).0 (one s).1 (one s).2 _ _ _
     c.word_before-q.ensures (symbol s) (rw (c.requires.rows, c.requires.width) at c.next_at-next.ensures) in record {
       tried = rw (symbol s)
-          (added_none _ _ _ _
+          (added_none true _ _ _ _
           (settled_step (read image) (length bytes) (given s) (facts s) (one s).0 (one s).1 (one s).2
           (no_match_lem _ _
           (match_is (length bytes) image table (given s) c.requires.lent (one s).0 (one s).1 (one s).2 _ next _
