@@ -67,7 +67,7 @@ module _
           )
 
 -- a slot that is found is one of the n
-slot-below : (key : List ℕ) (n : ℕ) (area : List ℕ) (i : ℕ) → slot_at key n area ≡ Some i → i < n
+pub slot-below : (key : List ℕ) (n : ℕ) (area : List ℕ) (i : ℕ) → slot_at key n area ≡ Some i → i < n
 unfolding slot_at
 slot-below key zero area i e = let z : ◌≡◌ {A = ℕ} 0 1 = cc in absurd (omega arith)
 slot-below key (suc n) area i e =

@@ -218,10 +218,6 @@ bytes_rest text i end e =
     let size : end - i ≡ length (rest_of text i) = omega (arith, e) in
     rw size (sym (unbroken-take (drop i text)))
 
--- a run is not empty
-pub bytes-some : (text : List ℕ) (start end : ℕ) → end ≡ stop_of text start → start < end → 1 ≤ length (bytes_of text start end)
-bytes-some text start end e some = rw (bytes_rest text start end e) (omega (arith, e))
-
 module _ {text : List ℕ} {start from : ℕ} (l : Leading text start from) where
   -- a byte of the name may not be in one
   pub run_no_token : all name_byte (rest_of text from) ≡ false → token_of (rest_of text start) ≡ None
