@@ -9,7 +9,7 @@ use native.Mathlib.Omega.{arith}
 use lib.Dec.{ltb}
 use lib.ListN.{length, set, length-append}
 use borrow.Author.Tests.{lt-ltb, le-ltb}
-use Rattle.rewriting.specs.Lists.{all, same}
+use Rattle.rewriting.specs.Lists.{same}
 use Rattle.rewriting.specs.Rules.{Right, Put, symbols_of}
 use Rattle.layout.specs.Image.{kind, length_or_verdict, body}
 use Rattle.parser.specs.declared.Place as code
@@ -17,7 +17,6 @@ use Rattle.parser.specs.declared.Place.TheVariants as places
 use Rattle.parser.specs.declared.Reader.{Reader}
 use Rattle.parser.specs.declared.Taken.TheVariants as taken
 use Rattle.tokens.specs.declared.Numbered as numbered_as
-use Rattle.grammar.specs.Tokens.{is_name}
 use Rattle.grammar.specs.Names as Names
 use Rattle.grammar.specs.Names.{number_of, Numbered, or_new, numbered}
 use Rattle.grammar.specs.Grammar.{
@@ -50,10 +49,9 @@ use Rattle.grammar.specs.Grammar.{
   close_rule,
   stop,
 }
-use Rattle.grammar.specs.Sound.{Sound}
 use Rattle.parser.specs.Held.{rule_at, place_of, left_of, side_of, Keeps, TakenIs, Lengthens, Closed}
 use Rattle.tokens.specs.Numbered.{NumberedIs}
-use Rattle.grammar.proofs.Sound.{Kept, number-below, numbered_kept}
+use Rattle.grammar.proofs.Sound.{number-below}
 use Rattle.parser.proofs.Keeping.{
   symbols_number,
   rules-number,
@@ -77,50 +75,57 @@ pub record HasNumber (most : ℕ) (names : List (List ℕ)) (x : List ℕ) (n : 
   pub slots : area ≡ Names.slots most is.names
 
 -- A name's number as the code has it. (`few` and `all_named`: what a sound reading keeps.)
-module _ (most : ℕ) (names : List (List ℕ)) (x : List ℕ) (few : length names ≤ most) (all_named : all is_name names ≡ true)
-    (named : is_name x ≡ true) (n : numbered_as.Numbered) (area : List ℕ) where
-  -- a number that is none: a name too many
-  pub too_many : NumberedIs most names (numbered most names x) n area → most ≤ n.number → numbered most names x ≡ None
-  too_many h high = go (numbered most names x) refl h
+module _ (most : ℕ) (names : List (List ℕ)) (x : List ℕ) (area : List ℕ) where
+  -- no number: a name too many
+  pub too_many : NumberedIs most names (numbered most names x) None area → numbered most names x ≡ None
+  too_many h = go (numbered most names x) refl h
     where
-      go : (o : Option Numbered) → numbered most names x ≡ o → NumberedIs most names o n area → numbered most names x ≡ None
+      go : (o : Option Numbered) → numbered most names x ≡ o → NumberedIs most names o None area → numbered most names x ≡ None
       go None e g = e
-      go (Some m) e g =
-          let kept : Kept most names m = numbered_kept most names x m few all_named named e in
-          absurd (omega (arith, g.0, kept.number_in, kept.few_names, high))
+      go (Some m) e g = absurd g
 
-  -- a number, and the names with it
-  pub has_number : NumberedIs most names (numbered most names x) n area → n.number < most → HasNumber most names x n area
-  has_number h low = go (numbered most names x) refl h
-    where
-      go : (o : Option Numbered) → numbered most names x ≡ o → NumberedIs most names o n area → HasNumber most names x n area
-      go None e g = absurd (omega (arith, g.0, low))
-      go (Some m) e g = record { is = m; found = e; number = g.0; count = g.1; slots = g.2 }
-
-  -- a number below that of the names is one of theirs
-  pub old_number : NumberedIs most names (numbered most names x) n area → n.number < length names
-      → (i : ℕ) × (number_of names x ≡ Some i)
+  -- which is new
+  pub too_many_new : NumberedIs most names (numbered most names x) None area → number_of names x ≡ None
   unfolding numbered or_new
-  old_number h low = go (number_of names x) refl h
+  too_many_new h = go (number_of names x) refl h
     where
-      new : (b : Bool)
-          → NumberedIs most names (cond b (Some (record { number = length names; names = names ++ x ∷ [] })) None) n area → ⊥
-      new true g = omega (arith, g.0, low)
-      new false g = omega (arith, g.0, low, few)
-
-      go : (o : Option ℕ) → number_of names x ≡ o → NumberedIs most names (or_new most names x o) n area
-          → (i : ℕ) × (number_of names x ≡ Some i)
-      go None e g = absurd (new (ltb (length names) most) g)
-      go (Some i) e g = (i, e)
-
-  -- and one that is not is new
-  pub new_number : NumberedIs most names (numbered most names x) n area → length names ≤ n.number → number_of names x ≡ None
-  unfolding numbered or_new
-  new_number h high = go (number_of names x) refl h
-    where
-      go : (o : Option ℕ) → number_of names x ≡ o → NumberedIs most names (or_new most names x o) n area → number_of names x ≡ None
+      go : (o : Option ℕ) → number_of names x ≡ o → NumberedIs most names (or_new most names x o) None area → number_of names x ≡ None
       go None e g = e
-      go (Some i) e g = absurd (omega (arith, g.0, number-below names x i e, high))
+      go (Some i) e g = absurd g
+
+  module _ (n : numbered_as.Numbered) (is : NumberedIs most names (numbered most names x) (Some n) area) where
+    -- a number, and the names with it
+    pub has_number : HasNumber most names x n area
+    has_number = go (numbered most names x) refl is
+      where
+        go : (o : Option Numbered) → numbered most names x ≡ o → NumberedIs most names o (Some n) area → HasNumber most names x n area
+        go None e g = absurd g
+        go (Some m) e g = record { is = m; found = e; number = g.0; count = g.1; slots = g.2 }
+
+    -- a number below that of the names is one of theirs
+    pub old_number : n.number < length names → (i : ℕ) × (number_of names x ≡ Some i)
+    unfolding numbered or_new
+    old_number low = go (number_of names x) refl is
+      where
+        new : (b : Bool)
+            → NumberedIs most names (cond b (Some (record { number = length names; names = names ++ x ∷ [] })) None) (Some n) area → ⊥
+        new true g = omega (arith, g.0, low)
+        new false g = g
+
+        go : (o : Option ℕ) → number_of names x ≡ o → NumberedIs most names (or_new most names x o) (Some n) area
+            → (i : ℕ) × (number_of names x ≡ Some i)
+        go None e g = absurd (new (ltb (length names) most) g)
+        go (Some i) e g = (i, e)
+
+    -- and one that is not is new
+    pub new_number : length names ≤ n.number → number_of names x ≡ None
+    unfolding numbered or_new
+    new_number high = go (number_of names x) refl is
+      where
+        go : (o : Option ℕ) → number_of names x ≡ o → NumberedIs most names (or_new most names x o) (Some n) area
+            → number_of names x ≡ None
+        go None e g = e
+        go (Some i) e g = absurd (omega (arith, g.0, number-below names x i e, high))
 
 module _ {s : Reading} {r : Reader} {a b c d : List ℕ} (k : Keeps s r a b c d) where
   -- The first token.
@@ -150,40 +155,38 @@ module _ {s : Reading} {r : Reader} {a b c d : List ℕ} (k : Keeps s r a b c d)
   first_other x here e = rw (here, e) refl
 
   -- The list of events.
-  module _ (x : List ℕ) (sound : Sound s) (named : is_name x ≡ true) (n : numbered_as.Numbered) (area : List ℕ)
-      (here : s.place ≡ Events) (is : NumberedIs 32 s.symbols (numbered 32 s.symbols x) n area) where
-    pub event_twice : n.number < r.symbols → TakenIs (name s x s.place) (taken.Breaks 6) area b c d
-    unfolding name event
-    event_twice low =
-        let old = old_number 32 s.symbols x sound.few_symbols sound.symbols_named named n area is (omega (arith, symbols_number s k.numbers)) in
-        rw (here, old.1) refl
-
-    new : r.symbols ≤ n.number → number_of s.symbols x ≡ None
-    new high = new_number 32 s.symbols x sound.few_symbols sound.symbols_named named n area is (omega (arith, symbols_number s k.numbers))
-
-    pub event_33 : r.symbols ≤ n.number → 32 ≤ n.number → TakenIs (name s x s.place) (taken.Breaks 5) area b c d
+  module _ (x area : List ℕ) (here : s.place ≡ Events) where
+    pub event_33 : NumberedIs 32 s.symbols (numbered 32 s.symbols x) None area → TakenIs (name s x s.place) (taken.Breaks 5) area b c d
     unfolding name event symbol with_symbol
-    event_33 high full =
-        rw (here, new high, too_many 32 s.symbols x sound.few_symbols sound.symbols_named named n area is full) refl
+    event_33 is = rw (here, too_many_new 32 s.symbols x area is, too_many 32 s.symbols x area is) refl
 
-    pub event_new : r.symbols ≤ n.number → n.number < 32
-        → TakenIs (name s x s.place)
-        (taken.Goes
-        (record {
-          place = r.place;
-          symbols = n.count;
-          words = r.words;
-          events = r.events;
-          rules = r.rules;
-          bodies = r.bodies;
-          left = r.left;
-          side = r.side;
-          kind = r.kind;
-        })) area b c d
-    unfolding name event symbol with_symbol
-    event_new high low =
-        let m = has_number 32 s.symbols x sound.few_symbols sound.symbols_named named n area is low in
-        rw (here, new high, m.found) (keeps_event k m.is n.count area here m.count m.slots)
+    module _ (n : numbered_as.Numbered) (is : NumberedIs 32 s.symbols (numbered 32 s.symbols x) (Some n) area) where
+      pub event_twice : n.number < r.symbols → TakenIs (name s x s.place) (taken.Breaks 6) area b c d
+      unfolding name event
+      event_twice low =
+          let old = old_number 32 s.symbols x area n is (omega (arith, symbols_number s k.numbers)) in
+          rw (here, old.1) refl
+
+      pub event_new : r.symbols ≤ n.number
+          → TakenIs (name s x s.place)
+          (taken.Goes
+          (record {
+            place = r.place;
+            symbols = n.count;
+            words = r.words;
+            events = r.events;
+            rules = r.rules;
+            bodies = r.bodies;
+            left = r.left;
+            side = r.side;
+            kind = r.kind;
+          })) area b c d
+      unfolding name event symbol with_symbol
+      event_new high =
+          let m = has_number 32 s.symbols x area n is in
+          let new : number_of s.symbols x ≡ None =
+          new_number 32 s.symbols x area n is (omega (arith, symbols_number s k.numbers)) in
+          rw (here, new, m.found) (keeps_event k m.is n.count area here m.count m.slots)
 
   -- A symbol of a side.
   module _ (x side : List ℕ) (to : List ℕ → Place) where
@@ -191,17 +194,17 @@ module _ {s : Reading} {r : Reader} {a b c d : List ℕ} (k : Keeps s r a b c d)
     unfolding side_symbol
     ninth size full = rw (le-ltb (length side) 8 (omega (arith, side_number s k.numbers))) refl
 
-    module _ {q : code.Place} (h : Lengthens s.place side to q) (sound : Sound s) (named : is_name x ≡ true) (n : numbered_as.Numbered) (area : List ℕ)
-        (is : NumberedIs 32 s.symbols (numbered 32 s.symbols x) n area) (room : r.side < 8) where
+    module _ {q : code.Place} (h : Lengthens s.place side to q) (area : List ℕ) (room : r.side < 8) where
       short : ltb (length side) 8 ≡ true
       short = lt-ltb (length side) 8 (omega (arith, side_number s k.numbers, h.size))
 
-      pub symbol_33 : 32 ≤ n.number → TakenIs (side_symbol s x side to) (taken.Breaks 5) area b c d
+      pub symbol_33 : NumberedIs 32 s.symbols (numbered 32 s.symbols x) None area
+          → TakenIs (side_symbol s x side to) (taken.Breaks 5) area b c d
       unfolding side_symbol symbol with_symbol
-      symbol_33 full =
-          rw (short, too_many 32 s.symbols x sound.few_symbols sound.symbols_named named n area is full) refl
+      symbol_33 is = rw (short, too_many 32 s.symbols x area is) refl
 
-      pub side_longer : n.number < 32 → r.bodies < length d
+      pub side_longer : (n : numbered_as.Numbered) → NumberedIs 32 s.symbols (numbered 32 s.symbols x) (Some n) area
+          → r.bodies < length d
           → TakenIs (side_symbol s x side to)
           (taken.Goes
           (record {
@@ -216,8 +219,8 @@ module _ {s : Reading} {r : Reader} {a b c d : List ℕ} (k : Keeps s r a b c d)
             kind = r.kind;
           })) area b c (set d r.bodies n.number)
       unfolding side_symbol symbol with_symbol
-      side_longer low inside =
-          let m = has_number 32 s.symbols x sound.few_symbols sound.symbols_named named n area is low in
+      side_longer n is inside =
+          let m = has_number 32 s.symbols x area n is in
           rw (short, m.found) (keeps_longer k m.is n.number n.count area h m.number m.count m.slots inside)
 
   -- A rule's first name, with a mark or without.
@@ -294,14 +297,12 @@ module _ {s : Reading} {r : Reader} {a b c d : List ℕ} (k : Keeps s r a b c d)
           (keeps_placed k (Ending m l (Put []))
           (rw (empty_side none_yet) (record { left = refl; side = refl; kinds = refl; bodies = refl })))
 
-      module _ (sound : Sound s) (named : is_name x ≡ true) (none_yet : r.side ≡ 0) (other : same x epsilon_word ≡ false)
-          (n : numbered_as.Numbered) (area : List ℕ) (is : NumberedIs 16 s.words (numbered 16 s.words x) n area) where
-        pub word_17 : 16 ≤ n.number → TakenIs (word s x s.place) (taken.Breaks 5) a area c d
+      module _ (none_yet : r.side ≡ 0) (other : same x epsilon_word ≡ false) (area : List ℕ) where
+        pub word_17 : NumberedIs 16 s.words (numbered 16 s.words x) None area → TakenIs (word s x s.place) (taken.Breaks 5) a area c d
         unfolding word right_word with_verdict
-        word_17 full =
-            rw (empty_side none_yet, other, too_many 16 s.words x sound.few_words sound.words_named named n area is full) refl
+        word_17 is = rw (empty_side none_yet, other, too_many 16 s.words x area is) refl
 
-        pub word_verdict : n.number < 16
+        pub word_verdict : (n : numbered_as.Numbered) → NumberedIs 16 s.words (numbered 16 s.words x) (Some n) area
             → TakenIs (word s x s.place)
             (taken.Goes
             (record {
@@ -316,8 +317,8 @@ module _ {s : Reading} {r : Reader} {a b c d : List ℕ} (k : Keeps s r a b c d)
               kind = r.kind + 1;
             })) a area c d
         unfolding word right_word with_verdict
-        word_verdict low =
-            let w = has_number 16 s.words x sound.few_words sound.words_named named n area is low in
+        word_verdict n is =
+            let w = has_number 16 s.words x area n is in
             rw (empty_side none_yet, other, w.found)
             (keeps_verdict k m l w.is n.number n.count area (empty_side none_yet) w.number w.count w.slots)
 

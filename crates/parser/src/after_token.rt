@@ -46,9 +46,10 @@ impl Reader {
     fn first(self, x: &[u8]) -> Taken
         ensures { (a b c d : List ℕ) → self.place ≡ Place.First → Takes (λ s. name s x.now s.place) self a b c d result a b c d }
     {
-        match x {
-            b"events" => Taken::Goes(self.at(Place::Events)),
-            _ => Taken::Breaks(4),
+        if x == b"events".as_slice() {
+            Taken::Goes(self.at(Place::Events))
+        } else {
+            Taken::Breaks(4)
         }
     }
 
@@ -73,6 +74,7 @@ impl Reader {
 
     // A name in a side: the place behind it is `to`.
     fn side_symbol(self, to: Place, x: &[u8], symbols: &mut [u8], bodies: &mut [u8]) -> Taken
+        requires few { self.symbols ≤ 32 }
         requires slots { slot_size * self.symbols ≤ length symbols.old }
         requires named { is_name x.now ≡ true }
         requires room { self.side < 8 → self.bodies < length bodies.old }
@@ -98,6 +100,7 @@ impl Reader {
 
     // A rule's first name, behind `.` or `^`.
     fn left_symbol(self, x: &[u8], symbols: &mut [u8], bodies: &mut [u8]) -> Taken
+        requires few { self.symbols ≤ 32 }
         requires slots { slot_size * self.symbols ≤ length symbols.old }
         requires named { is_name x.now ≡ true }
         requires room { self.rules < 64 → self.bodies < length bodies.old }
@@ -134,6 +137,7 @@ impl Reader {
 
     // A `#` word as a right side.
     fn right_word(self, x: &[u8], words: &mut [u8]) -> Taken
+        requires few { self.words ≤ 16 }
         requires slots { slot_size * self.words ≤ length words.old }
         requires named { is_name x.now ≡ true }
         requires kinds { self.kind ≤ 3 }
@@ -144,7 +148,7 @@ impl Reader {
             return Taken::Breaks(4);
         }
         let mut next = self.at(Place::Ending);
-        if matches!(x, b"epsilon") {
+        if x == b"epsilon".as_slice() {
             return Taken::Goes(next);
         }
         let n = match names::number_of(words, self.words, x) {
@@ -273,13 +277,15 @@ impl Reader {
             symbols.old words.old contents.old bodies.old result
             symbols.new words.new contents.new bodies.new }
     {
+        let Some(kind) = kind else {
+            return Taken::Breaks(3);
+        };
         match kind {
-            Some(Kind::Name) => self.name(x, symbols, bodies),
-            Some(Kind::Word) => self.word(x, words),
-            Some(Kind::Arrow) => self.arrow(),
-            Some(Kind::Stop) => self.stop(contents),
-            Some(Kind::Mark) => self.mark(),
-            None => Taken::Breaks(3),
+            Kind::Name => self.name(x, symbols, bodies),
+            Kind::Word => self.word(x, words),
+            Kind::Arrow => self.arrow(),
+            Kind::Stop => self.stop(contents),
+            Kind::Mark => self.mark(),
         }
     }
 }

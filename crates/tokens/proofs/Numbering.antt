@@ -54,16 +54,20 @@ module _
           rw (nowhere, no_room) kept
 
       pub number_new : 25 * count + 25 ≤ length area
-          → NumberedIs most names (numbered most names x) (Some (record { number = count; count = count + 1 })) (paste area (25 * count) key 25)
+          → NumberedIs most names (numbered most names x) (Some (record { number = count; count = count + 1 }))
+          (paste area (25 * count) key 25)
       unfolding numbered or_new
       number_new room =
           let lower : length names < most = omega (arith, size) in
           let fits : ltb (length names) most ≡ true = lt-ltb (length names) most lower in
-          rw (nowhere, fits)
-          (all_kept, rw (all_kept, length-append) (omega arith), rw (kept, all_kept, made) (slots_more most names x all_named named lower))
+          rw (nowhere, fits) (
+            all_kept,
+            rw (all_kept, length-append) (omega arith),
+            rw (kept, all_kept, made) (slots_more most names x all_named named lower),
+          )
 
 -- a slot that is found is one of the n
-slot-below : (key : List ℕ) (n : ℕ) (area : List ℕ) (i : ℕ) → slot_at key n area ≡ Some i → i < n
+pub slot-below : (key : List ℕ) (n : ℕ) (area : List ℕ) (i : ℕ) → slot_at key n area ≡ Some i → i < n
 unfolding slot_at
 slot-below key zero area i e = let z : ◌≡◌ {A = ℕ} 0 1 = cc in absurd (omega arith)
 slot-below key (suc n) area i e =

@@ -159,7 +159,8 @@ scanning_first l = record { stop = l.stop; passed = refl; behind = omega arith; 
 
 -- The next byte, by its class.
 module _
-    {text : List ℕ} {start from end : ℕ} {class : Class} (s : Scanning text start from end) (looked : class ≡ class_of (get_or text end 32)) where
+    {text : List ℕ} {start from end : ℕ} {class : Class} (s : Scanning text start from end)
+    (looked : class ≡ class_of (get_or text end 32)) where
   -- it may be in a name
   module _ (named : class ≡ classes.Name) where
     name : (separator (get_or text end 32) ≡ false) × (name_byte (get_or text end 32) ≡ true)
@@ -216,10 +217,6 @@ bytes_rest : (text : List ℕ) (i end : ℕ) → end ≡ stop_of text i → byte
 bytes_rest text i end e =
     let size : end - i ≡ length (rest_of text i) = omega (arith, e) in
     rw size (sym (unbroken-take (drop i text)))
-
--- a run is not empty
-pub bytes-some : (text : List ℕ) (start end : ℕ) → end ≡ stop_of text start → start < end → 1 ≤ length (bytes_of text start end)
-bytes-some text start end e some = rw (bytes_rest text start end e) (omega (arith, e))
 
 module _ {text : List ℕ} {start from : ℕ} (l : Leading text start from) where
   -- a byte of the name may not be in one

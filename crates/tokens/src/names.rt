@@ -1,5 +1,5 @@
 // Name slots: 25 bytes each, a length byte, the name, zeros. What these functions ask, `symbol` and the parser have shown.
-ghost use Rattle.std.specs.Prelude.{ℕ, ◌*◌, ◌≤◌, ◌<◌, ◌≡◌, List, length};
+ghost use Rattle.std.specs.Prelude.{ℕ, ◌*◌, ◌≤◌, ◌<◌, ◌≡◌, List, length, IfSome};
 ghost use Rattle.grammar.specs.Names.{slot_size, slot};
 ghost use Rattle.grammar.specs.Lookup.{slot_at};
 ghost use Rattle.tokens.specs.Numbered.{NumberedAs};
@@ -36,7 +36,8 @@ pub(crate) fn find(area: &[u8], n: usize, key: &[u8; SLOT_BYTES], last: usize) -
 pub fn number_of(area: &mut [u8], count: usize, x: &[u8]) -> Option<Numbered>
     requires slots { slot_size * count ≤ length area.old }
     requires short { length x.now ≤ 24 }
-    ensures { (most : ℕ) (names : List (List ℕ)) → NumberedAs most names count area.old x.now result area.new }
+    ensures numbered { (most : ℕ) (names : List (List ℕ)) → NumberedAs most names count area.old x.now result area.new }
+    ensures near { IfSome result (λ n. n.number ≤ count) }
 {
     let key = slot_of(x);
     if let Some(number) = find(area, count, &key, x.len()) {

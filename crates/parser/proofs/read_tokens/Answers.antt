@@ -14,7 +14,6 @@ use Rattle.tokens.proofs.RunBytes.{
   scanning_breaks,
   pair_inside,
   pair_next,
-  bytes-some,
   run_no_token,
   run_token,
   run-named,
@@ -77,10 +76,6 @@ loop-end-init c =
     let d = leading t (l.at + f.result) _ w c.lead_of.ensures in
     scanning_first d
 
-pub is_name_pair-requires : goal.is_name_pair-requires
-is_name_pair-requires c =
-    c.class_table-classes.ensures
-
 pub overflow_add-end : goal.overflow_add-end
 overflow_add-end c =
     omega (arith, pair_inside c.loop-end.invariant (sym c.is_name_pair.ensures ∙ c.if-is_name_pair.true))
@@ -95,23 +90,19 @@ loop-end-preserved-then-is_name_pair c =
     let e = c.loop-end in
     pair_next e.invariant (sym c.is_name_pair.ensures ∙ c.if-is_name_pair.true)
 
-pub class_at-class-requires : goal.class_at-class-requires
-class_at-class-requires c =
-    c.class_table-classes.ensures
-
-pub overflow_add-end-in-loop-end : goal.overflow_add-end-in-loop-end
-overflow_add-end-in-loop-end c =
-    omega (arith, scanning_inside c.loop-end.invariant c.class_at-class.ensures c.if-class-ne-NAME_BYTE.false)
+pub overflow_add-end-in-Name : goal.overflow_add-end-in-Name
+overflow_add-end-in-Name c =
+    omega (arith, scanning_inside c.loop-end.invariant c.class_at.ensures c.in-Name.is)
 
 pub loop-end-smaller : goal.loop-end-smaller
 loop-end-smaller c =
     let e = c.loop-end in
-    omega (arith, scanning_inside e.invariant c.class_at-class.ensures c.if-class-ne-NAME_BYTE.false)
+    omega (arith, scanning_inside e.invariant c.class_at.ensures c.in-Name.is)
 
 pub loop-end-preserved : goal.loop-end-preserved
 loop-end-preserved c =
     let e = c.loop-end in
-    scanning_next e.invariant c.class_at-class.ensures c.if-class-ne-NAME_BYTE.false
+    scanning_next e.invariant c.class_at.ensures c.in-Name.is
 
 pub slice_bounds-kind_of-count : goal.slice_bounds-kind_of-count
 slice_bounds-kind_of-count c =
@@ -138,17 +129,6 @@ slice_bounds-kind_of-end c =
     let e = c.loop-end in
     e.invariant.within
 
-pub kind_of-kind-requires : goal.kind_of-kind-requires
-kind_of-kind-requires c =
-    let t = c.args.text.now in
-    let l = c.tokens in
-    let f = c.gap_of in
-    let e = c.loop-end in
-    let b = c.class_at-class.ensures in
-    let stop = scanning_stop e.invariant b c.if-class-eq-SEPARATOR.true in
-    let n = next-run t l.at l.invariant.inside f.result f.ensures c.if-text-start.false e.end stop in
-    bytes-some t _ _ stop n.some
-
 pub slice_bounds-token-count : goal.slice_bounds-token-count
 slice_bounds-token-count c =
     let e = c.loop-end in
@@ -172,9 +152,9 @@ token-requires c =
     let w = start_within t l.at l.invariant.inside f.result f.ensures in
     let d = leading t (l.at + f.result) _ w c.lead_of.ensures in
     let e = c.loop-end in
-    let b = c.class_at-class.ensures in
-    let stop = scanning_stop e.invariant b c.if-class-eq-SEPARATOR.true in
-    let p = scanning_passed e.invariant b c.if-class-eq-SEPARATOR.true in
+    let b = c.class_at.ensures in
+    let stop = scanning_stop e.invariant b c.in-Separator.is in
+    let p = scanning_passed e.invariant b c.in-Separator.is in
     let g = l.invariant in
     let x = run-named d e.end stop _ c.kind_of-kind.ensures p in record {
       held = going_held g;
@@ -188,8 +168,8 @@ tokens-smaller c =
     let l = c.tokens in
     let f = c.gap_of in
     let e = c.loop-end in
-    let b = c.class_at-class.ensures in
-    let stop = scanning_stop e.invariant b c.if-class-eq-SEPARATOR.true in
+    let b = c.class_at.ensures in
+    let stop = scanning_stop e.invariant b c.in-Separator.is in
     let n = next-run t l.at l.invariant.inside f.result f.ensures c.if-text-start.false e.end stop in
     omega (arith, n.after, n.some, n.within)
 
@@ -201,10 +181,10 @@ tokens-preserved c =
     let w = start_within t l.at l.invariant.inside f.result f.ensures in
     let d = leading t (l.at + f.result) _ w c.lead_of.ensures in
     let e = c.loop-end in
-    let b = c.class_at-class.ensures in
-    let stop = scanning_stop e.invariant b c.if-class-eq-SEPARATOR.true in
+    let b = c.class_at.ensures in
+    let stop = scanning_stop e.invariant b c.in-Separator.is in
     let n = next-run t l.at l.invariant.inside f.result f.ensures c.if-text-start.false e.end stop in
-    let p = scanning_passed e.invariant b c.if-class-eq-SEPARATOR.true in
+    let p = scanning_passed e.invariant b c.in-Separator.is in
     let g = l.invariant in
     let x = run_token d e.end stop _ c.kind_of-kind.ensures p in
     going_on g n _ _ _ _ _ _ x (c.token.ensures g.reading g.sound g.keeps) _ c.in-Goes.is
@@ -218,8 +198,8 @@ returns-then-text-start c =
     going_ended g c.ended.result (next-none t l.at g.inside f.result f.ensures c.if-text-start.true)
     (c.ended.ensures _ _ _ _ g.reading g.sound g.keeps)
 
-pub returns-else-class-eq-SEPARATOR : goal.returns-else-class-eq-SEPARATOR
-returns-else-class-eq-SEPARATOR c =
+pub returns-in-Other : goal.returns-in-Other
+returns-in-Other c =
     let t = c.args.text.now in
     let l = c.tokens in
     let f = c.gap_of in
@@ -229,7 +209,7 @@ returns-else-class-eq-SEPARATOR c =
     let n = next-run t l.at l.invariant.inside f.result f.ensures c.if-text-start.false _ refl in
     no_token l.invariant n _ _ _ _
     (run_no_token d
-    (scanning_breaks e.invariant c.class_at-class.ensures c.if-class-ne-NAME_BYTE.true c.if-class-eq-SEPARATOR.false))
+    (scanning_breaks e.invariant c.class_at.ensures c.in-Other.is))
 
 pub returns-in-Breaks : goal.returns-in-Breaks
 returns-in-Breaks c =
@@ -239,10 +219,10 @@ returns-in-Breaks c =
     let w = start_within t l.at l.invariant.inside f.result f.ensures in
     let d = leading t (l.at + f.result) _ w c.lead_of.ensures in
     let e = c.loop-end in
-    let b = c.class_at-class.ensures in
-    let stop = scanning_stop e.invariant b c.if-class-eq-SEPARATOR.true in
+    let b = c.class_at.ensures in
+    let stop = scanning_stop e.invariant b c.in-Separator.is in
     let n = next-run t l.at l.invariant.inside f.result f.ensures c.if-text-start.false e.end stop in
-    let p = scanning_passed e.invariant b c.if-class-eq-SEPARATOR.true in
+    let p = scanning_passed e.invariant b c.in-Separator.is in
     let g = l.invariant in
     let x = run_token d e.end stop _ c.kind_of-kind.ensures p in
     broken g n _ _ _ _ _ _ x (c.token.ensures g.reading g.sound g.keeps) _ c.in-Breaks.is

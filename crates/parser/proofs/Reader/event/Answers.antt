@@ -6,30 +6,25 @@ use Rattle.parser.proofs.Keeping.{place_number, symbols_number}
 use Rattle.parser.proofs.Taking.{event_twice, event_33, event_new}
 use Rattle.parser.proofs.Reader.event.Goals as goal
 
-pub number_of-n-requires : goal.number_of-n-requires
-number_of-n-requires c =
-    let q = c.requires in record {
-      slots = q.slots;
-      short = name_short _ q.named;
-    }
+pub number_of-requires-clause-short : goal.number_of-requires-clause-short
+number_of-requires-clause-short c = name_short _ c.requires.named
+
+pub returns-in-None : goal.returns-in-None
+returns-in-None c =
+    λ b z d told s sound k. event_33 k c.args.x.now _ (place_at _ s.place (sym (place_number s k.numbers) ∙ told))
+    (rw c.in-None.is at (c.number_of.ensures.numbered 32 s.symbols k.symbol-slots (symbols_number s k.numbers) sound.few_symbols
+    sound.symbols_named c.requires.named))
 
 pub returns-then-n-self : goal.returns-then-n-self
 returns-then-n-self c =
-    let q = c.requires in
-    λ b z d told s sound k. event_twice k c.args.x.now sound q.named _ _ (place_at _ s.place (sym (place_number s k.numbers) ∙ told))
-    (c.number_of-n.ensures 32 s.symbols k.symbol-slots (symbols_number s k.numbers) sound.few_symbols sound.symbols_named q.named)
+    λ b z d told s sound k. event_twice k c.args.x.now _ (place_at _ s.place (sym (place_number s k.numbers) ∙ told)) c.in-Some.n
+    (rw c.in-Some.is at (c.number_of.ensures.numbered 32 s.symbols k.symbol-slots (symbols_number s k.numbers) sound.few_symbols
+    sound.symbols_named c.requires.named))
     c.if-n-self.true
-
-pub returns-then-n-ge32 : goal.returns-then-n-ge32
-returns-then-n-ge32 c =
-    let q = c.requires in
-    λ b z d told s sound k. event_33 k c.args.x.now sound q.named _ _ (place_at _ s.place (sym (place_number s k.numbers) ∙ told))
-    (c.number_of-n.ensures 32 s.symbols k.symbol-slots (symbols_number s k.numbers) sound.few_symbols sound.symbols_named q.named)
-    c.if-n-self.false c.if-n-ge32.true
 
 pub returns : goal.returns
 returns c =
-    let q = c.requires in
-    λ b z d told s sound k. event_new k c.args.x.now sound q.named _ _ (place_at _ s.place (sym (place_number s k.numbers) ∙ told))
-    (c.number_of-n.ensures 32 s.symbols k.symbol-slots (symbols_number s k.numbers) sound.few_symbols sound.symbols_named q.named)
-    c.if-n-self.false c.if-n-ge32.false
+    λ b z d told s sound k. event_new k c.args.x.now _ (place_at _ s.place (sym (place_number s k.numbers) ∙ told)) c.in-Some.n
+    (rw c.in-Some.is at (c.number_of.ensures.numbered 32 s.symbols k.symbol-slots (symbols_number s k.numbers) sound.few_symbols
+    sound.symbols_named c.requires.named))
+    c.if-n-self.false

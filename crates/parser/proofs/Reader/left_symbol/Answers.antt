@@ -12,6 +12,7 @@ returns-then-self-ge64 c =
 pub side_symbol-requires : goal.side_symbol-requires
 side_symbol-requires c =
     let q = c.requires in record {
+      few = q.few;
       slots = q.slots;
       named = q.named;
       room = λ low. q.room (omega (arith, c.if-self-ge64.false));

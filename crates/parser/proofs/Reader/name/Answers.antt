@@ -29,6 +29,7 @@ event-requires c =
 pub left_symbol-requires : goal.left_symbol-requires
 left_symbol-requires c =
     let q = c.requires in record {
+      few = omega (arith, symbol_room q.held);
       slots = omega (arith, symbol_room q.held, q.slots);
       named = q.named;
       room = λ low. omega (arith, first_room q.held c.in-Between.is low, q.room);
@@ -37,6 +38,7 @@ left_symbol-requires c =
 pub left_symbol-requires-in-Marked : goal.left_symbol-requires-in-Marked
 left_symbol-requires-in-Marked c =
     let q = c.requires in record {
+      few = omega (arith, symbol_room q.held);
       slots = omega (arith, symbol_room q.held, q.slots);
       named = q.named;
       room = λ low. omega (arith, marked_room q.held c.in-Marked.is low, q.room);
@@ -45,6 +47,7 @@ left_symbol-requires-in-Marked c =
 pub side_symbol-requires : goal.side_symbol-requires
 side_symbol-requires c =
     let q = c.requires in record {
+      few = omega (arith, symbol_room q.held);
       slots = omega (arith, symbol_room q.held, q.slots);
       named = q.named;
       room = λ low. omega (arith, left_room q.held c.in-Left.is low, q.room);
@@ -53,6 +56,7 @@ side_symbol-requires c =
 pub side_symbol-requires-in-Right : goal.side_symbol-requires-in-Right
 side_symbol-requires-in-Right c =
     let q = c.requires in record {
+      few = omega (arith, symbol_room q.held);
       slots = omega (arith, symbol_room q.held, q.slots);
       named = q.named;
       room = λ low. omega (arith, right_room q.held c.in-Right.is low, q.room);

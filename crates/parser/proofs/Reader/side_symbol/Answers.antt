@@ -9,19 +9,17 @@ pub returns-then-self-ge8 : goal.returns-then-self-ge8
 returns-then-self-ge8 c =
     λ b z side to s h sound k. ninth k c.args.x.now side to h.size c.if-self-ge8.true
 
-pub number_of-n-requires : goal.number_of-n-requires
-number_of-n-requires c =
-    let q = c.requires in record {
-      slots = q.slots;
-      short = name_short _ q.named;
-    }
+pub number_of-requires-clause-short : goal.number_of-requires-clause-short
+number_of-requires-clause-short c = name_short _ c.requires.named
 
-pub returns-then-n-ge32 : goal.returns-then-n-ge32
-returns-then-n-ge32 c =
-    let q = c.requires in
-    λ b z side to s h sound k. symbol_33 k c.args.x.now side to h sound q.named _ _
-    (c.number_of-n.ensures 32 s.symbols k.symbol-slots (symbols_number s k.numbers) sound.few_symbols sound.symbols_named q.named)
-    c.if-self-ge8.false c.if-n-ge32.true
+pub returns-in-None : goal.returns-in-None
+returns-in-None c =
+    λ b z side to s h sound k. symbol_33 k c.args.x.now side to h _ c.if-self-ge8.false
+    (rw c.in-None.is at (c.number_of.ensures.numbered 32 s.symbols k.symbol-slots (symbols_number s k.numbers) sound.few_symbols
+    sound.symbols_named c.requires.named))
+
+pub overflow_cast-bodies : goal.overflow_cast-bodies
+overflow_cast-bodies c = omega (arith, c.in-Some.ensures.near, c.requires.few)
 
 pub bounds-bodies-end : goal.bounds-bodies-end
 bounds-bodies-end c =
@@ -33,8 +31,8 @@ overflow_add-next c =
 
 pub returns : goal.returns
 returns c =
-    let q = c.requires in
     λ b z side to s h sound k. rw c.at-next.ensures
-    (side_longer k c.args.x.now side to h sound q.named _ _
-    (c.number_of-n.ensures 32 s.symbols k.symbol-slots (symbols_number s k.numbers) sound.few_symbols sound.symbols_named q.named)
-    c.if-self-ge8.false c.if-n-ge32.false (q.room c.if-self-ge8.false))
+    (side_longer k c.args.x.now side to h _ c.if-self-ge8.false c.in-Some.n
+    (rw c.in-Some.is at (c.number_of.ensures.numbered 32 s.symbols k.symbol-slots (symbols_number s k.numbers) sound.few_symbols
+    sound.symbols_named c.requires.named))
+    (c.requires.room c.if-self-ge8.false))

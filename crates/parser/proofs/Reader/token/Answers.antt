@@ -4,46 +4,29 @@ use Rattle.grammar.specs.Grammar.{after_run, after_token}
 use Rattle.tokens.specs.Scanned.{token_as}
 use Rattle.parser.proofs.Reader.token.Goals as goal
 
-pub name-requires : goal.name-requires
-name-requires c =
-    let q = c.requires in record {
-      held = q.held;
-      slots = q.sizes.0;
-      room = q.sizes.3;
-      named = rw c.in-Name.is at q.named;
-    }
-
-pub word-requires : goal.word-requires
-word-requires c =
-    let q = c.requires in record {
-      held = q.held;
-      slots = q.sizes.1;
-      named = rw c.in-Word.is at q.named;
-    }
+pub returns-in_default : goal.returns-in_default
+unfolding after_run after_token token_as
+returns-in_default c = λ s sound k. rw c.in_default.is refl
 
 pub returns-in-Name : goal.returns-in-Name
 unfolding after_run after_token token_as
 returns-in-Name c =
-    λ s sound k. rw c.in-Name.is (c.name.ensures _ _ s sound k)
+    λ s sound k. rw (c.in-Some.is, c.in-Name.is) (c.name.ensures _ _ s sound k)
 
 pub returns-in-Word : goal.returns-in-Word
 unfolding after_run after_token token_as
 returns-in-Word c =
-    λ s sound k. rw c.in-Word.is (c.word.ensures _ _ _ s sound k)
+    λ s sound k. rw (c.in-Some.is, c.in-Word.is) (c.word.ensures _ _ _ s sound k)
 
 pub returns-in-Arrow : goal.returns-in-Arrow
 unfolding after_run after_token token_as
-returns-in-Arrow c = λ s sound k. rw c.in-Arrow.is (c.arrow.ensures _ _ _ _ s sound k)
+returns-in-Arrow c = λ s sound k. rw (c.in-Some.is, c.in-Arrow.is) (c.arrow.ensures _ _ _ _ s sound k)
 
 pub returns-in-Stop : goal.returns-in-Stop
 unfolding after_run after_token token_as
 returns-in-Stop c =
-    λ s sound k. rw c.in-Stop.is (c.stop.ensures _ _ _ s sound k)
+    λ s sound k. rw (c.in-Some.is, c.in-Stop.is) (c.stop.ensures _ _ _ s sound k)
 
 pub returns-in-Mark : goal.returns-in-Mark
 unfolding after_run after_token token_as
-returns-in-Mark c = λ s sound k. rw c.in-Mark.is (c.mark.ensures _ _ _ _ s sound k)
-
-pub returns-in-None : goal.returns-in-None
-unfolding after_run after_token token_as
-returns-in-None c = λ s sound k. rw c.in-None.is refl
+returns-in-Mark c = λ s sound k. rw (c.in-Some.is, c.in-Mark.is) (c.mark.ensures _ _ _ _ s sound k)

@@ -9,6 +9,7 @@ use Rattle.parser.proofs.Reader.word.Goals as goal
 pub right_word-requires : goal.right_word-requires
 right_word-requires c =
     let q = c.requires in record {
+      few = omega (arith, word_room q.held);
       slots = omega (arith, word_room q.held, q.slots);
       named = q.named;
       kinds = kind_room q.held;

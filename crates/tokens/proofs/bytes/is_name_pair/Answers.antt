@@ -26,7 +26,8 @@ returns-else-is_name_byte c =
       | then-i-text w ↦ elim c.if-text-ge2.branch [
         | then-text-ge2 v ↦
             let inside = leb-true _ _ (sym v.value-is ∙ w.if-i-text.true) in
-            c.if-is_name_byte.false ∙ pair_other _ _ (omega arith) (sym w.is_name_byte.ensures ∙ sym w.value-is ∙ c.if-is_name_byte.false)
+            c.if-is_name_byte.false
+            ∙ pair_other _ _ (omega arith) (sym w.is_name_byte.ensures ∙ sym w.value-is ∙ c.if-is_name_byte.false)
         | else-text-ge2 v ↦ absurd (false≢true (sym (lt-leb 2 _ v.if-text-ge2.false) ∙ sym v.value-is ∙ w.if-i-text.true))
       ]
       | else-i-text w ↦ elim c.if-text-ge2.branch [

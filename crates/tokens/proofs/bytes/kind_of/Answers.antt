@@ -32,7 +32,8 @@ returns-in_default-run c =
     elim c.in_default-run.branch [
       | in_default-run-via-then-run-lt1-2 w ↦ grind (arith, common_steps, is, no_hash)
       | in_default-run-via-else-run-lt1-2+then-run-lt2+in_default-1 w ↦ grind (arith, common_steps, is, no_hash)
-      | in_default-run-via-else-run-lt1-2+else-run-lt2+then-run-lt3+in-45+in_default-1 w ↦ grind (arith, common_steps, is, no_hash)
+      | in_default-run-via-else-run-lt1-2+else-run-lt2+then-run-lt3+in-45+in_default-1 w ↦
+          grind (arith, common_steps, is, no_hash)
       | in_default-run-via-else-run-lt1-2+else-run-lt2+then-run-lt3+in_default-1 w ↦ grind (arith, common_steps, is, no_hash)
       | in_default-run-via-else-run-lt1-2+else-run-lt2+else-run-lt3 w ↦ grind (arith, common_steps, is, no_hash)
     ]
