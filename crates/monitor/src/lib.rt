@@ -58,12 +58,7 @@ pub struct BatchReturned {
 fn empty() -> Head
     ensures { head_in result ≡ head_of State.empty }
 {
-    Head {
-        settled: 0,
-        waiting: 0,
-        verdict: None,
-        rule: 0,
-    }
+    Head::EMPTY
 }
 
 // Sets both areas to 0.
@@ -91,6 +86,14 @@ pub fn fresh(bytes: &mut [u8], words: &mut [u16]) -> Begun
 }
 
 impl Head {
+    // The head of a monitor that holds nothing.
+    pub const EMPTY: Head = Head {
+        settled: 0,
+        waiting: 0,
+        verdict: None,
+        rule: 0,
+    };
+
     // A refusal: the head as given, and no counts.
     fn refused(self, refusal: Refusal) -> Returned
         ensures { result ≡ record { head = self; answer = Err refusal; counts = no_counts } }

@@ -1,9 +1,9 @@
--- `refused` meets its contract.
+-- `Played::refused` meets its contract.
 use mathlib.Core.Path.{refl}
 use Rattle.machine.specs.State.{active, empty}
 use Rattle.machine.specs.Run.{no_counts}
 use Rattle.machine.specs.Areas.{head_of}
-use Rattle.calls.proofs.refused.Goals as goal
+use Rattle.calls.proofs.Played.refused.Goals as goal
 
 pub returns : goal.returns
 unfolding head_of empty active no_counts
