@@ -1,4 +1,4 @@
--- `lines::put_told` meets its contract.
+-- `Line::put_told` meets its contract.
 use Prim.Native.Nat.{ℕ}
 use mathlib.Core.Path.{ap}
 use Rattle.std.specs.Prelude.{Option, Result}
@@ -6,22 +6,15 @@ use Rattle.layout.specs.declared.Refusal.{Refusal}
 use Rattle.layout.specs.Refusals.{refused_by, numbered}
 use Rattle.machine.specs.declared.Answer.{Answer}
 use Rattle.printing.specs.Lines.{answer_word, told}
-use Rattle.lines.proofs.put_told.Goals as goal
+use Rattle.lines.proofs.Line.put_told.Goals as goal
 
 -- the refusal that an answer is
 abbrev refused : Result Answer Refusal → Option ℕ
 refused r = refused_by (numbered r)
 
-pub put_accepted-requires : goal.put_accepted-requires
+pub put_accepted-requires-clause-small : goal.put_accepted-requires-clause-small
 unfolding refused_by
-put_accepted-requires c =
-    record {
-      slot = c.requires.slot _ c.in-Ok.is;
-      small = c.requires.small (ap refused c.in-Ok.is);
-      names = c.requires.names;
-      bytes = c.requires.bytes;
-      room = c.requires.room;
-    }
+put_accepted-requires-clause-small c = c.requires.small (ap refused c.in-Ok.is)
 
 pub returns-in-Err : goal.returns-in-Err
 unfolding answer_word told
