@@ -5,8 +5,8 @@
 
 ghost use Rattle.std.specs.Prelude.{ℕ, ◌<◌, ◌≡◌, IfSome, length, Some, None};
 ghost use Rattle.machine.specs.Areas.{state_of};
-ghost use Rattle.machine.specs.Lent.{monitor_with, Passed, Matches, step_of, tried};
-ghost use Rattle.image.specs.Sets.{set_of};
+ghost use Rattle.machine.specs.Lent.{monitor_with, Matches, step_of, tried};
+ghost use Rattle.areas.specs.Lent.{set_by, PassedWith};
 ghost use Rattle.areas.specs.Rewritten.{rewritten_from};
 
 use layout::RightSide;
@@ -36,12 +36,12 @@ pub fn rewrite(
     words: &mut [u16],
     i: usize,
 ) -> Option<Rewritten>
-    requires lent { Passed (length bytes.old) rules.table.image.bytes.now rules.table.words.now (monitor_with settled waiting None 0 bytes.old words.old) }
-    requires next { Matches (set_of rules.table.image).rules (state_of (monitor_with settled waiting None 0 bytes.old words.old)) (Some i) }
+    requires lent { PassedWith rules (monitor_with settled waiting None 0 bytes.old words.old) }
+    requires next { Matches (set_by rules).rules (state_of (monitor_with settled waiting None 0 bytes.old words.old)) (Some i) }
     ensures tried { rewritten_from settled waiting result bytes.new words.new
-        ≡ tried (set_of rules.entry.table.image).rules (length bytes.old)
+        ≡ tried (set_by rules.entry).rules (length bytes.old)
         (monitor_with settled waiting None 0 bytes.old words.old)
-        (step_of (set_of rules.entry.table.image).rules (state_of (monitor_with settled waiting None 0 bytes.old words.old))) }
+        (step_of (set_by rules.entry).rules (state_of (monitor_with settled waiting None 0 bytes.old words.old))) }
     ensures verdict { IfSome result (λ r. (v : ℕ) → r.verdict ≡ Some v → v < 16) }
 {
     let image = rules.table.image;

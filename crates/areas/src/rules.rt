@@ -34,7 +34,7 @@ impl<'a> Table<'a> {
     // The table that these words begin with.
     pub fn new(image: Image<'a>, words: &'a [u16]) -> Self
         requires { prefix (table_of (read image.bytes.now)) words.now ≡ true }
-        ensures image { result.image ≡ image.entry }
+        ensures image { result.image.bytes.now ≡ image.entry.bytes.now }
         ensures words { result.words.now ≡ words.now }
     {
         Table {
