@@ -6,13 +6,13 @@ ghost use Rattle.layout.specs.Image.{read, valid};
 ghost use Rattle.layout.specs.ImageCheck.{Decides};
 ghost use Rattle.rewriting.specs.Lists.{prefix};
 ghost use Rattle.layout.specs.Table.{table_of};
-ghost use Rattle.trie.specs.Nodes.{children_at, failure_at, symbol_at, parent, symbol, matched, failure, Built};
+ghost use Rattle.trie.specs.Nodes.{parent, symbol, matched, failure, Built};
 ghost use Rattle.layout.specs.Words as Words;
 ghost use Rattle.layout.specs.Words.{transition, own_or};
 ghost use Rattle.table.specs.Consistent.{differing, leaving, Passes, RootPassed, MarkPassed, RightTable};
 
 use image::wide;
-use trie::{CHILDREN, FAILURE, MATCH, NODE, SYMBOL, failure_of};
+use trie::{Node, failure_of};
 
 // How many words of the rows of q and f differ. Where a row begins is worked out once, before the loop. The loop counts to the
 // end, so that it compares many words at once.
@@ -52,35 +52,35 @@ fn transitions(rows: &[u16], s: usize, root: usize) -> u16
 }
 
 // The state that the parent of node q leads to by q's symbol.
-fn led_to(trie: &[u16], rows: &[u16], s: usize, q: usize) -> usize
-    requires node { symbol_at q < length trie.now }
+fn led_to(trie: &[Node], rows: &[u16], s: usize, q: usize) -> usize
+    requires node { q < length trie.now }
     requires row { parent trie.now q * s + symbol trie.now q < length rows.now }
     ensures { result ≡ transition rows.now s (parent trie.now q) (symbol trie.now q) }
 {
-    let p = wide::word(trie[NODE * q]);
-    let a = wide::word(trie[NODE * q + SYMBOL]);
+    let p = wide::word(trie[q].parent);
+    let a = wide::word(trie[q].symbol);
     wide::word(rows[p * s + a])
 }
 
 // The match word that node q should have: its own, or else its failure state's.
-fn inherited(trie: &[u16], matches: &[u16], q: usize) -> u16
-    requires node { failure_at q < length trie.now }
+fn inherited(trie: &[Node], matches: &[u16], q: usize) -> u16
+    requires node { q < length trie.now }
     requires word { failure trie.now q < length matches.now }
     ensures { result ≡ own_or (matched trie.now q) (get_or matches.now (failure trie.now q) 0) }
 {
-    let own = trie[NODE * q + MATCH];
+    let own = trie[q].matched;
     if own != 0 {
         return own;
     }
-    let f = wide::word(trie[NODE * q + FAILURE]);
+    let f = wide::word(trie[q].failure);
     matches[f]
 }
 
 // The tests of the root.
-fn root_holds(trie: &[u16], matches: &[u16], rows: &[u16], s: usize, root: usize) -> bool
+fn root_holds(trie: &[Node], matches: &[u16], rows: &[u16], s: usize, root: usize) -> bool
     requires few { s ≤ 32 }
     requires low { root ≤ 1 }
-    requires node { children_at root < length trie.now }
+    requires node { root < length trie.now }
     requires word { root < length matches.now }
     requires row { root * s + s ≤ length rows.now }
     ensures { Decides result (RootPassed trie.now matches.now rows.now s root) }
@@ -89,7 +89,7 @@ fn root_holds(trie: &[u16], matches: &[u16], rows: &[u16], s: usize, root: usize
         return false;
     }
     let n = transitions(rows, s, root);
-    if n != trie[NODE * root + CHILDREN] {
+    if n != trie[root].children {
         return false;
     }
     true
@@ -97,9 +97,9 @@ fn root_holds(trie: &[u16], matches: &[u16], rows: &[u16], s: usize, root: usize
 
 // The tests of the mark alone, which no state leads to: it has no match, and its row differs from the root's in as many words as it
 // has children.
-fn mark_holds(trie: &[u16], matches: &[u16], rows: &[u16], s: usize, root: usize) -> bool
+fn mark_holds(trie: &[Node], matches: &[u16], rows: &[u16], s: usize, root: usize) -> bool
     requires few { s ≤ 32 }
-    requires node { children_at 0 < length trie.now }
+    requires node { 0 < length trie.now }
     requires word { 0 < length matches.now }
     requires own { 0 * s + s ≤ length rows.now }
     requires other { root * s + s ≤ length rows.now }
@@ -109,16 +109,16 @@ fn mark_holds(trie: &[u16], matches: &[u16], rows: &[u16], s: usize, root: usize
         return false;
     }
     let n = differences(rows, s, 0, root);
-    if n != trie[CHILDREN] {
+    if n != trie[0].children {
         return false;
     }
     true
 }
 
 // The tests of state q, which its parent leads to, and whose failure state its node holds.
-fn state_holds(trie: &[u16], matches: &[u16], rows: &[u16], s: usize, q: usize) -> bool
+fn state_holds(trie: &[Node], matches: &[u16], rows: &[u16], s: usize, q: usize) -> bool
     requires few { s ≤ 32 }
-    requires node { failure_at q < length trie.now }
+    requires node { q < length trie.now }
     requires led { transition rows.now s (parent trie.now q) (symbol trie.now q) ≡ q }
     requires words { (q < length matches.now) × (failure trie.now q < length matches.now) }
     requires own { q * s + s ≤ length rows.now }
@@ -129,9 +129,9 @@ fn state_holds(trie: &[u16], matches: &[u16], rows: &[u16], s: usize, q: usize) 
     if m != matches[q] {
         return false;
     }
-    let f = wide::word(trie[NODE * q + FAILURE]);
+    let f = wide::word(trie[q].failure);
     let n = differences(rows, s, q, f);
-    if n != trie[NODE * q + CHILDREN] {
+    if n != trie[q].children {
         return false;
     }
     true
@@ -143,7 +143,7 @@ fn state_holds(trie: &[u16], matches: &[u16], rows: &[u16], s: usize, q: usize) 
 fn states_hold(
     image: &[u8],
     root: usize,
-    trie: &mut [u16],
+    trie: &mut [Node],
     n: usize,
     matches: &[u16],
     rows: &[u16],
@@ -173,7 +173,7 @@ fn states_hold(
         if f >= n {
             return false;
         }
-        trie[NODE * q + FAILURE] = f as u16;
+        trie[q].failure = f as u16;
         if !state_holds(trie, matches, rows, s, q) {
             return false;
         }
@@ -183,7 +183,7 @@ fn states_hold(
 
 // Whether the table begins with the words that compile gives for the image, by the trie of its n states: N, S, and every
 // state's tests. Keeps each state's failure state in its node of the trie.
-pub(crate) fn holds(image: &[u8], root: usize, trie: &mut [u16], n: usize, table: &[u16]) -> bool
+pub(crate) fn holds(image: &[u8], root: usize, trie: &mut [Node], n: usize, table: &[u16]) -> bool
     requires image_value { valid image.now ≡ true }
     requires root_value { root ≡ Words.root (read image.now).rules }
     requires built { Built (read image.now) n trie.old }

@@ -8,16 +8,16 @@ ghost use Rattle.layout.specs.Table.{table_of};
 ghost use Rattle.layout.specs.Compile.{compile_of};
 ghost use Rattle.layout.specs.TableCheck.{check_of};
 ghost use Rattle.layout.specs.Words as Words;
-ghost use Rattle.trie.specs.Nodes.{Roomy, Built};
+ghost use Rattle.trie.specs.Nodes.{unused, Roomy, Built};
 
 use image::wide;
 use layout::{Checked, Compiled};
-use trie::{FEW_WORDS, WORDS, rows};
+use trie::{FEW_NODES, NODES, Node, rows};
 
 mod compare;
 
 // The table of the image, into an area of its length, from the trie of its n states.
-fn write(image: &[u8], root: usize, nodes: &mut [u16], n: usize, table: &mut [u16])
+fn write(image: &[u8], root: usize, nodes: &mut [Node], n: usize, table: &mut [u16])
     requires image { valid image.now ≡ true }
     requires root { root ≡ Words.root (read image.now).rules }
     requires trie { Built (read image.now) n nodes.old }
@@ -32,12 +32,12 @@ fn write(image: &[u8], root: usize, nodes: &mut [u16], n: usize, table: &mut [u1
     rows::write_matches(image, nodes, n, &mut table[2..rows]);
 }
 
-// Compile for a valid image, with words for the trie. It is built first, since the number of states decides whether the
+// Compile for a valid image, with nodes for the trie. It is built first, since the number of states decides whether the
 // table fits.
-fn compile_with(image: &[u8], root: usize, nodes: &mut [u16], table: &mut [u16]) -> Compiled
+fn compile_with(image: &[u8], root: usize, nodes: &mut [Node], table: &mut [u16]) -> Compiled
     requires image { valid image.now ≡ true }
     requires root { root ≡ Words.root (read image.now).rules }
-    requires words { (nodes.old ≡ replicate (length nodes.old) 0) × (Roomy (read image.now) (length nodes.old)) }
+    requires nodes { (nodes.old ≡ replicate (length nodes.old) unused) × (Roomy (read image.now) (length nodes.old)) }
     ensures answer { result ≡ (compile_of image.now table.old).answer }
     ensures area { table.new ≡ (compile_of image.now table.old).area }
 {
@@ -61,20 +61,20 @@ pub fn compile(image: &[u8], table: &mut [u16]) -> Compiled
     if 0 < validity {
         let root = wide::byte(validity - 1);
         if image::bodies_length(image) < 63 {
-            let mut few = [0u16; FEW_WORDS];
+            let mut few = [Node::ZERO; FEW_NODES];
             return compile_with(image, root, &mut few, table);
         }
-        let mut nodes = [0u16; WORDS];
+        let mut nodes = [Node::ZERO; NODES];
         return compile_with(image, root, &mut nodes, table);
     }
     Compiled::Refused(7)
 }
 
-// Whether the table begins with that of a valid image, with words for the trie.
-fn begins_by(image: &[u8], root: usize, nodes: &mut [u16], table: &[u16]) -> bool
+// Whether the table begins with that of a valid image, with nodes for the trie.
+fn begins_by(image: &[u8], root: usize, nodes: &mut [Node], table: &[u16]) -> bool
     requires image { valid image.now ≡ true }
     requires root { root ≡ Words.root (read image.now).rules }
-    requires words { (nodes.old ≡ replicate (length nodes.old) 0) × (Roomy (read image.now) (length nodes.old)) }
+    requires nodes { (nodes.old ≡ replicate (length nodes.old) unused) × (Roomy (read image.now) (length nodes.old)) }
     ensures { result ≡ prefix (table_of (read image.now)) table.now }
 {
     trie::begin(image, root, nodes);
@@ -89,10 +89,10 @@ fn begins_with_table(image: &[u8], root: usize, table: &[u16]) -> bool
     ensures { result ≡ prefix (table_of (read image.now)) table.now }
 {
     if image::bodies_length(image) < 63 {
-        let mut few = [0u16; FEW_WORDS];
+        let mut few = [Node::ZERO; FEW_NODES];
         return begins_by(image, root, &mut few, table);
     }
-    let mut nodes = [0u16; WORDS];
+    let mut nodes = [Node::ZERO; NODES];
     begins_by(image, root, &mut nodes, table)
 }
 

@@ -6,23 +6,14 @@ ghost use Rattle.layout.specs.States.{states, matching};
 ghost use Rattle.layout.specs.Table.{match_word};
 ghost use Rattle.layout.specs.Words as Words;
 ghost use Rattle.layout.specs.Words.{Longest, own_or};
-ghost use Rattle.trie.specs.Nodes.{failure_at, node_words, depth, TrieOf, Built};
-ghost use Rattle.trie.specs.Rows.{Laid, Rooted, Merged, Noted, FillingAt, Matched, Filled};
+ghost use Rattle.trie.specs.Nodes.{depth, TrieOf, Built};
+ghost use Rattle.trie.specs.Rows.{Laid, Rooted, Merged, noted, FillingAt, Matched, Filled};
 
-use crate::{DEPTH, FAILURE, MATCH, NODE, SYMBOL, failure_of};
+use crate::{Node, failure_of};
 use image::wide;
 
-// All words 0.
-fn clear(rows: &mut [u16])
-    ensures { rows.new ≡ replicate (length rows.old) 0 }
-{
-    for k in 0..rows.len() {
-        rows[k] = 0;
-    }
-}
-
 // Each node's number into the row of its parent.
-fn lay_children(image: &[u8], root: usize, trie: &[u16], n: usize, rows: &mut [u16])
+fn lay_children(image: &[u8], root: usize, trie: &[Node], n: usize, rows: &mut [u16])
     requires image_value { valid image.now ≡ true }
     requires root { root ≡ Words.root (read image.now).rules }
     requires trie { TrieOf (read image.now) trie.now }
@@ -32,8 +23,8 @@ fn lay_children(image: &[u8], root: usize, trie: &[u16], n: usize, rows: &mut [u
 {
     let s = image::symbols(image);
     for c in root + 1..n {
-        let p = wide::word(trie[NODE * c]);
-        let a = wide::word(trie[NODE * c + SYMBOL]);
+        let p = wide::word(trie[c].parent);
+        let a = wide::word(trie[c].symbol);
         rows[p * s + a] = c as u16;
     }
 }
@@ -53,9 +44,8 @@ fn fill_root(rows: &mut [u16], s: usize, root: usize)
     ensures { Rooted rows.old rows.new s root s }
 {
     let first = root * s;
-    let word = root as u16;
-    for a in 0..s {
-        rows[first + a] = chosen(rows[first + a], word);
+    for word in &mut rows[first..first + s] {
+        *word = chosen(*word, root as u16);
     }
 }
 
@@ -73,19 +63,21 @@ fn merge(rows: &mut [u16], s: usize, q: usize, f: usize)
 }
 
 // The failure state f of node q and, where q has no match word of its own, that of f.
-fn note(trie: &mut [u16], q: usize, f: usize)
-    requires own { failure_at q < length trie.old }
-    requires other { failure_at f < length trie.old }
+fn note(trie: &mut [Node], q: usize, f: usize)
+    requires own { q < length trie.old }
+    requires other { f < length trie.old }
     requires small { f < 65536 }
-    ensures { Noted trie.old trie.new q f }
+    ensures { trie.new ≡ noted trie.old q f }
 {
-    let word = chosen(trie[NODE * q + MATCH], trie[NODE * f + MATCH]);
-    trie[NODE * q + FAILURE] = f as u16;
-    trie[NODE * q + MATCH] = word;
+    trie[q] = Node {
+        matched: chosen(trie[q].matched, trie[f].matched),
+        failure: f as u16,
+        ..trie[q]
+    };
 }
 
 // State q, whose turn it is: its failure state, match word and row.
-fn fill_state(image: &[u8], root: usize, trie: &mut [u16], rows: &mut [u16], q: usize)
+fn fill_state(image: &[u8], root: usize, trie: &mut [Node], rows: &mut [u16], q: usize)
     requires image_value { valid image.now ≡ true }
     requires root { root ≡ Words.root (read image.now).rules }
     requires state { (q ≢ root) × (q < length (states (read image.now).rules)) }
@@ -99,7 +91,7 @@ fn fill_state(image: &[u8], root: usize, trie: &mut [u16], rows: &mut [u16], q: 
 }
 
 // The states of depth d, whose turn it is.
-fn fill_depth(image: &[u8], root: usize, trie: &mut [u16], rows: &mut [u16], n: usize, d: u16)
+fn fill_depth(image: &[u8], root: usize, trie: &mut [Node], rows: &mut [u16], n: usize, d: u16)
     requires image_value { valid image.now ≡ true }
     requires root { root ≡ Words.root (read image.now).rules }
     requires count { n ≡ length (states (read image.now).rules) }
@@ -108,7 +100,7 @@ fn fill_depth(image: &[u8], root: usize, trie: &mut [u16], rows: &mut [u16], n: 
     ensures { FillingAt (read image.now) (d + 1) 0 trie.new rows.new }
 {
     for q in 0..n {
-        if trie[NODE * q + DEPTH] == d {
+        if trie[q].depth == d {
             fill_state(image, root, trie, rows, q);
         }
     }
@@ -131,14 +123,14 @@ fn longest(image: &[u8]) -> usize
 
 // The rows of the table, and its match words in the nodes: short states before long, as a failure state is shorter. A state has at
 // most the symbols of the longest left side, and the mark where there is one.
-pub fn fill(image: &[u8], root: usize, trie: &mut [u16], n: usize, rows: &mut [u16])
+pub fn fill(image: &[u8], root: usize, trie: &mut [Node], n: usize, rows: &mut [u16])
     requires image_value { valid image.now ≡ true }
     requires root { root ≡ Words.root (read image.now).rules }
     requires trie { Built (read image.now) n trie.old }
     requires room { length rows.old ≡ length (states (read image.now).rules) * (read image.now).symbols }
     ensures { Filled (read image.now) trie.old trie.new rows.new }
 {
-    clear(rows);
+    rows.fill(0);
     lay_children(image, root, trie, n, rows);
     if 0 < root {
         fill_root(rows, image::symbols(image), root);
@@ -150,14 +142,14 @@ pub fn fill(image: &[u8], root: usize, trie: &mut [u16], n: usize, rows: &mut [u
 }
 
 // The match words from the nodes.
-pub fn write_matches(image: &[u8], trie: &[u16], n: usize, words: &mut [u16])
+pub fn write_matches(image: &[u8], trie: &[Node], n: usize, words: &mut [u16])
     requires matches { Matched (read image.now) trie.now }
     requires count { n ≡ length (states (read image.now).rules) }
-    requires nodes { node_words * n ≤ length trie.now }
+    requires nodes { n ≤ length trie.now }
     requires size { length words.old ≡ n }
     ensures { words.new ≡ map (λ q. match_word (matching (read image.now).rules q)) (states (read image.now).rules) }
 {
-    for q in 0..n {
-        words[q] = trie[NODE * q + MATCH];
+    for (q, word) in words.iter_mut().enumerate() {
+        *word = trie[q].matched;
     }
 }

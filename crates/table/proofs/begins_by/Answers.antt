@@ -5,5 +5,5 @@ pub build-n-requires : goal.build-n-requires
 build-n-requires c = record {
   image = c.requires.image;
   root = c.requires.root;
-  trie = (c.begin.ensures.0, rw c.begin.ensures.1 c.requires.words.1);
+  trie = (c.begin.ensures.0, rw c.begin.ensures.1 c.requires.nodes.1);
 }

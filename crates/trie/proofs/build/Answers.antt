@@ -63,14 +63,6 @@ overflow_add-at-in-loop-i c =
     let more = rw c.rules-rules.ensures at c.loop-i-test.true in
     omega (arith, c.body_length-at.ensures, c.loop-i.invariant.place, left_within _ c.requires.image _ more)
 
-pub overflow_add-i : goal.overflow_add-i
-overflow_add-i c =
-    omega arith
-
-pub loop-i-smaller : goal.loop-i-smaller
-loop-i-smaller c =
-    omega arith
-
 pub loop-i-preserved : goal.loop-i-preserved
 loop-i-preserved c =
     let turn = c.loop-i.invariant in

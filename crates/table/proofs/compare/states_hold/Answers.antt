@@ -44,8 +44,7 @@ lent c s width =
 
 -- the node's last word stands in the trie
 node_of : (c : Else-f-n)
-    → 8 * c.loop-q.q + 7
-    < length c.loop-q.trie
+    → c.loop-q.q < length c.loop-q.trie
 node_of c =
     node_room c.loop-q.invariant.1 c.loop-q-test.true
 
@@ -117,14 +116,6 @@ returns-then-f-n c =
 pub overflow_cast-trie : goal.overflow_cast-trie
 overflow_cast-trie c =
     omega (arith, c.if-f-n.false, c.loop-q.invariant.1.few)
-
-pub overflow_mul-trie : goal.overflow_mul-trie
-overflow_mul-trie c =
-    omega (arith, node_of c)
-
-pub overflow_add-trie : goal.overflow_add-trie
-overflow_add-trie c =
-    omega (arith, node_of c)
 
 pub offset_bounds-trie-q : goal.offset_bounds-trie-q
 offset_bounds-trie-q c =

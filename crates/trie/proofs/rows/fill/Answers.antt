@@ -23,7 +23,7 @@ lay_children-requires c =
       root = c.requires.root;
       trie = c.requires.trie.trie;
       count = c.requires.trie.nodes;
-      clear = c.clear.ensures
+      clear = c.fill.ensures.after (λ y e. e)
           ∙ ap (λ (k : ℕ). replicate k 0) (c.requires.room ∙ ap (λ (k : ℕ). k * symbols) (sym c.requires.trie.nodes));
     }
 
@@ -33,7 +33,7 @@ fill_root-requires c =
     let end = row_end (read image).symbols c.args.root (length (states (read image).rules))
     (omega (arith, c.requires.root, root_below (read image).rules)) in record {
       own = rw c.symbols.ensures
-          (omega (arith, c.lay_children.auto.rows, c.clear.auto.rows, c.requires.room, end));
+          (omega (arith, c.lay_children.auto.rows, c.fill.ensures.len, c.requires.room, end));
       low = omega (arith, c.requires.root, root_small (read image).rules);
     }
 

@@ -12,12 +12,6 @@ pub loop-q-init : goal.loop-q-init
 loop-q-init c =
     (omega arith, refl, refl, c.requires.filling)
 
-pub overflow_mul-q : goal.overflow_mul-q
-overflow_mul-q c = omega (arith, c.loop-q.invariant.3.trie.linked.size)
-
-pub overflow_add-q : goal.overflow_add-q
-overflow_add-q c = omega (arith, c.loop-q.invariant.3.trie.linked.size)
-
 pub offset_bounds-trie-q : goal.offset_bounds-trie-q
 offset_bounds-trie-q c = omega (arith, c.loop-q.invariant.3.trie.linked.size)
 

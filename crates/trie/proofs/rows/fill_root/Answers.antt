@@ -1,46 +1,27 @@
--- `trie::rows::fill_root` meets its contract. The loop's invariant: the first `a` words of the root's row are filled.
-use mathlib.Core.Path.{◌≡◌, refl}
+-- `trie::rows::fill_root` meets its contract. The loop's invariant: the first words of the root's row are filled.
+use Prim.Native.Nat.{◌*◌, ◌<◌}
+use mathlib.Core.Path.{◌≡◌, sym, ap, ◌∙◌}
 use native.Mathlib.Omega.{arith}
-use lib.ListN.{length-set}
-use Rattle.trie.proofs.RowWords.{rooted_none, rooted_more}
+use borrow.Rule.Slice.PartMut.{put_same}
+use Rattle.layout.specs.Words.{own_or}
+use Rattle.trie.proofs.RowWords.{rooted_none, rooted_more, lent_length, lent_word, lent_set}
 use Rattle.trie.proofs.rows.fill_root.Goals as goal
 
-pub overflow_mul-first : goal.overflow_mul-first
-overflow_mul-first c = omega arith
+pub loop-word-init : goal.loop-word-init
+loop-word-init c = rw put_same (rooted_none _ _ _)
 
-pub loop-a-init : goal.loop-a-init
-loop-a-init c = (omega arith, refl, rooted_none _ _ _)
-
-pub overflow_add-first : goal.overflow_add-first
-overflow_add-first c = omega arith
-
-pub offset_bounds-rows-first : goal.offset_bounds-rows-first
-offset_bounds-rows-first c = omega arith
-
-pub bounds-rows-first : goal.bounds-rows-first
-bounds-rows-first c = omega arith
-
-pub overflow_add-rows : goal.overflow_add-rows
-overflow_add-rows c = omega arith
-
-pub offset_bounds-rows-first-in-loop-a : goal.offset_bounds-rows-first-in-loop-a
-offset_bounds-rows-first-in-loop-a c = omega arith
-
-pub bounds-rows-first-in-loop-a : goal.bounds-rows-first-in-loop-a
-bounds-rows-first-in-loop-a c = omega arith
-
-pub loop-a-smaller : goal.loop-a-smaller
-loop-a-smaller c = omega arith
-
-pub loop-a-preserved : goal.loop-a-preserved
-loop-a-preserved c =
-    let turn = c.loop-a in (
-      omega arith,
-      simp length-set turn.invariant.1,
-      rooted_more _ _ _ _ _ c.requires.own c.loop-a-test.true turn.invariant.2 _ c.chosen.ensures,
-    )
+pub loop-word-preserved : goal.loop-word-preserved
+loop-word-preserved c =
+    let turn = c.loop-word in
+    let n = lent_length _ _ _ _ c.requires.own turn.auto.word-items in
+    let more : turn.word-index < c.args.s = omega (arith, c.loop-word-test.true) in
+    let word = lent_word _ _ _ _ c.requires.own turn.auto.word-items _ more in
+    rw (lent_set _ _ _ _ c.requires.own turn.auto.word-items turn.word-index c.chosen.result more)
+    (rooted_more _ _ _ _ _ c.requires.own more turn.invariant _ (c.chosen.ensures ∙ ap (λ x. own_or x c.args.root) (sym word)))
 
 pub returns : goal.returns
 returns c =
-    let all : c.loop-a.a ≡ c.args.s = omega arith in
-    rw all at c.loop-a.invariant.2
+    let turn = c.loop-word in
+    let n = lent_length _ _ _ _ c.requires.own turn.auto.word-items in
+    let all : turn.word-index ≡ c.args.s = omega (arith, n, turn.auto.word-items, turn.auto.word-index-end, c.loop-word-test.false) in
+    rw all at turn.invariant

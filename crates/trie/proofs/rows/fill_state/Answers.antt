@@ -21,7 +21,7 @@ other : (c : Start) → c.args.q ≡ root (read c.args.image.now).rules → ⊥
 other c e = c.requires.state.0 (e ∙ sym c.requires.root)
 
 bounds : (c : Start)
-    → (8 * c.args.q + 7 < length c.args.trie.now) × (8 * parent c.args.trie.now c.args.q + 7 < length c.args.trie.now)
+    → (c.args.q < length c.args.trie.now) × (parent c.args.trie.now c.args.q < length c.args.trie.now)
 bounds c =
     nodes_within (read c.args.image.now) c.args.q c.args.trie.now c.args.rows.now c.requires.filling (in_range_lem c) (other c)
     c.requires.state.1

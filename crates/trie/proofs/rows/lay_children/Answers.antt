@@ -54,21 +54,6 @@ loop-c-init c =
           ∙ ap (λ (n : ℕ). replicate (n * (read image).symbols) 0) c.requires.count)),
     )
 
-pub overflow_mul-c : goal.overflow_mul-c
-overflow_mul-c c = omega (arith, bounds c)
-
-pub offset_bounds-trie-c : goal.offset_bounds-trie-c
-offset_bounds-trie-c c = omega (arith, bounds c)
-
-pub bounds-trie-c : goal.bounds-trie-c
-bounds-trie-c c = omega (arith, bounds (goal.at.bounds-trie-c c).In-loop-c)
-
-pub overflow_mul-c-in-loop-c : goal.overflow_mul-c-in-loop-c
-overflow_mul-c-in-loop-c c = omega (arith, bounds (goal.at.overflow_mul-c-in-loop-c c).In-loop-c)
-
-pub overflow_add-c : goal.overflow_add-c
-overflow_add-c c = omega (arith, bounds (goal.at.overflow_add-c c).In-loop-c)
-
 pub offset_bounds-trie-c-in-loop-c : goal.offset_bounds-trie-c-in-loop-c
 offset_bounds-trie-c-in-loop-c c = omega (arith, bounds (goal.at.offset_bounds-trie-c-in-loop-c c).In-loop-c)
 
