@@ -113,10 +113,7 @@ fn longest(image: &[u8]) -> usize
 {
     let mut most = 0;
     for i in 0..image::rules(image) {
-        let long = image::left_length(image, i);
-        if most < long {
-            most = long;
-        }
+        most = most.max(image::left_length(image, i));
     }
     most
 }
