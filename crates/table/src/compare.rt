@@ -144,17 +144,17 @@ fn states_hold(
     image: &[u8],
     root: usize,
     trie: &mut [Node],
-    n: usize,
     matches: &[u16],
     rows: &[u16],
 ) -> bool
     requires image_value { valid image.now ≡ true }
     requires root_value { root ≡ Words.root (read image.now).rules }
-    requires built { Built (read image.now) n trie.old }
-    requires n_value { (n ≡ length matches.now) × (n * (read image.now).symbols ≡ length rows.now) }
+    requires built { Built (read image.now) (length trie.old) trie.old }
+    requires n_value { (length trie.old ≡ length matches.now) × (length trie.old * (read image.now).symbols ≡ length rows.now) }
     ensures { Decides result
         (RightTable (read image.now).rules (read image.now).symbols matches.now rows.now) }
 {
+    let n = trie.len();
     let s = image::symbols(image);
     if !root_holds(trie, matches, rows, s, root) {
         return false;
@@ -181,14 +181,15 @@ fn states_hold(
     true
 }
 
-// Whether the table begins with the words that compile gives for the image, by the trie of its n states: N, S, and every
+// Whether the table begins with the words that compile gives for the image, by the trie of its states: N, S, and every
 // state's tests. Keeps each state's failure state in its node of the trie.
-pub(crate) fn holds(image: &[u8], root: usize, trie: &mut [Node], n: usize, table: &[u16]) -> bool
+pub(crate) fn holds(image: &[u8], root: usize, trie: &mut [Node], table: &[u16]) -> bool
     requires image_value { valid image.now ≡ true }
     requires root_value { root ≡ Words.root (read image.now).rules }
-    requires built { Built (read image.now) n trie.old }
+    requires built { Built (read image.now) (length trie.old) trie.old }
     ensures { result ≡ prefix (table_of (read image.now)) table.now }
 {
+    let n = trie.len();
     let s = image::symbols(image);
     let first = 2 + n;
     let end = first + n * s;
@@ -201,5 +202,5 @@ pub(crate) fn holds(image: &[u8], root: usize, trie: &mut [Node], n: usize, tabl
     if wide::word(table[1]) != s {
         return false;
     }
-    states_hold(image, root, trie, n, &table[2..first], &table[first..end])
+    states_hold(image, root, trie, &table[2..first], &table[first..end])
 }

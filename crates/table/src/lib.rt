@@ -16,20 +16,21 @@ use trie::{FEW_NODES, NODES, Node, rows};
 
 mod compare;
 
-// The table of the image, into an area of its length, from the trie of its n states.
-fn write(image: &[u8], root: usize, nodes: &mut [Node], n: usize, table: &mut [u16])
+// The table of the image, into an area of its length, from the trie of its states.
+fn write(image: &[u8], root: usize, trie: &mut [Node], table: &mut [u16])
     requires image { valid image.now ≡ true }
     requires root { root ≡ Words.root (read image.now).rules }
-    requires trie { Built (read image.now) n nodes.old }
+    requires trie { Built (read image.now) (length trie.old) trie.old }
     requires size { length table.old ≡ length (table_of (read image.now)) }
     ensures { table.new ≡ table_of (read image.now) }
 {
+    let n = trie.len();
     let s = image::symbols(image);
     table[0] = n as u16;
     table[1] = s as u16;
     let rows = 2 + n;
-    rows::fill(image, root, nodes, n, &mut table[rows..]);
-    rows::write_matches(image, nodes, n, &mut table[2..rows]);
+    rows::fill(image, root, trie, &mut table[rows..]);
+    rows::write_matches(image, trie, &mut table[2..rows]);
 }
 
 // Compile for a valid image, with nodes for the trie. It is built first, since the number of states decides whether the
@@ -47,7 +48,7 @@ fn compile_with(image: &[u8], root: usize, nodes: &mut [Node], table: &mut [u16]
     if table.len() < words {
         return Compiled::Refused(8);
     }
-    write(image, root, nodes, n, &mut table[..words]);
+    write(image, root, &mut nodes[..n], &mut table[..words]);
     Compiled::Words(words)
 }
 
@@ -79,7 +80,7 @@ fn begins_by(image: &[u8], root: usize, nodes: &mut [Node], table: &[u16]) -> bo
 {
     trie::begin(image, root, nodes);
     let n = trie::build(image, root, nodes);
-    compare::holds(image, root, nodes, n, table)
+    compare::holds(image, root, &mut nodes[..n], table)
 }
 
 // The same, with an array of the rule set's size.

@@ -46,7 +46,7 @@ use Rattle.trie.specs.Nodes.{
 use Rattle.trie.proofs.Tally.{tally-none}
 use Rattle.trie.proofs.Growth.{node_once}
 use Rattle.trie.proofs.Nodes.{node_same, node_other}
-use Rattle.trie.proofs.Kept.{trie_kept, claimed_other, claimed_failure, claimed_kept}
+use Rattle.trie.proofs.Kept.{trie_kept, taken_length, taken_node, trie_taken, claimed_other, claimed_failure, claimed_kept}
 use Rattle.trie.proofs.Walking.{take-rule, few_first, symbols_within, symbols_next}
 
 -- the rule has this mark and this left side
@@ -347,3 +347,13 @@ build_last set words i n at t b far =
       owned = rw whole at b.grown.owned;
       nodes = rw whole at b.nodes;
     }
+
+-- the trie is the same without the nodes that are not in use
+pub built_taken : (set : RuleSet) (n : ℕ) (t : List Node) → Built set n t → Built set (length (take n t)) (take n t)
+built_taken set n t b =
+    rw b.nodes
+    (record {
+      trie = trie_taken b.trie;
+      owned = λ c h. ap (λ (x : Node). x.matched) (taken_node b.trie c) ∙ b.owned c h;
+      nodes = taken_length b.trie;
+    })

@@ -7,12 +7,14 @@ use mathlib.Core.Bool.{Bool, true, false, cond}
 use mathlib.Core.Logic.{◌≢◌, ◌⊎◌, inl, inr}
 use mathlib.Core.List.{List}
 use native.Mathlib.Omega.{arith}
-use lib.Dec.{eqb}
-use lib.ListN.{length, set, length-set}
+use lib.Dec.{eqb, ltb}
+use lib.ListN.{length, get_or, take, set, length-set, get_or-eq_default}
+use lib.Seq.{get_or-take, length-take-le}
+use borrow.Author.Tests.{ltb-true, ltb-false}
 use Rattle.rewriting.proofs.Lists.{same_or}
 use Rattle.layout.specs.Words.{own_or}
 use Rattle.trie.specs.declared.Node.{Node}
-use Rattle.trie.specs.Nodes.{node, parent, symbol, depth, youngest, older, children, matched, failure, Linked, Trie, claimed}
+use Rattle.trie.specs.Nodes.{unused, node, parent, symbol, depth, youngest, older, children, matched, failure, Linked, Trie, claimed}
 use Rattle.trie.specs.Rows.{noted}
 use Rattle.trie.proofs.Nodes.{node_same, node_other}
 
@@ -22,7 +24,7 @@ links x = record x { matched = 0; failure = 0 }
 
 -- t' is t but for match words and failure states of the first n nodes
 pub record Kept (n : ℕ) (t t' : List Node) : Type 0 where
-  pub size : length t' ≡ length t
+  pub size : n ≤ length t → n ≤ length t'
   pub kept : (c : ℕ) → links (node t' c) ≡ links (node t c)
   pub rest : (c : ℕ) → n ≤ c → node t' c ≡ node t c
 
@@ -48,7 +50,7 @@ module _ {n : ℕ} {t t' : List Node} (k : Kept n t t') where
   linked_kept : {root : ℕ} → Linked root t n → Linked root t' n
   linked_kept l =
       record {
-        size = rw k.size l.size;
+        size = k.size l.size;
         up = λ c pos h. rw (parent_kept c) (l.up c pos h);
         young = λ q h. rw (youngest_kept q) (l.young q h);
         young_of = λ q h pos. rw (youngest_kept q, parent_kept (youngest t q)) (l.young_of q h (rw (youngest_kept q) at pos));
@@ -79,11 +81,31 @@ trie_kept {root} {s} kept fails h =
       clear = λ c far. kept.rest c far ∙ h.clear c far;
     }
 
+-- the nodes of the states alone, without those behind the last
+module _ {root : ℕ} {s : List (List ℕ)} {symbols : ℕ} {t : List Node} (h : Trie root s symbols t) where
+  pub taken_length : length (take (length s) t) ≡ length s
+  taken_length = length-take-le (length s) t h.linked.size
+
+  pub taken_node : (c : ℕ) → node (take (length s) t) c ≡ node t c
+  taken_node c = go (ltb c (length s)) refl
+    where
+      go : (b : Bool) → ltb c (length s) ≡ b → node (take (length s) t) c ≡ node t c
+      go true e = get_or-take (length s) t c unused (ltb-true c (length s) e)
+      go false e =
+          let far = ltb-false c (length s) e in
+          get_or-eq_default (take (length s) t) unused (omega (arith, taken_length, far)) ∙ sym (h.clear c far)
+
+  pub trie_taken : Trie root s symbols (take (length s) t)
+  trie_taken =
+      trie_kept
+      (record { size = λ l. omega (arith, taken_length); kept = λ c. ap links (taken_node c); rest = λ c far. taken_node c })
+      (ap (λ (x : Node). x.failure) (taken_node 0) ∙ h.mark_failure) h
+
 -- a node is stored with the same links
 pub kept_set : {n : ℕ} (t : List Node) (q : ℕ) (x : Node) → q < n → q < length t → links x ≡ links (node t q) → Kept n t (set t q x)
 kept_set t q x h inside same =
     record {
-      size = length-set t q x;
+      size = λ h. rw length-set h;
       kept = λ c. kept c (same_or q c);
       rest = λ c far. node_other t q c x (λ e. omega arith);
     }
@@ -117,7 +139,7 @@ module _ (t : List Node) (q i : ℕ) where
     where
       go : (b : Bool) → Kept n t (cond b (set t q (record (node t q) { matched = i + 1 })) t)
       go true = kept_set t q (record (node t q) { matched = i + 1 }) h inside refl
-      go false = record { size = refl; kept = λ c. refl; rest = λ c far. refl }
+      go false = record { size = λ h. h; kept = λ c. refl; rest = λ c far. refl }
 
 -- the failure state f and the match word of node q are noted
 module _ (t : List Node) (q f : ℕ) (inside : q < length t) where

@@ -13,16 +13,16 @@ use crate::{Node, failure_of};
 use image::wide;
 
 // Each node's number into the row of its parent.
-fn lay_children(image: &[u8], root: usize, trie: &[Node], n: usize, rows: &mut [u16])
+fn lay_children(image: &[u8], root: usize, trie: &[Node], rows: &mut [u16])
     requires image_value { valid image.now ≡ true }
     requires root { root ≡ Words.root (read image.now).rules }
     requires trie { TrieOf (read image.now) trie.now }
-    requires count { n ≡ length (states (read image.now).rules) }
-    requires clear { rows.old ≡ replicate (n * (read image.now).symbols) 0 }
+    requires count { length trie.now ≡ length (states (read image.now).rules) }
+    requires clear { rows.old ≡ replicate (length trie.now * (read image.now).symbols) 0 }
     ensures { Laid (read image.now) rows.new }
 {
     let s = image::symbols(image);
-    for c in root + 1..n {
+    for c in root + 1..trie.len() {
         let p = wide::word(trie[c].parent);
         let a = wide::word(trie[c].symbol);
         rows[p * s + a] = c as u16;
@@ -91,15 +91,15 @@ fn fill_state(image: &[u8], root: usize, trie: &mut [Node], rows: &mut [u16], q:
 }
 
 // The states of depth d, whose turn it is.
-fn fill_depth(image: &[u8], root: usize, trie: &mut [Node], rows: &mut [u16], n: usize, d: u16)
+fn fill_depth(image: &[u8], root: usize, trie: &mut [Node], rows: &mut [u16], d: u16)
     requires image_value { valid image.now ≡ true }
     requires root { root ≡ Words.root (read image.now).rules }
-    requires count { n ≡ length (states (read image.now).rules) }
+    requires count { length trie.old ≡ length (states (read image.now).rules) }
     requires some { 0 < d }
     requires filling { FillingAt (read image.now) d 0 trie.old rows.old }
     ensures { FillingAt (read image.now) (d + 1) 0 trie.new rows.new }
 {
-    for q in 0..n {
+    for q in 0..trie.len() {
         if trie[q].depth == d {
             fill_state(image, root, trie, rows, q);
         }
@@ -120,30 +120,29 @@ fn longest(image: &[u8]) -> usize
 
 // The rows of the table, and its match words in the nodes: short states before long, as a failure state is shorter. A state has at
 // most the symbols of the longest left side, and the mark where there is one.
-pub fn fill(image: &[u8], root: usize, trie: &mut [Node], n: usize, rows: &mut [u16])
+pub fn fill(image: &[u8], root: usize, trie: &mut [Node], rows: &mut [u16])
     requires image_value { valid image.now ≡ true }
     requires root { root ≡ Words.root (read image.now).rules }
-    requires trie { Built (read image.now) n trie.old }
+    requires trie { Built (read image.now) (length trie.old) trie.old }
     requires room { length rows.old ≡ length (states (read image.now).rules) * (read image.now).symbols }
     ensures { Filled (read image.now) trie.old trie.new rows.new }
 {
     rows.fill(0);
-    lay_children(image, root, trie, n, rows);
+    lay_children(image, root, trie, rows);
     if 0 < root {
         fill_root(rows, image::symbols(image), root);
     }
     let end = longest(image) + root + 1;
     for d in 1..end as u16 {
-        fill_depth(image, root, trie, rows, n, d);
+        fill_depth(image, root, trie, rows, d);
     }
 }
 
 // The match words from the nodes.
-pub fn write_matches(image: &[u8], trie: &[Node], n: usize, words: &mut [u16])
+pub fn write_matches(image: &[u8], trie: &[Node], words: &mut [u16])
     requires matches { Matched (read image.now) trie.now }
-    requires count { n ≡ length (states (read image.now).rules) }
-    requires nodes { n ≤ length trie.now }
-    requires size { length words.old ≡ n }
+    requires count { length trie.now ≡ length (states (read image.now).rules) }
+    requires size { length words.old ≡ length trie.now }
     ensures { words.new ≡ map (λ q. match_word (matching (read image.now).rules q)) (states (read image.now).rules) }
 {
     for (q, word) in words.iter_mut().enumerate() {

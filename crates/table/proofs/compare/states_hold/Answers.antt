@@ -29,7 +29,7 @@ use Rattle.table.proofs.compare.states_hold.Goals as goal
 
 -- what the check is lent
 lent : (c : Start) (s : ℕ) → s ≡ (read c.args.image.now).symbols
-    → Lent (read c.args.image.now) c.args.trie.now c.args.matches.now c.args.rows.now c.args.n s c.args.root
+    → Lent (read c.args.image.now) c.args.trie.now c.args.matches.now c.args.rows.now (length c.args.trie.now) s c.args.root
 lent c s width =
     record {
       in_range_lem = valid-in_range c.args.image.now c.requires.image_value;

@@ -65,7 +65,7 @@ pub fill_depth-requires : goal.fill_depth-requires
 fill_depth-requires c = record {
   image_value = c.requires.image_value;
   root = c.requires.root;
-  count = c.requires.trie.nodes;
+  count = c.loop-d.invariant.2 ∙ c.requires.trie.nodes;
   some = c.loop-d.invariant.0;
   filling = c.loop-d.invariant.3;
 }

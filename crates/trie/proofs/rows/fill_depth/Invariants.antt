@@ -7,7 +7,7 @@ use Rattle.trie.proofs.rows.fill_depth.Given as goal
 
 abbrev pub invariant-loop-q : goal.invariant-loop-q
 invariant-loop-q l =
-    (l.q ≤ l.n) × (length l.trie ≡ length l.initial.trie) × (length l.rows ≡ length l.initial.rows) × FillingAt (read l.image) l.d l.q l.trie l.rows
+    (l.q ≤ length l.initial.trie) × (length l.trie ≡ length l.initial.trie) × (length l.rows ≡ length l.initial.rows) × FillingAt (read l.image) l.d l.q l.trie l.rows
 
 abbrev pub decreases-loop-q : goal.decreases-loop-q
-decreases-loop-q l = l.n - l.q
+decreases-loop-q l = length l.initial.trie - l.q

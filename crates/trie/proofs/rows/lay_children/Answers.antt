@@ -24,7 +24,7 @@ bounds : (c : In-loop-c) → Within c.args.trie.now c.loop-c.rows (read c.args.i
 bounds c =
     let set = read c.args.image.now in
     within set c.args.trie.now c.loop-c.rows (valid-in_range c.args.image.now c.requires.image_value) c.requires.trie
-    (sized set c.args.rows.now c.loop-c.rows c.args.n c.requires.count c.requires.clear c.loop-c.invariant.2) c.loop-c.c
+    (sized set c.args.rows.now c.loop-c.rows (length c.args.trie.now) c.requires.count c.requires.clear c.loop-c.invariant.2) c.loop-c.c
     (rw c.requires.root at c.loop-c.invariant.0) (omega arith)
 
 -- the word that is stored is the one of the node in its parent's row
@@ -91,7 +91,7 @@ loop-c-preserved c =
       simp length-set turn.invariant.2,
       rw (place c)
           (laid_more (read c.args.image.now) c.args.trie.now turn.rows turn.c c.requires.trie
-          (sized (read c.args.image.now) c.args.rows.now turn.rows c.args.n c.requires.count c.requires.clear turn.invariant.2)
+          (sized (read c.args.image.now) c.args.rows.now turn.rows (length c.args.trie.now) c.requires.count c.requires.clear turn.invariant.2)
           (rw c.requires.root at turn.invariant.0) (omega arith) turn.invariant.3),
     )
 
@@ -100,5 +100,5 @@ returns c =
     let turn = c.loop-c in
     let all : turn.c ≡ length (states (read c.args.image.now).rules) = omega arith in
     laid_all (read c.args.image.now) turn.rows
-    (sized (read c.args.image.now) c.args.rows.now turn.rows c.args.n c.requires.count c.requires.clear turn.invariant.2)
+    (sized (read c.args.image.now) c.args.rows.now turn.rows (length c.args.trie.now) c.requires.count c.requires.clear turn.invariant.2)
     (rw all at turn.invariant.3)

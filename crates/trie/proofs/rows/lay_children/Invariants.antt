@@ -7,7 +7,7 @@ use Rattle.trie.proofs.rows.lay_children.Given as goal
 
 abbrev pub invariant-loop-c : goal.invariant-loop-c
 invariant-loop-c l =
-    (l.root < l.c) × (l.c ≤ l.n) × (length l.rows ≡ length l.initial.rows) × LaidBelow (read l.image) l.rows l.c
+    (l.root < l.c) × (l.c ≤ length l.trie) × (length l.rows ≡ length l.initial.rows) × LaidBelow (read l.image) l.rows l.c
 
 abbrev pub decreases-loop-c : goal.decreases-loop-c
-decreases-loop-c l = l.n - l.c
+decreases-loop-c l = length l.trie - l.c
