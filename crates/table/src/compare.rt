@@ -140,13 +140,7 @@ fn state_holds(trie: &[Node], matches: &[u16], rows: &[u16], s: usize, q: usize)
 // Every state's tests, in the order of their numbers, so that its parent and its parent's failure state are known when a
 // state is reached. Keeps each state's failure state in its node, after both looks at its parent: a word that was read before a
 // store is read again behind it.
-fn states_hold(
-    image: &[u8],
-    root: usize,
-    trie: &mut [Node],
-    matches: &[u16],
-    rows: &[u16],
-) -> bool
+fn states_hold(image: &[u8], root: usize, trie: &mut [Node], matches: &[u16], rows: &[u16]) -> bool
     requires image_value { valid image.now ≡ true }
     requires root_value { root ≡ Words.root (read image.now).rules }
     requires built { Built (read image.now) (length trie.old) trie.old }

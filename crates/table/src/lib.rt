@@ -62,10 +62,10 @@ pub fn compile(image: &[u8], table: &mut [u16]) -> Compiled
     if 0 < validity {
         let root = wide::byte(validity - 1);
         if image::bodies_length(image) < 63 {
-            let mut few = [Node::ZERO; FEW_NODES];
+            let mut few = [Node::UNUSED; FEW_NODES];
             return compile_with(image, root, &mut few, table);
         }
-        let mut nodes = [Node::ZERO; NODES];
+        let mut nodes = [Node::UNUSED; NODES];
         return compile_with(image, root, &mut nodes, table);
     }
     Compiled::Refused(7)
@@ -90,10 +90,10 @@ fn begins_with_table(image: &[u8], root: usize, table: &[u16]) -> bool
     ensures { result ≡ prefix (table_of (read image.now)) table.now }
 {
     if image::bodies_length(image) < 63 {
-        let mut few = [Node::ZERO; FEW_NODES];
+        let mut few = [Node::UNUSED; FEW_NODES];
         return begins_by(image, root, &mut few, table);
     }
-    let mut nodes = [Node::ZERO; NODES];
+    let mut nodes = [Node::UNUSED; NODES];
     begins_by(image, root, &mut nodes, table)
 }
 

@@ -9,8 +9,8 @@ use mathlib.Core.List.{List, [], ◌∷◌, ◌++◌, flat_map}
 use native.Mathlib.Omega.{arith}
 use native.Mathlib.Numerals.{add-one}
 use lib.Dec.{eqb, ltb}
-use lib.ListN.{length, get_or, take, replicate, length-set, set as store}
-use lib.Seq.{take_all, length-take-le, set-get_or, get_or-set_same, get_or-set_other}
+use lib.ListN.{length, get_or, take, replicate, length-set}
+use lib.Seq.{take_all, length-take-le, set-get_or}
 use borrow.Author.Tests.{eqb-true, eqb-false, ne_eqb, ltb-true, ltb-false}
 use Rattle.rewriting.specs.Lists.{alike, same}
 use Rattle.rewriting.specs.Rules.{Rule, RuleSet, rule, in_range}

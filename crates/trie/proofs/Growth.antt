@@ -1,7 +1,7 @@
 -- How the trie grows: following a symbol from a node leads to the state with that symbol added, which gets the next number
 -- when it is new.
 -- Assumes nothing.
-use Prim.Native.Nat.{ℕ, suc, ◌+◌, ◌*◌, ◌≤◌, ◌<◌}
+use Prim.Native.Nat.{ℕ, suc, ◌+◌, ◌≤◌, ◌<◌}
 use mathlib.Core.Path.{◌≡◌, refl, sym, ap, ◌∙◌}
 use mathlib.Core.Bool.{Bool, true, false, ◌||◌, or-false}
 use mathlib.Core.Logic.{◌≢◌, ◌⊎◌, inl, inr}
@@ -147,6 +147,10 @@ module _ (root : ℕ) (s : List (List ℕ)) (symbols : ℕ) (t : List Node) (h :
   more_new : get_or (s ++ (get_or s q [] ++ a ∷ []) ∷ []) (length s) [] ≡ get_or s q [] ++ a ∷ []
   more_new = get_or_at s (get_or s q [] ++ a ∷ []) [] [] (length s) refl
 
+  -- its node was not in use
+  fresh : node t (length s) ≡ unused
+  fresh = h.clear (length s) (omega arith)
+
   -- what is known with the new state
   more_known : (v : List ℕ) → known (s ++ (get_or s q [] ++ a ∷ []) ∷ []) v ≡ (known s v || same (get_or s q [] ++ a ∷ []) v)
   unfolding known
@@ -220,7 +224,7 @@ module _ (root : ℕ) (s : List (List ℕ)) (symbols : ℕ) (t : List Node) (h :
           (rw (more_known (get_or s c [] ++ b ∷ []), not_new (get_or s c []) b (λ p _. other (node_once root s symbols t h c q lt hq p)))
           (or-false (known s (get_or s c [] ++ b ∷ []))))))
       go (inr e) (inr other) =
-          rw (e, ap (λ (x : Node). x.children) (added_node t (length s) q a hq room), more_new)
+          rw (e, ap (λ (x : Node). x.children) (added_node t (length s) q a hq room), fresh, more_new)
           (sym
           (tally-none (λ b. known (s ++ (get_or s q [] ++ a ∷ []) ∷ []) (get_or s q [] ++ a ∷ [] ++ b ∷ [])) symbols
           (λ b low. rw (more_known (get_or s q [] ++ a ∷ [] ++ b ∷ []), unknown b low, longer b))))
@@ -244,7 +248,7 @@ module _ (root : ℕ) (s : List (List ℕ)) (symbols : ℕ) (t : List Node) (h :
   pub trie_added : Trie root (s ++ (get_or s q [] ++ a ∷ []) ∷ []) symbols (added t (length s) q a)
   trie_added =
       record {
-        linked = rw more_length (linked_added root t (length s) q a h.some_node hq room h.linked);
+        linked = rw more_length (linked_added root t (length s) q a h.some_node hq room h.linked fresh);
         low_root = h.low_root;
         some_node = rw more_length (omega (arith, h.some_node));
         root-empty = more_old root h.some_node ∙ h.root-empty;
@@ -273,7 +277,8 @@ module _ (root : ℕ) (s : List (List ℕ)) (symbols : ℕ) (t : List Node) (h :
           → matched (added t (length s) q a) c ≡ match_word (own rules (get_or (s ++ (get_or s q [] ++ a ∷ []) ∷ []) c []))
       go (inl lt) = rw (matched_old t (length s) q a hq room c lt, more_old c lt) (owned c lt)
       go (inr e) =
-          rw (e, more_new, low) (ap (λ (x : Node). x.matched) (added_node t (length s) q a hq room))
+          rw (e, more_new, low)
+          (ap (λ (x : Node). x.matched) (added_node t (length s) q a hq room) ∙ ap (λ (x : Node). x.matched) fresh)
 
 -- A symbol followed from node q, whatever was there.
 module _ (root : ℕ) (s : List (List ℕ)) (symbols : ℕ) (t : List Node) (h : Trie root s symbols t) (q a : ℕ) (hq : q < length s) (small : a < symbols)

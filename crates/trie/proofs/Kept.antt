@@ -8,7 +8,7 @@ use mathlib.Core.Logic.{◌≢◌, ◌⊎◌, inl, inr}
 use mathlib.Core.List.{List}
 use native.Mathlib.Omega.{arith}
 use lib.Dec.{eqb, ltb}
-use lib.ListN.{length, get_or, take, set, length-set, get_or-eq_default}
+use lib.ListN.{length, take, set, length-set, get_or-eq_default}
 use lib.Seq.{get_or-take, length-take-le}
 use borrow.Author.Tests.{ltb-true, ltb-false}
 use Rattle.rewriting.proofs.Lists.{same_or}

@@ -1,7 +1,7 @@
 -- Laws of the trie's nodes: looking for a child, and adding one, with which the links still hold.
 -- Assumes nothing.
-use Prim.Native.Nat.{ℕ, suc, ◌+◌, ◌*◌, ◌≤◌, ◌<◌}
-use mathlib.Core.Path.{◌≡◌, refl, sym, ap, ◌∙◌}
+use Prim.Native.Nat.{ℕ, suc, ◌+◌, ◌≤◌, ◌<◌}
+use mathlib.Core.Path.{◌≡◌, sym, ap, ◌∙◌}
 use mathlib.Core.Logic.{◌≢◌, ◌⊎◌, inl, inr}
 use mathlib.Core.List.{List}
 use native.Mathlib.Omega.{arith}
@@ -74,25 +74,25 @@ module _ (t : List Node) (n q a : ℕ) (lt : q < n) (room : n < length t) where
   unfolding added
   added_size = simp length-set
 
-  pub added_node : node (added t n q a) n ≡ record unused { parent = q; symbol = a; depth = depth t q + 1; older = youngest t q }
+  pub added_node : node (added t n q a) n ≡ record (node t n) { parent = q; symbol = a; depth = depth t q + 1; older = youngest t q }
   unfolding added
   added_node =
-      node_other (set t n (record unused { parent = q; symbol = a; depth = depth t q + 1; older = youngest t q })) q n
+      node_other (set t n (record (node t n) { parent = q; symbol = a; depth = depth t q + 1; older = youngest t q })) q n
       (record (node t q) { youngest = n; children = children t q + 1 }) (λ e. omega arith)
-      ∙ node_same t n (record unused { parent = q; symbol = a; depth = depth t q + 1; older = youngest t q }) room
+      ∙ node_same t n (record (node t n) { parent = q; symbol = a; depth = depth t q + 1; older = youngest t q }) room
 
   added_above : node (added t n q a) q ≡ record (node t q) { youngest = n; children = children t q + 1 }
   unfolding added
   added_above =
-      node_same (set t n (record unused { parent = q; symbol = a; depth = depth t q + 1; older = youngest t q })) q
+      node_same (set t n (record (node t n) { parent = q; symbol = a; depth = depth t q + 1; older = youngest t q })) q
       (record (node t q) { youngest = n; children = children t q + 1 }) (rw length-set (omega arith))
 
   pub added_other : (c : ℕ) → c ≢ n → c ≢ q → node (added t n q a) c ≡ node t c
   unfolding added
   added_other c h1 h2 =
-      node_other (set t n (record unused { parent = q; symbol = a; depth = depth t q + 1; older = youngest t q })) q c
+      node_other (set t n (record (node t n) { parent = q; symbol = a; depth = depth t q + 1; older = youngest t q })) q c
       (record (node t q) { youngest = n; children = children t q + 1 }) h2
-      ∙ node_other t n c (record unused { parent = q; symbol = a; depth = depth t q + 1; older = youngest t q }) h1
+      ∙ node_other t n c (record (node t n) { parent = q; symbol = a; depth = depth t q + 1; older = youngest t q }) h1
 
   pub added_parent : parent (added t n q a) n ≡ q
   added_parent = ap (λ (x : Node). x.parent) added_node
@@ -147,7 +147,8 @@ module _ (t : List Node) (n q a : ℕ) (lt : q < n) (room : n < length t) where
   children_old c h other = ap (λ (x : Node). x.children) (added_other c (λ e. omega arith) other)
 
 -- the links hold with the new node
-module _ (root : ℕ) (t : List Node) (n q a : ℕ) (low : root < n) (lt : q < n) (room : n < length t) (l : Linked root t n) where
+module _ (root : ℕ) (t : List Node) (n q a : ℕ) (low : root < n) (lt : q < n) (room : n < length t) (l : Linked root t n)
+    (fresh : node t n ≡ unused) where
   up' : (c : ℕ) → root < c → c < suc n → parent (added t n q a) c < c
   up' c some h = go (last_or n c h)
     where
@@ -156,7 +157,7 @@ module _ (root : ℕ) (t : List Node) (n q a : ℕ) (low : root < n) (lt : q < n
       go (inr e) = rw (e, added_parent t n q a lt room) lt
 
   young_new : youngest (added t n q a) n ≡ 0
-  young_new = ap (λ (x : Node). x.youngest) (added_node t n q a lt room)
+  young_new = ap (λ (x : Node). x.youngest) (added_node t n q a lt room) ∙ ap (λ (x : Node). x.youngest) fresh
 
   young' : (p : ℕ) → p < suc n → youngest (added t n q a) p < suc n
   young' p h = go (last_or n p h) (same_or q p)

@@ -10,7 +10,7 @@ use native.Mathlib.Nat.{not-suc-le-zero}
 use lib.Dec.{eqb}
 use lib.ListN.{length, get_or, take, drop, set, length-set, length-drop, get_or-append}
 use lib.Seq.{get_or-set_same, get_or-set_other, length-take-le, set-append_left}
-use borrow.Rule.Slice.PartMut.{put_mid, post_of, put_same}
+use borrow.Rule.Slice.PartMut.{put_mid, post_of}
 use Rattle.std.proofs.lemmas.List.{set-append_right, get_or-append_right}
 use borrow.Author.Tests.{eqb-true, eqb-false}
 use Rattle.layout.specs.Words.{transition, own_or}

@@ -122,7 +122,7 @@ ChildOr root t n q a None = (c : ℕ) → IsChild root t n q a c → ⊥
 unfoldable pub added : List Node → ℕ → ℕ → ℕ → List Node
 added t n q a =
     set
-    (set t n (record unused { parent = q; symbol = a; depth = depth t q + 1; older = youngest t q }))
+    (set t n (record (node t n) { parent = q; symbol = a; depth = depth t q + 1; older = youngest t q }))
     q (record (node t q) { youngest = n; children = children t q + 1 })
 
 -- A symbol was followed from node q: to a child that was there, or to a node that was added.

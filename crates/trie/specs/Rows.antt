@@ -7,7 +7,7 @@ use Rattle.layout.specs.States.{next, matching, known, states, number}
 use Rattle.layout.specs.Table.{match_word, row}
 use Rattle.layout.specs.Words.{root, text, own, transition, own_or}
 use Rattle.trie.specs.declared.Node.{Node}
-use Rattle.trie.specs.Nodes.{node, matched, failure, TrieOf, RightFailure}
+use Rattle.trie.specs.Nodes.{node, matched, TrieOf, RightFailure}
 
 -- the child of state v by symbol a, 0 where it has none
 unfoldable pub child_number : List (List ℕ) → List ℕ → ℕ → ℕ

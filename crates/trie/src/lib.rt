@@ -1,5 +1,6 @@
-// The trie of the left sides, a node for each state. The nodes stand in a lent array and name each other by index: the library has no
-// heap, and its memory is fixed.
+// The trie of the left sides, a node for each state. The nodes stand in a lent array and name each other by index: the library has
+// no heap, and its memory is fixed. They are lent as a plain slice: a struct around it would be no plainer, since each contract would
+// say that it holds the same slice still, and what is known of the nodes changes from step to step.
 // What its functions ask, compile and check of the crate table have shown: it is the only one that calls them.
 #![tactic(auto)]
 
@@ -34,22 +35,26 @@ use image::wide;
 
 pub mod rows;
 
-// A node: its parent, the symbol by which that leads to it, how many symbols it has, its youngest child, its parent's next older child, how
-// many children it has, its match word and its failure state. specs/Nodes.antt says more.
+// A node. Of its links youngest and older name no node where they are 0.
 #[derive(Clone, Copy)]
 pub struct Node {
+    // the node of the state without its last symbol, and that symbol
     pub parent: u16,
     pub symbol: u16,
+    // how many symbols the state has
     pub depth: u16,
+    // its youngest child, its parent's next older child, and how many children it has
     pub youngest: u16,
     pub older: u16,
     pub children: u16,
+    // match word: first of the rules whose left side is the state itself, in the end the table's
     pub matched: u16,
+    // its failure state, once it is known
     pub failure: u16,
 }
 
 impl Node {
-    pub const ZERO: Self = Node {
+    pub const UNUSED: Self = Node {
         parent: 0,
         symbol: 0,
         depth: 0,
@@ -89,7 +94,8 @@ pub fn failure_of(trie: &[Node], rows: &[u16], s: usize, root: usize, q: usize) 
     wide::word(rows[f * s + a])
 }
 
-// The child of node q by symbol a. The root and the number of nodes are named for the contract alone.
+// The child of node q by symbol a. The root and the number of nodes are named for the contract alone. The loop follows links, which
+// are no items of anything.
 fn child(trie: &[Node], root: usize, n: usize, q: usize, a: u16) -> Option<usize>
     requires links { Linked root trie.now n }
     requires node { q < n }
@@ -112,19 +118,19 @@ fn add(trie: &mut [Node], n: usize, q: usize, a: u16)
     requires counts { (depth trie.old q < states_most) × (children trie.old q < states_most) }
     ensures { trie.new ≡ added trie.old n q a }
 {
-    let up = trie[q];
-    trie[n] = Node {
-        parent: q as u16,
-        symbol: a,
-        depth: up.depth + 1,
-        older: up.youngest,
-        ..Node::ZERO
-    };
-    trie[q] = Node {
-        youngest: n as u16,
-        children: up.children + 1,
-        ..up
-    };
+    let Node {
+        depth,
+        youngest,
+        ..
+    } = trie[q];
+    let new = &mut trie[n];
+    new.parent = q as u16;
+    new.symbol = a;
+    new.depth = depth + 1;
+    new.older = youngest;
+    let above = &mut trie[q];
+    above.youngest = n as u16;
+    above.children += 1;
 }
 
 // The child of node q by symbol a, added where there is none.
@@ -196,11 +202,11 @@ fn plant(trie: &mut [Node])
         parent: 1,
         depth: 1,
         failure: 1,
-        ..Node::ZERO
+        ..Node::UNUSED
     };
 }
 
-// The nodes before any rule, in nodes that are unused. Without a mark nothing is written. The image is named for the contract alone.
+// The nodes before any rule, where none is in use. Without a mark nothing is written. The image is named for the contract alone.
 pub fn begin(image: &[u8], root: usize, trie: &mut [Node])
     requires image { valid image.now ≡ true }
     requires root { root ≡ Words.root (read image.now).rules }

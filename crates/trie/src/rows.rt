@@ -12,7 +12,7 @@ ghost use Rattle.trie.specs.Rows.{Laid, Rooted, Merged, noted, FillingAt, Matche
 use crate::{Node, failure_of};
 use image::wide;
 
-// Each node's number into the row of its parent.
+// Each node's number, which the loop counts, into the row of its parent.
 fn lay_children(image: &[u8], root: usize, trie: &[Node], rows: &mut [u16])
     requires image_value { valid image.now ≡ true }
     requires root { root ≡ Words.root (read image.now).rules }
@@ -49,7 +49,7 @@ fn fill_root(rows: &mut [u16], s: usize, root: usize)
     }
 }
 
-// Each 0 in the row of q becomes the word of the row of f.
+// Each 0 in the row of q becomes the word of the row of f. By index: both rows lie in one slice, which an iterator would hold.
 fn merge(rows: &mut [u16], s: usize, q: usize, f: usize)
     requires own { q * s + s ≤ length rows.old }
     requires other { f * s + s ≤ length rows.old }
@@ -69,11 +69,10 @@ fn note(trie: &mut [Node], q: usize, f: usize)
     requires small { f < 65536 }
     ensures { trie.new ≡ noted trie.old q f }
 {
-    trie[q] = Node {
-        matched: chosen(trie[q].matched, trie[f].matched),
-        failure: f as u16,
-        ..trie[q]
-    };
+    let other = trie[f].matched;
+    let node = &mut trie[q];
+    node.matched = chosen(node.matched, other);
+    node.failure = f as u16;
 }
 
 // State q, whose turn it is: its failure state, match word and row.
@@ -90,7 +89,7 @@ fn fill_state(image: &[u8], root: usize, trie: &mut [Node], rows: &mut [u16], q:
     merge(rows, s, q, f);
 }
 
-// The states of depth d, whose turn it is.
+// The states of depth d, whose turn it is. By index: a turn takes all nodes, which an iterator would hold.
 fn fill_depth(image: &[u8], root: usize, trie: &mut [Node], rows: &mut [u16], d: u16)
     requires image_value { valid image.now ≡ true }
     requires root { root ≡ Words.root (read image.now).rules }
@@ -138,7 +137,7 @@ pub fn fill(image: &[u8], root: usize, trie: &mut [Node], rows: &mut [u16])
     }
 }
 
-// The match words from the nodes.
+// The match words from the nodes. These by index: of what is written behind a `zip` of `iter_mut` nothing is known.
 pub fn write_matches(image: &[u8], trie: &[Node], words: &mut [u16])
     requires matches { Matched (read image.now) trie.now }
     requires count { length trie.now ≡ length (states (read image.now).rules) }

@@ -1,5 +1,5 @@
 -- `table::compile_with` meets its contract: refused 8 where the table does not fit, else written.
-use mathlib.Core.Path.{sym, ◌∙◌}
+use mathlib.Core.Path.{◌∙◌}
 use native.Mathlib.Omega.{arith}
 use lib.Seq.{length-take-le}
 use Rattle.layout.proofs.Compilation.{compile_eight, compile_words}

@@ -1,6 +1,6 @@
 -- `table::compare::states_hold` meets its contract. The loop's invariant: the root, the mark and every state below q have passed, and
 -- the trie is as it was but for their failure states.
-use Prim.Native.Nat.{ℕ, ◌+◌, ◌*◌, ◌<◌}
+use Prim.Native.Nat.{ℕ, ◌<◌}
 use mathlib.Core.Path.{◌≡◌, refl, sym, ap, ◌∙◌}
 use mathlib.Core.Bool.{not}
 use native.Mathlib.Omega.{arith}

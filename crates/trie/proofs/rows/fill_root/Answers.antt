@@ -1,5 +1,5 @@
 -- `trie::rows::fill_root` meets its contract. The loop's invariant: the first words of the root's row are filled.
-use Prim.Native.Nat.{◌*◌, ◌<◌}
+use Prim.Native.Nat.{◌<◌}
 use mathlib.Core.Path.{◌≡◌, sym, ap, ◌∙◌}
 use native.Mathlib.Omega.{arith}
 use borrow.Rule.Slice.PartMut.{put_same}

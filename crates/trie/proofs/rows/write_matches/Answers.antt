@@ -1,8 +1,6 @@
 -- `trie::rows::write_matches` meets its contract. The loop's invariant: the first `q` words are the nodes' match words.
-use mathlib.Core.Path.{refl, ◌∙◌}
 use native.Mathlib.Omega.{arith}
 use native.Mathlib.Nat.{not-suc-le-zero}
-use lib.ListN.{length-set}
 use Rattle.layout.specs.Image.{read}
 use Rattle.trie.proofs.Filled.{written_more, written_all}
 use Rattle.trie.proofs.rows.write_matches.Goals as goal
