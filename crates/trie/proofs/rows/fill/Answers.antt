@@ -53,32 +53,21 @@ loop-d-init c =
       | else-root-gt0 w ↦ subst (λ (l : List ℕ). Rooted laid l set.symbols (root set.rules) set.symbols) (sym w.rows-is)
           (rooted_zero laid set.symbols (root set.rules) (omega (arith, w.if-root-gt0.false, c.requires.root)))
     ]
-    in (
-      omega arith,
-      omega arith,
-      refl,
-      filling_start set c.args.trie.now laid c.if-root-gt0.rows (valid-in_range c.args.image.now c.requires.image_value)
-          c.requires.trie.trie c.requires.trie.owned c.lay_children.ensures rooted,
-    )
+    in
+    filling_start set c.args.trie.now laid c.if-root-gt0.rows (valid-in_range c.args.image.now c.requires.image_value)
+    c.requires.trie.trie c.requires.trie.owned c.lay_children.ensures rooted
 
 pub fill_depth-requires : goal.fill_depth-requires
 fill_depth-requires c = record {
   image_value = c.requires.image_value;
   root = c.requires.root;
-  count = c.loop-d.invariant.2 ∙ c.requires.trie.nodes;
-  some = c.loop-d.invariant.0;
-  filling = c.loop-d.invariant.3;
+  count = c.loop-d.auto.trie ∙ c.requires.trie.nodes;
+  some = omega arith;
+  filling = c.loop-d.invariant;
 }
 
-pub loop-d-smaller : goal.loop-d-smaller
-loop-d-smaller c =
-    omega arith
-
 pub loop-d-preserved : goal.loop-d-preserved
-loop-d-preserved c =
-    let turn = c.loop-d in
-    let call = c.fill_depth in
-    (omega arith, omega arith, call.auto.trie ∙ turn.invariant.2, call.ensures)
+loop-d-preserved c = c.fill_depth.ensures
 
 pub returns : goal.returns
 returns c =
@@ -87,4 +76,4 @@ returns c =
     let longest = c.longest in
     let all : turn.d ≡ longest.result + root set.rules + 1 = omega (arith, c.requires.root) in
     filling_end set longest.result c.args.trie.now turn.trie turn.rows
-    (valid-in_range c.args.image.now c.requires.image_value) longest.ensures.1.covers turn.invariant.2 (rw all at turn.invariant.3)
+    (valid-in_range c.args.image.now c.requires.image_value) longest.ensures.1.covers turn.auto.trie (rw all at turn.invariant)

@@ -24,8 +24,8 @@ bounds : (c : In-loop-c) → Within c.args.trie.now c.loop-c.rows (read c.args.i
 bounds c =
     let set = read c.args.image.now in
     within set c.args.trie.now c.loop-c.rows (valid-in_range c.args.image.now c.requires.image_value) c.requires.trie
-    (sized set c.args.rows.now c.loop-c.rows (length c.args.trie.now) c.requires.count c.requires.clear c.loop-c.invariant.2) c.loop-c.c
-    (rw c.requires.root at c.loop-c.invariant.0) (omega arith)
+    (sized set c.args.rows.now c.loop-c.rows (length c.args.trie.now) c.requires.count c.requires.clear c.loop-c.auto.rows) c.loop-c.c
+    (omega (arith, c.requires.root)) (omega (arith, c.requires.count))
 
 -- the word that is stored is the one of the node in its parent's row
 place : (c : After-word-a)
@@ -44,15 +44,9 @@ overflow_step-c c =
 
 pub loop-c-init : goal.loop-c-init
 loop-c-init c =
-    let image = c.args.image.now in (
-      omega arith,
-      omega (arith, c.requires.root, root_below (read image).rules, c.requires.count),
-      refl,
-      rw c.requires.root
-          (laid_none (read image) c.args.rows.now c.requires.trie.few
-          (c.requires.clear
-          ∙ ap (λ (n : ℕ). replicate (n * (read image).symbols) 0) c.requires.count)),
-    )
+    rw c.requires.root
+    (laid_none (read c.args.image.now) c.args.rows.now c.requires.trie.few
+    (c.requires.clear ∙ ap (λ (n : ℕ). replicate (n * (read c.args.image.now).symbols) 0) c.requires.count))
 
 pub offset_bounds-trie-c-in-loop-c : goal.offset_bounds-trie-c-in-loop-c
 offset_bounds-trie-c-in-loop-c c = omega (arith, bounds (goal.at.offset_bounds-trie-c-in-loop-c c).In-loop-c)
@@ -85,20 +79,18 @@ loop-c-smaller c = omega arith
 
 pub loop-c-preserved : goal.loop-c-preserved
 loop-c-preserved c =
-    let turn = c.loop-c in (
-      omega arith,
-      omega arith,
-      simp length-set turn.invariant.2,
-      rw (place c)
-          (laid_more (read c.args.image.now) c.args.trie.now turn.rows turn.c c.requires.trie
-          (sized (read c.args.image.now) c.args.rows.now turn.rows (length c.args.trie.now) c.requires.count c.requires.clear turn.invariant.2)
-          (rw c.requires.root at turn.invariant.0) (omega arith) turn.invariant.3),
-    )
+    let turn = c.loop-c in
+    rw (place c)
+    (laid_more (read c.args.image.now) c.args.trie.now turn.rows turn.c c.requires.trie
+    (sized (read c.args.image.now) c.args.rows.now turn.rows (length c.args.trie.now) c.requires.count c.requires.clear turn.auto.rows)
+    (omega (arith, c.requires.root)) (omega (arith, c.requires.count)) turn.invariant)
 
 pub returns : goal.returns
 returns c =
     let turn = c.loop-c in
-    let all : turn.c ≡ length (states (read c.args.image.now).rules) = omega arith in
+    let all : turn.c ≡ length (states (read c.args.image.now).rules) =
+    omega (arith, c.requires.count, c.requires.root, root_below (read c.args.image.now).rules)
+    in
     laid_all (read c.args.image.now) turn.rows
-    (sized (read c.args.image.now) c.args.rows.now turn.rows (length c.args.trie.now) c.requires.count c.requires.clear turn.invariant.2)
-    (rw all at turn.invariant.3)
+    (sized (read c.args.image.now) c.args.rows.now turn.rows (length c.args.trie.now) c.requires.count c.requires.clear turn.auto.rows)
+    (rw all at turn.invariant)

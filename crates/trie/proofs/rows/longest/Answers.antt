@@ -42,7 +42,7 @@ larger a b = go (ltb b a) (b == a) refl
     go false false e = (omega (arith, ltb-false b a e), omega arith, λ m h k. k)
 
 pub loop-i-init : goal.loop-i-init
-loop-i-init c = (omega arith, omega arith, (λ k h. absurd (omega arith)), λ m all. omega arith)
+loop-i-init c = (omega arith, (λ k h. absurd (omega arith)), λ m all. omega arith)
 
 pub left_length-requires : goal.left_length-requires
 left_length-requires c = record {
@@ -58,17 +58,16 @@ loop-i-preserved c =
     let own = rule_at_lem (read image) (ranges (read image) (valid-in_range image c.requires)) i is_rule in
     let long = c.left_length.ensures in
     let most = rw (← c.max-most.ensures) at (larger c.loop-i.most c.left_length.result) in (
-      omega arith,
-      most.2 8 c.loop-i.invariant.1 (omega (arith, own.short_left, long)),
-      longer i (read image).rules c.loop-i.most c.max-most.result c.loop-i.invariant.2 most.0 (omega (arith, long, most.1)),
-      λ m all. most.2 m (c.loop-i.invariant.3 m (λ k h. all k (omega arith))) (omega (arith, all i (omega arith), long)),
+      most.2 8 c.loop-i.invariant.0 (omega (arith, own.short_left, long)),
+      longer i (read image).rules c.loop-i.most c.max-most.result c.loop-i.invariant.1 most.0 (omega (arith, long, most.1)),
+      λ m all. most.2 m (c.loop-i.invariant.2 m (λ k h. all k (omega arith))) (omega (arith, all i (omega arith), long)),
     )
 
 pub returns : goal.returns
 returns c = (
-  c.loop-i.invariant.1,
+  c.loop-i.invariant.0,
   record {
-    covers = λ i h. c.loop-i.invariant.2 i (omega (arith, c.rules-i-end.ensures));
-    least = λ m all. c.loop-i.invariant.3 m (λ k h. all k (omega (arith, c.rules-i-end.ensures)));
+    covers = λ i h. c.loop-i.invariant.1 i (omega (arith, c.rules-i-end.ensures));
+    least = λ m all. c.loop-i.invariant.2 m (λ k h. all k (omega (arith, c.rules-i-end.ensures)));
   },
 )
