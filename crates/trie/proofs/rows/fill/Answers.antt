@@ -1,45 +1,16 @@
 -- `trie::rows::fill` meets its contract. The loop's invariant: the states of depth below `d` are done.
-use Prim.Native.Nat.{ℕ, ◌+◌, ◌*◌}
-use mathlib.Core.Path.{◌≡◌, refl, sym, ap, subst, ◌∙◌}
+use Prim.Native.Nat.{ℕ, ◌+◌}
+use mathlib.Core.Path.{◌≡◌, sym, subst}
 use mathlib.Core.List.{List}
 use native.Mathlib.Omega.{arith}
-use lib.ListN.{length, replicate}
 use Rattle.layout.specs.Image.{read}
 use Rattle.layout.specs.Words.{root}
 use Rattle.layout.proofs.Image.{valid-in_range}
-use Rattle.layout.proofs.States.{root_below, root_small}
-use Rattle.layout.proofs.RowPlaces.{row_end}
-use Rattle.layout.specs.States.{states}
 use Rattle.trie.specs.Rows.{Rooted}
 use Rattle.trie.proofs.RowWords.{rooted_zero}
 use Rattle.trie.proofs.Filled.{filling_start, filling_end}
 use Rattle.trie.proofs.rows.fill.Goals.{else-root-gt0, then-root-gt0}
 use Rattle.trie.proofs.rows.fill.Goals as goal
-
-pub lay_children-requires : goal.lay_children-requires
-lay_children-requires c =
-    let symbols = (read c.args.image.now).symbols in record {
-      image_value = c.requires.image_value;
-      root = c.requires.root;
-      trie = c.requires.trie.trie;
-      count = c.requires.trie.nodes;
-      clear = c.fill.ensures.after (λ y e. e)
-          ∙ ap (λ (k : ℕ). replicate k 0) (c.requires.room ∙ ap (λ (k : ℕ). k * symbols) (sym c.requires.trie.nodes));
-    }
-
-pub fill_root-requires : goal.fill_root-requires
-fill_root-requires c =
-    let image = c.args.image.now in
-    let end = row_end (read image).symbols c.args.root (length (states (read image).rules))
-    (omega (arith, c.requires.root, root_below (read image).rules)) in record {
-      own = rw c.symbols.ensures
-          (omega (arith, c.lay_children.auto.rows, c.fill.ensures.len, c.requires.room, end));
-      low = omega (arith, c.requires.root, root_small (read image).rules);
-    }
-
-pub overflow_cast-d-end : goal.overflow_cast-d-end
-overflow_cast-d-end c =
-    omega (arith, c.requires.root, root_small (read c.args.image.now).rules)
 
 pub loop-d-init : goal.loop-d-init
 loop-d-init c =
@@ -56,18 +27,6 @@ loop-d-init c =
     in
     filling_start set c.args.trie.now laid c.if-root-gt0.rows (valid-in_range c.args.image.now c.requires.image_value)
     c.requires.trie.trie c.requires.trie.owned c.lay_children.ensures rooted
-
-pub fill_depth-requires : goal.fill_depth-requires
-fill_depth-requires c = record {
-  image_value = c.requires.image_value;
-  root = c.requires.root;
-  count = c.loop-d.auto.trie ∙ c.requires.trie.nodes;
-  some = omega arith;
-  filling = c.loop-d.invariant;
-}
-
-pub loop-d-preserved : goal.loop-d-preserved
-loop-d-preserved c = c.fill_depth.ensures
 
 pub returns : goal.returns
 returns c =

@@ -1,36 +1,12 @@
 -- `table::rows::fill_depth` meets its contract. The loop's invariant: of the states of depth `d` those below `q` are done.
-use mathlib.Core.Path.{◌≡◌, refl, ◌∙◌}
+use mathlib.Core.Path.{◌≡◌}
 use native.Mathlib.Omega.{arith}
 use lib.ListN.{length}
 use Rattle.layout.specs.Image.{read}
 use Rattle.layout.specs.States.{states}
-use Rattle.trie.proofs.Turns.{filling_other, filling_skip, filling_longer}
+use Rattle.trie.proofs.Turns.{filling_skip, filling_longer}
 use Rattle.trie.proofs.rows.fill_depth.Goals.{else-trie-q, then-trie-q}
 use Rattle.trie.proofs.rows.fill_depth.Goals as goal
-
-pub loop-q-init : goal.loop-q-init
-loop-q-init c =
-    c.requires.filling
-
-pub offset_bounds-trie-q : goal.offset_bounds-trie-q
-offset_bounds-trie-q c = omega (arith, c.loop-q.invariant.trie.linked.size)
-
-pub bounds-trie-q : goal.bounds-trie-q
-bounds-trie-q c = omega (arith, c.loop-q.invariant.trie.linked.size)
-
-pub fill_state-requires : goal.fill_state-requires
-fill_state-requires c =
-    let turn = c.loop-q in
-    let deep = c.if-trie-q.true in record {
-      image_value = c.requires.image_value;
-      root = c.requires.root;
-      state = (
-        filling_other (read c.args.image.now) c.args.d turn.q turn.trie turn.rows c.requires.some deep
-            (omega arith) turn.invariant c.args.root c.requires.root,
-        omega arith,
-      );
-      filling = rw deep turn.invariant;
-    }
 
 pub loop-q-preserved : goal.loop-q-preserved
 loop-q-preserved c =

@@ -1,15 +1,15 @@
 -- `table::rows::lay_children` meets its contract. The loop's invariant: the children below `c` are laid.
 use Prim.Native.Nat.{ℕ, ◌+◌, ◌*◌}
-use mathlib.Core.Path.{◌≡◌, refl, ap, ◌∙◌}
+use mathlib.Core.Path.{◌≡◌, ap, ◌∙◌}
 use native.Mathlib.Omega.{arith}
-use lib.ListN.{length, replicate, length-set, length-replicate}
+use lib.ListN.{length, replicate, length-replicate}
 use mathlib.Core.List.{List}
 use Rattle.rewriting.specs.Rules.{RuleSet}
 use Rattle.layout.specs.Image.{read}
 use Rattle.layout.proofs.Image.{valid-in_range}
 use Rattle.layout.specs.States.{states}
 use Rattle.trie.specs.Nodes.{parent, symbol}
-use Rattle.layout.proofs.States.{root_below, root_small}
+use Rattle.layout.proofs.States.{root_below}
 use Rattle.trie.proofs.Laying.{laid_none, laid_more, laid_all, Within, within}
 use Rattle.trie.proofs.rows.lay_children.Goals.{After-word-a, In-loop-c}
 use Rattle.trie.proofs.rows.lay_children.Goals as goal
@@ -38,44 +38,15 @@ place : (c : After-word-a)
 place c =
     rw (c.word-p.ensures, c.symbols-s.ensures, c.word-a.ensures)
 
-pub overflow_step-c : goal.overflow_step-c
-overflow_step-c c =
-    omega (arith, c.requires.root, root_small (read c.args.image.now).rules)
-
 pub loop-c-init : goal.loop-c-init
 loop-c-init c =
     rw c.requires.root
     (laid_none (read c.args.image.now) c.args.rows.now c.requires.trie.few
     (c.requires.clear ∙ ap (λ (n : ℕ). replicate (n * (read c.args.image.now).symbols) 0) c.requires.count))
 
-pub offset_bounds-trie-c-in-loop-c : goal.offset_bounds-trie-c-in-loop-c
-offset_bounds-trie-c-in-loop-c c = omega (arith, bounds (goal.at.offset_bounds-trie-c-in-loop-c c).In-loop-c)
-
-pub bounds-trie-c-in-loop-c : goal.bounds-trie-c-in-loop-c
-bounds-trie-c-in-loop-c c = omega (arith, bounds (goal.at.bounds-trie-c-in-loop-c c).In-loop-c)
-
 pub overflow_cast-rows : goal.overflow_cast-rows
 overflow_cast-rows c =
     omega (arith, bounds (goal.at.overflow_cast-rows c).In-loop-c)
-
-pub overflow_mul-rows : goal.overflow_mul-rows
-overflow_mul-rows c =
-    omega (arith, place c, bounds (goal.at.overflow_mul-rows c).In-loop-c)
-
-pub overflow_add-rows : goal.overflow_add-rows
-overflow_add-rows c =
-    omega (arith, place c, bounds (goal.at.overflow_add-rows c).In-loop-c)
-
-pub offset_bounds-rows-p : goal.offset_bounds-rows-p
-offset_bounds-rows-p c =
-    omega (arith, place c, bounds (goal.at.offset_bounds-rows-p c).In-loop-c)
-
-pub bounds-rows-p : goal.bounds-rows-p
-bounds-rows-p c =
-    omega (arith, place c, bounds (goal.at.bounds-rows-p c).In-loop-c)
-
-pub loop-c-smaller : goal.loop-c-smaller
-loop-c-smaller c = omega arith
 
 pub loop-c-preserved : goal.loop-c-preserved
 loop-c-preserved c =

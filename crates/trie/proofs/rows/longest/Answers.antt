@@ -41,15 +41,6 @@ larger a b = go (ltb b a) (b == a) refl
     go false true e = (omega (arith, ltb-false b a e), omega arith, λ m h k. k)
     go false false e = (omega (arith, ltb-false b a e), omega arith, λ m h k. k)
 
-pub loop-i-init : goal.loop-i-init
-loop-i-init c = (omega arith, (λ k h. absurd (omega arith)), λ m all. omega arith)
-
-pub left_length-requires : goal.left_length-requires
-left_length-requires c = record {
-  image_value = c.requires;
-  i_in_bounds = omega (arith, c.rules-i-end.ensures);
-}
-
 pub loop-i-preserved : goal.loop-i-preserved
 loop-i-preserved c =
     let image = c.args.image.now in
@@ -62,12 +53,3 @@ loop-i-preserved c =
       longer i (read image).rules c.loop-i.most c.max-most.result c.loop-i.invariant.1 most.0 (omega (arith, long, most.1)),
       λ m all. most.2 m (c.loop-i.invariant.2 m (λ k h. all k (omega arith))) (omega (arith, all i (omega arith), long)),
     )
-
-pub returns : goal.returns
-returns c = (
-  c.loop-i.invariant.0,
-  record {
-    covers = λ i h. c.loop-i.invariant.1 i (omega (arith, c.rules-i-end.ensures));
-    least = λ m all. c.loop-i.invariant.2 m (λ k h. all k (omega (arith, c.rules-i-end.ensures)));
-  },
-)
