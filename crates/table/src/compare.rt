@@ -6,13 +6,13 @@ ghost use Rattle.layout.specs.Image.{read, valid};
 ghost use Rattle.layout.specs.ImageCheck.{Decides};
 ghost use Rattle.rewriting.specs.Lists.{prefix};
 ghost use Rattle.layout.specs.Table.{table_of};
-ghost use Rattle.trie.specs.Nodes.{children_at, failure_at, symbol_at, parent, symbol, matched, failure, Built};
+ghost use Rattle.trie.specs.Nodes.{parent, symbol, matched, failure, Built};
 ghost use Rattle.layout.specs.Words as Words;
 ghost use Rattle.layout.specs.Words.{transition, own_or};
 ghost use Rattle.table.specs.Consistent.{differing, leaving, Passes, RootPassed, MarkPassed, RightTable};
 
 use image::wide;
-use trie::{CHILDREN, FAILURE, MATCH, NODE, SYMBOL, failure_of};
+use trie::{Node, failure_of};
 
 // How many words of the rows of q and f differ. Where a row begins is worked out once, before the loop. The loop counts to the
 // end, so that it compares many words at once.
@@ -52,35 +52,35 @@ fn transitions(rows: &[u16], s: usize, root: usize) -> u16
 }
 
 // The state that the parent of node q leads to by q's symbol.
-fn led_to(trie: &[u16], rows: &[u16], s: usize, q: usize) -> usize
-    requires node { symbol_at q < length trie.now }
+fn led_to(trie: &[Node], rows: &[u16], s: usize, q: usize) -> usize
+    requires node { q < length trie.now }
     requires row { parent trie.now q * s + symbol trie.now q < length rows.now }
     ensures { result ≡ transition rows.now s (parent trie.now q) (symbol trie.now q) }
 {
-    let p = wide::word(trie[NODE * q]);
-    let a = wide::word(trie[NODE * q + SYMBOL]);
+    let p = wide::word(trie[q].parent);
+    let a = wide::word(trie[q].symbol);
     wide::word(rows[p * s + a])
 }
 
 // The match word that node q should have: its own, or else its failure state's.
-fn inherited(trie: &[u16], matches: &[u16], q: usize) -> u16
-    requires node { failure_at q < length trie.now }
+fn inherited(trie: &[Node], matches: &[u16], q: usize) -> u16
+    requires node { q < length trie.now }
     requires word { failure trie.now q < length matches.now }
     ensures { result ≡ own_or (matched trie.now q) (get_or matches.now (failure trie.now q) 0) }
 {
-    let own = trie[NODE * q + MATCH];
+    let own = trie[q].matched;
     if own != 0 {
         return own;
     }
-    let f = wide::word(trie[NODE * q + FAILURE]);
+    let f = wide::word(trie[q].failure);
     matches[f]
 }
 
 // The tests of the root.
-fn root_holds(trie: &[u16], matches: &[u16], rows: &[u16], s: usize, root: usize) -> bool
+fn root_holds(trie: &[Node], matches: &[u16], rows: &[u16], s: usize, root: usize) -> bool
     requires few { s ≤ 32 }
     requires low { root ≤ 1 }
-    requires node { children_at root < length trie.now }
+    requires node { root < length trie.now }
     requires word { root < length matches.now }
     requires row { root * s + s ≤ length rows.now }
     ensures { Decides result (RootPassed trie.now matches.now rows.now s root) }
@@ -89,7 +89,7 @@ fn root_holds(trie: &[u16], matches: &[u16], rows: &[u16], s: usize, root: usize
         return false;
     }
     let n = transitions(rows, s, root);
-    if n != trie[NODE * root + CHILDREN] {
+    if n != trie[root].children {
         return false;
     }
     true
@@ -97,9 +97,9 @@ fn root_holds(trie: &[u16], matches: &[u16], rows: &[u16], s: usize, root: usize
 
 // The tests of the mark alone, which no state leads to: it has no match, and its row differs from the root's in as many words as it
 // has children.
-fn mark_holds(trie: &[u16], matches: &[u16], rows: &[u16], s: usize, root: usize) -> bool
+fn mark_holds(trie: &[Node], matches: &[u16], rows: &[u16], s: usize, root: usize) -> bool
     requires few { s ≤ 32 }
-    requires node { children_at 0 < length trie.now }
+    requires node { 0 < length trie.now }
     requires word { 0 < length matches.now }
     requires own { 0 * s + s ≤ length rows.now }
     requires other { root * s + s ≤ length rows.now }
@@ -109,16 +109,16 @@ fn mark_holds(trie: &[u16], matches: &[u16], rows: &[u16], s: usize, root: usize
         return false;
     }
     let n = differences(rows, s, 0, root);
-    if n != trie[CHILDREN] {
+    if n != trie[0].children {
         return false;
     }
     true
 }
 
 // The tests of state q, which its parent leads to, and whose failure state its node holds.
-fn state_holds(trie: &[u16], matches: &[u16], rows: &[u16], s: usize, q: usize) -> bool
+fn state_holds(trie: &[Node], matches: &[u16], rows: &[u16], s: usize, q: usize) -> bool
     requires few { s ≤ 32 }
-    requires node { failure_at q < length trie.now }
+    requires node { q < length trie.now }
     requires led { transition rows.now s (parent trie.now q) (symbol trie.now q) ≡ q }
     requires words { (q < length matches.now) × (failure trie.now q < length matches.now) }
     requires own { q * s + s ≤ length rows.now }
@@ -129,9 +129,9 @@ fn state_holds(trie: &[u16], matches: &[u16], rows: &[u16], s: usize, q: usize) 
     if m != matches[q] {
         return false;
     }
-    let f = wide::word(trie[NODE * q + FAILURE]);
+    let f = wide::word(trie[q].failure);
     let n = differences(rows, s, q, f);
-    if n != trie[NODE * q + CHILDREN] {
+    if n != trie[q].children {
         return false;
     }
     true
@@ -140,21 +140,15 @@ fn state_holds(trie: &[u16], matches: &[u16], rows: &[u16], s: usize, q: usize) 
 // Every state's tests, in the order of their numbers, so that its parent and its parent's failure state are known when a
 // state is reached. Keeps each state's failure state in its node, after both looks at its parent: a word that was read before a
 // store is read again behind it.
-fn states_hold(
-    image: &[u8],
-    root: usize,
-    trie: &mut [u16],
-    n: usize,
-    matches: &[u16],
-    rows: &[u16],
-) -> bool
+fn states_hold(image: &[u8], root: usize, trie: &mut [Node], matches: &[u16], rows: &[u16]) -> bool
     requires image_value { valid image.now ≡ true }
     requires root_value { root ≡ Words.root (read image.now).rules }
-    requires built { Built (read image.now) n trie.old }
-    requires n_value { (n ≡ length matches.now) × (n * (read image.now).symbols ≡ length rows.now) }
+    requires built { Built (read image.now) (length trie.old) trie.old }
+    requires n_value { (length trie.old ≡ length matches.now) × (length trie.old * (read image.now).symbols ≡ length rows.now) }
     ensures { Decides result
         (RightTable (read image.now).rules (read image.now).symbols matches.now rows.now) }
 {
+    let n = trie.len();
     let s = image::symbols(image);
     if !root_holds(trie, matches, rows, s, root) {
         return false;
@@ -173,7 +167,7 @@ fn states_hold(
         if f >= n {
             return false;
         }
-        trie[NODE * q + FAILURE] = f as u16;
+        trie[q].failure = f as u16;
         if !state_holds(trie, matches, rows, s, q) {
             return false;
         }
@@ -181,14 +175,15 @@ fn states_hold(
     true
 }
 
-// Whether the table begins with the words that compile gives for the image, by the trie of its n states: N, S, and every
+// Whether the table begins with the words that compile gives for the image, by the trie of its states: N, S, and every
 // state's tests. Keeps each state's failure state in its node of the trie.
-pub(crate) fn holds(image: &[u8], root: usize, trie: &mut [u16], n: usize, table: &[u16]) -> bool
+pub(crate) fn holds(image: &[u8], root: usize, trie: &mut [Node], table: &[u16]) -> bool
     requires image_value { valid image.now ≡ true }
     requires root_value { root ≡ Words.root (read image.now).rules }
-    requires built { Built (read image.now) n trie.old }
+    requires built { Built (read image.now) (length trie.old) trie.old }
     ensures { result ≡ prefix (table_of (read image.now)) table.now }
 {
+    let n = trie.len();
     let s = image::symbols(image);
     let first = 2 + n;
     let end = first + n * s;
@@ -201,5 +196,5 @@ pub(crate) fn holds(image: &[u8], root: usize, trie: &mut [u16], n: usize, table
     if wide::word(table[1]) != s {
         return false;
     }
-    states_hold(image, root, trie, n, &table[2..first], &table[first..end])
+    states_hold(image, root, trie, &table[2..first], &table[first..end])
 }

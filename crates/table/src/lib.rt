@@ -9,36 +9,37 @@ ghost use Rattle.layout.specs.Refusals.{numbered};
 ghost use Rattle.layout.specs.Compile.{compile_of};
 ghost use Rattle.layout.specs.TableCheck.{check_of};
 ghost use Rattle.layout.specs.Words as Words;
-ghost use Rattle.trie.specs.Nodes.{Roomy, Built};
+ghost use Rattle.trie.specs.Nodes.{unused, Roomy, Built};
 
 use image::wide;
 use layout::Refusal;
-use trie::{FEW_WORDS, WORDS, rows};
+use trie::{FEW_NODES, NODES, Node, rows};
 
 mod compare;
 
-// The table of the image, into an area of its length, from the trie of its n states.
-fn write(image: &[u8], root: usize, nodes: &mut [u16], n: usize, table: &mut [u16])
+// The table of the image, into an area of its length, from the trie of its states.
+fn write(image: &[u8], root: usize, trie: &mut [Node], table: &mut [u16])
     requires image { valid image.now ≡ true }
     requires root { root ≡ Words.root (read image.now).rules }
-    requires trie { Built (read image.now) n nodes.old }
+    requires trie { Built (read image.now) (length trie.old) trie.old }
     requires size { length table.old ≡ length (table_of (read image.now)) }
     ensures { table.new ≡ table_of (read image.now) }
 {
+    let n = trie.len();
     let s = image::symbols(image);
     table[0] = n as u16;
     table[1] = s as u16;
     let rows = 2 + n;
-    rows::fill(image, root, nodes, n, &mut table[rows..]);
-    rows::write_matches(image, nodes, n, &mut table[2..rows]);
+    rows::fill(image, root, trie, &mut table[rows..]);
+    rows::write_matches(image, trie, &mut table[2..rows]);
 }
 
-// Compile for a valid image, with words for the trie. It is built first, since the number of states decides whether the
+// Compile for a valid image, with nodes for the trie. It is built first, since the number of states decides whether the
 // table fits.
-fn compile_with(image: &[u8], root: usize, nodes: &mut [u16], table: &mut [u16]) -> Result<usize, Refusal>
+fn compile_with(image: &[u8], root: usize, nodes: &mut [Node], table: &mut [u16]) -> Result<usize, Refusal>
     requires image { valid image.now ≡ true }
     requires root { root ≡ Words.root (read image.now).rules }
-    requires words { (nodes.old ≡ replicate (length nodes.old) 0) × (Roomy (read image.now) (length nodes.old)) }
+    requires nodes { (nodes.old ≡ replicate (length nodes.old) unused) × (Roomy (read image.now) (length nodes.old)) }
     ensures answer { numbered result ≡ (compile_of image.now table.old).answer }
     ensures area { table.new ≡ (compile_of image.now table.old).area }
 {
@@ -48,7 +49,7 @@ fn compile_with(image: &[u8], root: usize, nodes: &mut [u16], table: &mut [u16])
     if table.len() < words {
         return Err(Refusal::ShortTable);
     }
-    write(image, root, nodes, n, &mut table[..words]);
+    write(image, root, &mut nodes[..n], &mut table[..words]);
     Ok(words)
 }
 
@@ -62,25 +63,25 @@ pub fn compile(image: &[u8], table: &mut [u16]) -> Result<usize, Refusal>
     if 0 < validity {
         let root = wide::byte(validity - 1);
         if image::bodies_length(image) < 63 {
-            let mut few = [0u16; FEW_WORDS];
+            let mut few = [Node::UNUSED; FEW_NODES];
             return compile_with(image, root, &mut few, table);
         }
-        let mut nodes = [0u16; WORDS];
+        let mut nodes = [Node::UNUSED; NODES];
         return compile_with(image, root, &mut nodes, table);
     }
     return Err(Refusal::BadImage);
 }
 
-// Whether the table begins with that of a valid image, with words for the trie.
-fn begins_by(image: &[u8], root: usize, nodes: &mut [u16], table: &[u16]) -> bool
+// Whether the table begins with that of a valid image, with nodes for the trie.
+fn begins_by(image: &[u8], root: usize, nodes: &mut [Node], table: &[u16]) -> bool
     requires image { valid image.now ≡ true }
     requires root { root ≡ Words.root (read image.now).rules }
-    requires words { (nodes.old ≡ replicate (length nodes.old) 0) × (Roomy (read image.now) (length nodes.old)) }
+    requires nodes { (nodes.old ≡ replicate (length nodes.old) unused) × (Roomy (read image.now) (length nodes.old)) }
     ensures { result ≡ prefix (table_of (read image.now)) table.now }
 {
     trie::begin(image, root, nodes);
     let n = trie::build(image, root, nodes);
-    compare::holds(image, root, nodes, n, table)
+    compare::holds(image, root, &mut nodes[..n], table)
 }
 
 // The same, with an array of the rule set's size.
@@ -90,10 +91,10 @@ fn begins_with_table(image: &[u8], root: usize, table: &[u16]) -> bool
     ensures { result ≡ prefix (table_of (read image.now)) table.now }
 {
     if image::bodies_length(image) < 63 {
-        let mut few = [0u16; FEW_WORDS];
+        let mut few = [Node::UNUSED; FEW_NODES];
         return begins_by(image, root, &mut few, table);
     }
-    let mut nodes = [0u16; WORDS];
+    let mut nodes = [Node::UNUSED; NODES];
     begins_by(image, root, &mut nodes, table)
 }
 

@@ -7,12 +7,12 @@ pub begins_by-requires : goal.begins_by-requires
 begins_by-requires c = record {
   image = c.requires.image;
   root = c.requires.root;
-  words = (refl, roomy_small _ (rw c.bodies_length.ensures at c.if-bodies_length-lt63.true));
+  nodes = (refl, roomy_small _ (rw c.bodies_length.ensures at c.if-bodies_length-lt63.true));
 }
 
 pub begins_by-requires-2 : goal.begins_by-requires-2
 begins_by-requires-2 c = record {
   image = c.requires.image;
   root = c.requires.root;
-  words = (refl, roomy_large _ c.requires.image);
+  nodes = (refl, roomy_large _ c.requires.image);
 }

@@ -24,14 +24,14 @@ compile_with-requires c =
     let few = rw c.bodies_length.ensures at c.if-bodies_length-lt63.true in record {
       image = good (goal.at.compile_with-requires c).After-byte-root;
       root = right (goal.at.compile_with-requires c).After-byte-root;
-      words = (refl, roomy_small _ few);
+      nodes = (refl, roomy_small _ few);
     }
 
 pub compile_with-requires-then-validity-gt0 : goal.compile_with-requires-then-validity-gt0
 compile_with-requires-then-validity-gt0 c = record {
   image = good (goal.at.compile_with-requires-then-validity-gt0 c).After-byte-root;
   root = right (goal.at.compile_with-requires-then-validity-gt0 c).After-byte-root;
-  words = (refl, roomy_large _ (good (goal.at.compile_with-requires-then-validity-gt0 c).After-byte-root));
+  nodes = (refl, roomy_large _ (good (goal.at.compile_with-requires-then-validity-gt0 c).After-byte-root));
 }
 
 pub returns : goal.returns

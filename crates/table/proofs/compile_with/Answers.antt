@@ -1,8 +1,9 @@
 -- `table::compile_with` meets its contract: refused 8 where the table does not fit, else written.
-use mathlib.Core.Path.{sym, ◌∙◌}
+use mathlib.Core.Path.{◌∙◌}
 use native.Mathlib.Omega.{arith}
 use lib.Seq.{length-take-le}
 use Rattle.layout.proofs.Compilation.{compile_eight, compile_words}
+use Rattle.trie.proofs.Building.{built_taken}
 use Rattle.table.proofs.Written.{words_built}
 use Rattle.table.proofs.compile_with.Goals as goal
 
@@ -10,7 +11,7 @@ pub build-n-requires : goal.build-n-requires
 build-n-requires c = record {
   image = c.requires.image;
   root = c.requires.root;
-  trie = (c.begin.ensures.0, rw c.begin.ensures.1 c.requires.words.1);
+  trie = (c.begin.ensures.0, rw c.begin.ensures.1 c.requires.nodes.1);
 }
 
 pub overflow_mul-words : goal.overflow_mul-words
@@ -30,16 +31,12 @@ returns-then-table-words c =
     compile_eight _ _ c.requires.image (rw (← words.0) c.if-table-words.true)
     in record { answer = p.0; area = p.1 }
 
-pub slice_bounds-write-end-2 : goal.slice_bounds-write-end-2
-slice_bounds-write-end-2 c =
-    sym (length-take-le _ _ c.if-table-words.false)
-
 pub write-requires : goal.write-requires
 write-requires c =
     let words = words_built _ c.requires.image _ _ c.build-n.ensures _ c.symbols.ensures in record {
       image = c.requires.image;
       root = c.requires.root;
-      trie = c.build-n.ensures;
+      trie = built_taken _ _ _ c.build-n.ensures;
       size = length-take-le _ _ c.if-table-words.false ∙ words.0;
     }
 

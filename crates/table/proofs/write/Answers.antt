@@ -1,6 +1,6 @@
 -- `table::write` meets its contract: the first two words, the rows, and the match words between them are the table.
 use Prim.Native.Nat.{◌+◌, ◌≤◌}
-use mathlib.Core.Path.{refl}
+use mathlib.Core.Path.{refl, sym, ◌∙◌}
 use native.Mathlib.Omega.{arith}
 use lib.ListN.{length, length-set}
 use Rattle.rewriting.proofs.Ranges.{ranges}
@@ -12,7 +12,7 @@ use Rattle.table.proofs.write.Goals.{Start}
 use Rattle.table.proofs.write.Goals as goal
 
 -- the area has room for the first words
-some : (c : Start) → 2 + c.args.n ≤ length c.args.table.now
+some : (c : Start) → 2 + length c.args.trie.now ≤ length c.args.table.now
 some c = area_some (read c.args.image.now) c.args.table.now c.requires.trie.nodes refl c.requires.size
 
 pub overflow_cast-table : goal.overflow_cast-table
@@ -62,11 +62,11 @@ pub write_matches-requires : goal.write_matches-requires
 write_matches-requires c =
     let trie = c.requires.trie in record {
       matches = c.fill.ensures.matches;
-      count = trie.nodes;
-      nodes = omega (arith, c.fill.ensures.size, trie.trie.linked.size, trie.nodes);
+      count = c.fill.ensures.size ∙ trie.nodes;
       size = matches_room (read c.args.image.now) c.args.table.now c.requires.trie.nodes
           c.symbols-s.ensures c.requires.size
-          c.fill.new.rows c.fill.ensures.table;
+          c.fill.new.rows c.fill.ensures.table
+          ∙ sym c.fill.ensures.size;
     }
 
 pub returns : goal.returns

@@ -1,7 +1,6 @@
 -- `table::trie::failure_of` meets its contract: by its parent's failure state and that state's row.
 use Prim.Native.Nat.{◌+◌, ◌*◌, ◌<◌}
 use mathlib.Core.Path.{sym, ◌∙◌}
-use native.Mathlib.Omega.{arith}
 use lib.ListN.{length}
 use borrow.Author.Tests.{eq-eqb}
 use Rattle.trie.specs.Nodes.{failure_by}
@@ -20,18 +19,6 @@ inside c =
 pub returns-then-p-root : goal.returns-then-p-root
 unfolding failure_by
 returns-then-p-root c = rw (eq-eqb _ _ (sym c.word-p.ensures ∙ c.if-p-root.true))
-
-pub overflow_mul-f : goal.overflow_mul-f
-overflow_mul-f c = omega (arith, inside c)
-
-pub overflow_add-f : goal.overflow_add-f
-overflow_add-f c = omega (arith, inside c)
-
-pub offset_bounds-rows-f : goal.offset_bounds-rows-f
-offset_bounds-rows-f c = omega (arith, inside c)
-
-pub bounds-rows-f : goal.bounds-rows-f
-bounds-rows-f c = inside (goal.at.bounds-rows-f c).After-word-f
 
 pub returns : goal.returns
 returns c =

@@ -2,6 +2,7 @@
 use Prim.Native.Nat.{◌+◌, ◌*◌, ◌≤◌}
 use mathlib.Core.Path.{sym, ◌∙◌}
 use native.Mathlib.Omega.{arith}
+use lib.ListN.{length}
 use Rattle.layout.specs.Image.{read}
 use Rattle.layout.proofs.Image.{valid-in_range}
 use Rattle.table.proofs.Compared.{table_small, part_lengths, short_table, other_states, other_symbols, compared}
@@ -10,7 +11,7 @@ use Rattle.table.proofs.compare.holds.Goals as goal
 
 -- the table's words are few
 small : (c : After-symbols-s)
-    → 2 + c.args.n + c.args.n * c.symbols-s.result ≤ 16964
+    → 2 + length c.args.trie.now + length c.args.trie.now * c.symbols-s.result ≤ 16964
 small c =
     table_small (read c.args.image.now) c.args.table.now c.requires.built.nodes c.symbols-s.ensures
     (valid-in_range c.args.image.now c.requires.image_value)

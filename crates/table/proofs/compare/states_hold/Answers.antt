@@ -1,6 +1,6 @@
 -- `table::compare::states_hold` meets its contract. The loop's invariant: the root, the mark and every state below q have passed, and
 -- the trie is as it was but for their failure states.
-use Prim.Native.Nat.{ℕ, ◌+◌, ◌*◌, ◌<◌}
+use Prim.Native.Nat.{ℕ, ◌<◌}
 use mathlib.Core.Path.{◌≡◌, refl, sym, ap, ◌∙◌}
 use mathlib.Core.Bool.{not}
 use native.Mathlib.Omega.{arith}
@@ -29,7 +29,7 @@ use Rattle.table.proofs.compare.states_hold.Goals as goal
 
 -- what the check is lent
 lent : (c : Start) (s : ℕ) → s ≡ (read c.args.image.now).symbols
-    → Lent (read c.args.image.now) c.args.trie.now c.args.matches.now c.args.rows.now c.args.n s c.args.root
+    → Lent (read c.args.image.now) c.args.trie.now c.args.matches.now c.args.rows.now (length c.args.trie.now) s c.args.root
 lent c s width =
     record {
       in_range_lem = valid-in_range c.args.image.now c.requires.image_value;
@@ -44,8 +44,7 @@ lent c s width =
 
 -- the node's last word stands in the trie
 node_of : (c : Else-f-n)
-    → 8 * c.loop-q.q + 7
-    < length c.loop-q.trie
+    → c.loop-q.q < length c.loop-q.trie
 node_of c =
     node_room c.loop-q.invariant.1 c.loop-q-test.true
 
@@ -117,14 +116,6 @@ returns-then-f-n c =
 pub overflow_cast-trie : goal.overflow_cast-trie
 overflow_cast-trie c =
     omega (arith, c.if-f-n.false, c.loop-q.invariant.1.few)
-
-pub overflow_mul-trie : goal.overflow_mul-trie
-overflow_mul-trie c =
-    omega (arith, node_of c)
-
-pub overflow_add-trie : goal.overflow_add-trie
-overflow_add-trie c =
-    omega (arith, node_of c)
 
 pub offset_bounds-trie-q : goal.offset_bounds-trie-q
 offset_bounds-trie-q c =

@@ -1,5 +1,5 @@
 -- `table::rows::fill_state` meets its contract: by the failure state, whose own row and match word are done.
-use Prim.Native.Nat.{ℕ, ◌+◌, ◌*◌, ◌<◌}
+use Prim.Native.Nat.{ℕ, ◌<◌}
 use mathlib.Core.Path.{◌≡◌, sym, ◌∙◌, ap}
 use mathlib.Core.Bool.{true}
 use native.Mathlib.Omega.{arith}
@@ -21,7 +21,7 @@ other : (c : Start) → c.args.q ≡ root (read c.args.image.now).rules → ⊥
 other c e = c.requires.state.0 (e ∙ sym c.requires.root)
 
 bounds : (c : Start)
-    → (8 * c.args.q + 7 < length c.args.trie.now) × (8 * parent c.args.trie.now c.args.q + 7 < length c.args.trie.now)
+    → (c.args.q < length c.args.trie.now) × (parent c.args.trie.now c.args.q < length c.args.trie.now)
 bounds c =
     nodes_within (read c.args.image.now) c.args.q c.args.trie.now c.args.rows.now c.requires.filling (in_range_lem c) (other c)
     c.requires.state.1
