@@ -22,7 +22,7 @@ use Rattle.layout.specs.Table.{match_word}
 use Rattle.layout.specs.Words.{root, text, own, NoLonger, transition, own_or}
 use Rattle.trie.specs.declared.Node.{Node}
 use Rattle.trie.specs.Nodes.{matched, TrieOf, Owned}
-use Rattle.trie.specs.Rows.{child_number, Laid, Rooted, reached, FillingAt, Matched, Filled}
+use Rattle.trie.specs.Rows.{child_number, Laid, RootFilled, reached, FillingAt, Matched, Filled}
 use Rattle.layout.proofs.States.{next_listed, root_below, root-text, number-root, child_some, state_long, short_state}
 use Rattle.layout.proofs.RowPlaces.{row_apart}
 use Rattle.layout.proofs.Table.{matches_whole, rows_whole}
@@ -55,7 +55,7 @@ reached-root rules c other below =
 
 -- With the children laid and the root's row filled, the empty state is done.
 pub filling_start : (set : RuleSet) (t : List Node) (rows rows' : List ℕ) → in_range set ≡ true → TrieOf set t → Owned set.rules (states set.rules) t
-    → Laid set rows → Rooted rows rows' set.symbols (root set.rules) set.symbols → FillingAt set 1 0 t rows'
+    → Laid set rows → RootFilled rows rows' set.symbols (root set.rules) set.symbols → FillingAt set 1 0 t rows'
 filling_start set t rows rows' e trie owned laid rooted =
     record {
       trie = trie;

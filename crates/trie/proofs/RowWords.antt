@@ -14,7 +14,7 @@ use borrow.Rule.Slice.PartMut.{put_mid, post_of}
 use Rattle.std.proofs.lemmas.List.{set-append_right, get_or-append_right}
 use borrow.Author.Tests.{eqb-true, eqb-false}
 use Rattle.layout.specs.Words.{transition, own_or}
-use Rattle.trie.specs.Rows.{Rooted, Merged}
+use Rattle.trie.specs.Rows.{RootFilled, Merged}
 use Rattle.layout.proofs.RowPlaces.{row_order}
 
 -- before the first word is merged
@@ -53,12 +53,12 @@ merged_more rows rows' s q f a fits h m v e =
         get_or-set_other rows' (q * s + a) (q * s + b) v 0 (λ x. differs (omega arith)) ∙ m.own b (omega arith)
 
 -- the root's row, word by word
-pub rooted_none : (rows : List ℕ) (s root : ℕ) → Rooted rows rows s root 0
+pub rooted_none : (rows : List ℕ) (s root : ℕ) → RootFilled rows rows s root 0
 rooted_none rows s root =
     record { size = refl; own = λ a h. absurd (not-suc-le-zero h); before = λ k h. refl; behind = λ k h. refl }
 
-pub rooted_more : (rows rows' : List ℕ) (s root a : ℕ) → root * s + s ≤ length rows → a < s → Rooted rows rows' s root a → (v : ℕ)
-    → v ≡ own_or (transition rows' s root a) root → Rooted rows (set rows' (root * s + a) v) s root (a + 1)
+pub rooted_more : (rows rows' : List ℕ) (s root a : ℕ) → root * s + s ≤ length rows → a < s → RootFilled rows rows' s root a → (v : ℕ)
+    → v ≡ own_or (transition rows' s root a) root → RootFilled rows (set rows' (root * s + a) v) s root (a + 1)
 rooted_more rows rows' s root a fits h m v e =
     record {
       size = length-set rows' (root * s + a) v ∙ m.size;
@@ -101,7 +101,7 @@ module _ (l m : List ℕ) (a s : ℕ) (within : a + s ≤ length l) (long : leng
       ∙ rw back (ap (λ (r : List ℕ). take a l ++ r) (set-append_left m (post_of a (a + s - a) l) j v (omega arith))))
 
 -- where the root is state 0 its row is right as it is
-pub rooted_zero : (rows : List ℕ) (s root : ℕ) → root ≡ 0 → Rooted rows rows s root s
+pub rooted_zero : (rows : List ℕ) (s root : ℕ) → root ≡ 0 → RootFilled rows rows s root s
 rooted_zero rows s root e =
     record { size = refl; own = λ a h. go (transition rows s root a); before = λ k h. refl; behind = λ k h. refl }
   where

@@ -20,7 +20,7 @@ pub record Laid (set : RuleSet) (rows : List ℕ) : Type 0 where
       → transition rows set.symbols c a ≡ child_number (states set.rules) (text set.rules c) a
 
 -- each 0 among the first n words of the root's row has become the root's number, and all else is as it was
-pub record Rooted (rows rows' : List ℕ) (symbols root n : ℕ) : Type 0 where
+pub record RootFilled (rows rows' : List ℕ) (symbols root n : ℕ) : Type 0 where
   pub size : length rows' ≡ length rows
   pub own : (a : ℕ) → a < n → transition rows' symbols root a ≡ own_or (transition rows symbols root a) root
   pub before : (k : ℕ) → k < root * symbols → get_or rows' k 0 ≡ get_or rows k 0

@@ -4,11 +4,10 @@
 // What its functions ask, compile and check of the crate table have shown: it is the only one that calls them.
 #![tactic(auto)]
 
-ghost use Rattle.std.specs.Prelude.{◌+◌, ◌*◌, ◌<◌, ◌≤◌, ◌≡◌, true, ◌≢◌, length, replicate};
-ghost use Rattle.layout.specs.Image.{read, valid};
+ghost use Rattle.std.specs.Prelude.{◌+◌, ◌*◌, ◌<◌, ◌≤◌, ◌≡◌, ◌≢◌, length, replicate};
 ghost use Rattle.layout.specs.Places.{left_at};
 ghost use Rattle.layout.specs.States.{states_most};
-ghost use Rattle.layout.specs.Words as Words;
+ghost use Rattle.image.specs.Sets.{set_of};
 ghost use Rattle.trie.specs.Nodes.{
   unused,
   parent,
@@ -31,7 +30,7 @@ ghost use Rattle.trie.specs.Nodes.{
   Built,
 };
 
-use image::wide;
+use image::Rooted;
 
 pub mod rows;
 
@@ -85,13 +84,13 @@ pub fn failure_of(trie: &[Node], rows: &[u16], s: usize, root: usize, q: usize) 
     requires row { parent trie.now q ≢ root → failure trie.now (parent trie.now q) * s + symbol trie.now q < length rows.now }
     ensures { result ≡ failure_by trie.now rows.now s root q }
 {
-    let p = wide::word(trie[q].parent);
+    let p = usize::from(trie[q].parent);
     if p == root {
         return root;
     }
-    let a = wide::word(trie[q].symbol);
-    let f = wide::word(trie[p].failure);
-    wide::word(rows[f * s + a])
+    let a = usize::from(trie[q].symbol);
+    let f = usize::from(trie[p].failure);
+    usize::from(rows[f * s + a])
 }
 
 // The child of node q by symbol a. The root and the number of nodes are named for the contract alone. The loop follows links, which
@@ -101,12 +100,12 @@ fn child(trie: &[Node], root: usize, n: usize, q: usize, a: u16) -> Option<usize
     requires node { q < n }
     ensures { ChildOr root trie.now n q a result }
 {
-    let mut c = wide::word(trie[q].youngest);
+    let mut c = usize::from(trie[q].youngest);
     while 0 < c {
         if trie[c].symbol == a {
             return Some(c);
         }
-        c = wide::word(trie[c].older);
+        c = usize::from(trie[c].older);
     }
     None
 }
@@ -163,30 +162,26 @@ fn claim(trie: &mut [Node], q: usize, i: usize)
 }
 
 // The node that the left side of rule i is followed from: 0, the mark's, where it has the mark, which makes the root 1.
-fn first_node(image: &[u8], root: usize, i: usize) -> usize
-    requires image { valid image.now ≡ true }
-    requires rule { i < length (read image.now).rules }
-    requires root { root ≡ Words.root (read image.now).rules }
-    ensures { result ≡ first_node (read image.now) i }
+fn first_node(rooted: Rooted<'_>, i: usize) -> usize
+    requires { i < length (set_of rooted.image).rules }
+    ensures { result ≡ first_node (set_of rooted.entry.image) i }
 {
-    root - image::mark(image, i)
+    rooted.root - rooted.image.mark(i)
 }
 
 // Follows the left side of rule i, which begins at byte `at`, in the trie of the n states of the rules before it: from the mark's
 // node where the rule has the mark, else from the root.
-fn walk(image: &[u8], root: usize, i: usize, at: usize, trie: &mut [Node], n: usize) -> Walked
-    requires image { valid image.now ≡ true }
-    requires root { root ≡ Words.root (read image.now).rules }
-    requires rule { (i < length (read image.now).rules) × (at ≡ left_at (read image.now) i) }
-    requires trie { (Grown (read image.now) i trie.old) × (Roomy (read image.now) (length trie.old)) }
-    requires nodes { n ≡ length (states_of (read image.now) i) }
-    ensures { (FollowedRule (read image.now) i result trie.new) × (length trie.new ≡ length trie.old) }
+fn walk(rooted: Rooted<'_>, i: usize, at: usize, trie: &mut [Node], n: usize) -> Walked
+    requires rule { (i < length (set_of rooted.image).rules) × (at ≡ left_at (set_of rooted.image) i) }
+    requires trie { (Grown (set_of rooted.image) i trie.old) × (Roomy (set_of rooted.image) (length trie.old)) }
+    requires nodes { n ≡ length (states_of (set_of rooted.image) i) }
+    ensures { (FollowedRule (set_of rooted.entry.image) i result trie.new) × (length trie.new ≡ length trie.old) }
 {
-    let long = image::left_length(image, i);
-    let mut q = first_node(image, root, i);
+    let long = rooted.image.left_length(i);
+    let mut q = first_node(rooted, i);
     let mut nodes = n;
-    for &a in &image[at..at + long] {
-        let w = follow(trie, root, nodes, q, u16::from(a));
+    for &a in &rooted.image.bytes[at..at + long] {
+        let w = follow(trie, rooted.root, nodes, q, u16::from(a));
         q = w.node;
         nodes = w.nodes;
     }
@@ -206,33 +201,29 @@ fn plant(trie: &mut [Node])
     };
 }
 
-// The nodes before any rule, where none is in use. Without a mark nothing is written. The image is named for the contract alone.
-pub fn begin(image: &[u8], root: usize, trie: &mut [Node])
-    requires image { valid image.now ≡ true }
-    requires root { root ≡ Words.root (read image.now).rules }
-    requires trie { (trie.old ≡ replicate (length trie.old) unused) × (Roomy (read image.now) (length trie.old)) }
-    ensures { (Grown (read image.now) 0 trie.new) × (length trie.new ≡ length trie.old) }
+// The nodes before any rule, where none is in use. Without a mark nothing is written.
+pub fn begin(rooted: Rooted<'_>, trie: &mut [Node])
+    requires { (trie.old ≡ replicate (length trie.old) unused) × (Roomy (set_of rooted.image) (length trie.old)) }
+    ensures { (Grown (set_of rooted.entry.image) 0 trie.new) × (length trie.new ≡ length trie.old) }
 {
-    if 0 < root {
+    if 0 < rooted.root {
         plant(trie);
     }
 }
 
 // The trie of all left sides, from the first nodes on, and the number of its nodes.
-pub fn build(image: &[u8], root: usize, trie: &mut [Node]) -> usize
-    requires image { valid image.now ≡ true }
-    requires root { root ≡ Words.root (read image.now).rules }
-    requires trie { (Grown (read image.now) 0 trie.old) × (Roomy (read image.now) (length trie.old)) }
-    ensures { Built (read image.now) result trie.new }
+pub fn build(rooted: Rooted<'_>, trie: &mut [Node]) -> usize
+    requires { (Grown (set_of rooted.image) 0 trie.old) × (Roomy (set_of rooted.image) (length trie.old)) }
+    ensures { Built (set_of rooted.entry.image) result trie.new }
 {
-    let rules = image::rules(image);
-    let mut n = root + 1;
+    let rules = rooted.image.rules();
+    let mut n = rooted.root + 1;
     let mut at = 4 + 4 * rules;
     for i in 0..rules {
-        let w = walk(image, root, i, at, trie, n);
+        let w = walk(rooted, i, at, trie, n);
         claim(trie, w.node, i);
         n = w.nodes;
-        at += image::body_length(image, i);
+        at += rooted.image.body_length(i);
     }
     n
 }

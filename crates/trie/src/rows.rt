@@ -1,30 +1,28 @@
 // The rows and match words of the table, filled from the trie. specs/Rows.antt says what stands in them on the way.
 // What its functions ask, compile has shown.
-ghost use Rattle.std.specs.Prelude.{◌+◌, ◌*◌, ◌≤◌, ◌<◌, ◌≡◌, true, ◌≢◌, map, length, replicate};
-ghost use Rattle.layout.specs.Image.{read, valid};
+ghost use Rattle.std.specs.Prelude.{◌+◌, ◌*◌, ◌≤◌, ◌<◌, ◌≡◌, ◌≢◌, map, length, replicate};
+ghost use Rattle.layout.specs.Image.{read};
 ghost use Rattle.layout.specs.States.{states, matching};
 ghost use Rattle.layout.specs.Table.{match_word};
-ghost use Rattle.layout.specs.Words as Words;
 ghost use Rattle.layout.specs.Words.{Longest, own_or};
+ghost use Rattle.image.specs.Sets.{set_of};
 ghost use Rattle.trie.specs.Nodes.{depth, TrieOf, Built};
-ghost use Rattle.trie.specs.Rows.{Laid, Rooted, Merged, noted, FillingAt, Matched, Filled};
+ghost use Rattle.trie.specs.Rows.{Laid, RootFilled, Merged, noted, FillingAt, Matched, Filled};
 
 use crate::{Node, failure_of};
-use image::wide;
+use image::{Image, Rooted};
 
 // Each node's number, which the loop counts, into the row of its parent.
-fn lay_children(image: &[u8], root: usize, trie: &[Node], rows: &mut [u16])
-    requires image_value { valid image.now ≡ true }
-    requires root { root ≡ Words.root (read image.now).rules }
-    requires trie { TrieOf (read image.now) trie.now }
-    requires count { length trie.now ≡ length (states (read image.now).rules) }
-    requires clear { rows.old ≡ replicate (length trie.now * (read image.now).symbols) 0 }
-    ensures { Laid (read image.now) rows.new }
+fn lay_children(rooted: Rooted<'_>, trie: &[Node], rows: &mut [u16])
+    requires trie { TrieOf (set_of rooted.image) trie.now }
+    requires count { length trie.now ≡ length (states (set_of rooted.image).rules) }
+    requires clear { rows.old ≡ replicate (length trie.now * (set_of rooted.image).symbols) 0 }
+    ensures { Laid (set_of rooted.entry.image) rows.new }
 {
-    let s = image::symbols(image);
-    for c in root + 1..trie.len() {
-        let p = wide::word(trie[c].parent);
-        let a = wide::word(trie[c].symbol);
+    let s = rooted.image.symbols();
+    for c in rooted.root + 1..trie.len() {
+        let p = usize::from(trie[c].parent);
+        let a = usize::from(trie[c].symbol);
         rows[p * s + a] = c as u16;
     }
 }
@@ -41,7 +39,7 @@ fn chosen(own: u16, other: u16) -> u16
 fn fill_root(rows: &mut [u16], s: usize, root: usize)
     requires own { root * s + s ≤ length rows.old }
     requires low { root ≤ 1 }
-    ensures { Rooted rows.old rows.new s root s }
+    ensures { RootFilled rows.old rows.new s root s }
 {
     let first = root * s;
     for word in &mut rows[first..first + s] {
@@ -76,64 +74,57 @@ fn note(trie: &mut [Node], q: usize, f: usize)
 }
 
 // State q, whose turn it is: its failure state, match word and row.
-fn fill_state(image: &[u8], root: usize, trie: &mut [Node], rows: &mut [u16], q: usize)
-    requires image_value { valid image.now ≡ true }
-    requires root { root ≡ Words.root (read image.now).rules }
-    requires state { (q ≢ root) × (q < length (states (read image.now).rules)) }
-    requires filling { FillingAt (read image.now) (depth trie.old q) q trie.old rows.old }
-    ensures { FillingAt (read image.now) (depth trie.old q) (q + 1) trie.new rows.new }
+fn fill_state(rooted: Rooted<'_>, trie: &mut [Node], rows: &mut [u16], q: usize)
+    requires state { (q ≢ rooted.root) × (q < length (states (set_of rooted.image).rules)) }
+    requires filling { FillingAt (set_of rooted.image) (depth trie.old q) q trie.old rows.old }
+    ensures { FillingAt (set_of rooted.entry.image) (depth trie.old q) (q + 1) trie.new rows.new }
 {
-    let s = image::symbols(image);
-    let f = failure_of(trie, rows, s, root, q);
+    let s = rooted.image.symbols();
+    let f = failure_of(trie, rows, s, rooted.root, q);
     note(trie, q, f);
     merge(rows, s, q, f);
 }
 
 // The states of depth d, whose turn it is. By index: a turn takes all nodes, which an iterator would hold.
-fn fill_depth(image: &[u8], root: usize, trie: &mut [Node], rows: &mut [u16], d: u16)
-    requires image_value { valid image.now ≡ true }
-    requires root { root ≡ Words.root (read image.now).rules }
-    requires count { length trie.old ≡ length (states (read image.now).rules) }
+fn fill_depth(rooted: Rooted<'_>, trie: &mut [Node], rows: &mut [u16], d: u16)
+    requires count { length trie.old ≡ length (states (set_of rooted.image).rules) }
     requires some { 0 < d }
-    requires filling { FillingAt (read image.now) d 0 trie.old rows.old }
-    ensures { FillingAt (read image.now) (d + 1) 0 trie.new rows.new }
+    requires filling { FillingAt (set_of rooted.image) d 0 trie.old rows.old }
+    ensures { FillingAt (set_of rooted.entry.image) (d + 1) 0 trie.new rows.new }
 {
     for q in 0..trie.len() {
         if trie[q].depth == d {
-            fill_state(image, root, trie, rows, q);
+            fill_state(rooted, trie, rows, q);
         }
     }
 }
 
 // The number of symbols of the longest left side.
-fn longest(image: &[u8]) -> usize
-    requires { valid image.now ≡ true }
-    ensures { (result ≤ 8) × Longest result (read image.now).rules }
+fn longest(image: Image<'_>) -> usize
+    ensures { (result ≤ 8) × Longest result (set_of image.entry).rules }
 {
     let mut most = 0;
-    for i in 0..image::rules(image) {
-        most = most.max(image::left_length(image, i));
+    for i in 0..image.rules() {
+        most = most.max(image.left_length(i));
     }
     most
 }
 
 // The rows of the table, and its match words in the nodes: short states before long, as a failure state is shorter. A state has at
 // most the symbols of the longest left side, and the mark where there is one.
-pub fn fill(image: &[u8], root: usize, trie: &mut [Node], rows: &mut [u16])
-    requires image_value { valid image.now ≡ true }
-    requires root { root ≡ Words.root (read image.now).rules }
-    requires trie { Built (read image.now) (length trie.old) trie.old }
-    requires room { length rows.old ≡ length (states (read image.now).rules) * (read image.now).symbols }
-    ensures { Filled (read image.now) trie.old trie.new rows.new }
+pub fn fill(rooted: Rooted<'_>, trie: &mut [Node], rows: &mut [u16])
+    requires trie { Built (set_of rooted.image) (length trie.old) trie.old }
+    requires room { length rows.old ≡ length (states (set_of rooted.image).rules) * (set_of rooted.image).symbols }
+    ensures { Filled (set_of rooted.entry.image) trie.old trie.new rows.new }
 {
     rows.fill(0);
-    lay_children(image, root, trie, rows);
-    if 0 < root {
-        fill_root(rows, image::symbols(image), root);
+    lay_children(rooted, trie, rows);
+    if 0 < rooted.root {
+        fill_root(rows, rooted.image.symbols(), rooted.root);
     }
-    let end = longest(image) + root + 1;
+    let end = longest(rooted.image) + rooted.root + 1;
     for d in 1..end as u16 {
-        fill_depth(image, root, trie, rows, d);
+        fill_depth(rooted, trie, rows, d);
     }
 }
 

@@ -1,6 +1,6 @@
-use Rattle.layout.specs.Image.{read}
+use Rattle.image.specs.Sets.{set_of}
 use Rattle.trie.specs.Rows.{FillingAt}
 use Rattle.trie.proofs.rows.fill_depth.Given as goal
 
 abbrev pub invariant-loop-q : goal.invariant-loop-q
-invariant-loop-q l = FillingAt (read l.image) l.d l.q l.trie l.rows
+invariant-loop-q l = FillingAt (set_of l.rooted.image) l.d l.q l.trie l.rows

@@ -16,7 +16,7 @@ use borrow.Author.Rules.{rules}
 use Rattle.rewriting.specs.Rules.{Rule, rule}
 use Rattle.rewriting.proofs.Lists.{last_or}
 use Rattle.rewriting.proofs.Ranges.{ranges, rule_at_lem}
-use Rattle.layout.specs.Image.{read}
+use Rattle.image.specs.Sets.{set_of}
 use Rattle.layout.proofs.Image.{valid-in_range}
 use Rattle.trie.proofs.rows.longest.Invariants.{NoLongerBefore}
 use Rattle.trie.proofs.rows.longest.Goals as goal
@@ -43,13 +43,13 @@ larger a b = go (ltb b a) (b == a) refl
 
 pub loop-i-preserved : goal.loop-i-preserved
 loop-i-preserved c =
-    let image = c.args.image.now in
+    let set = set_of c.args.image in
     let i = c.loop-i.i in
-    let is_rule : i < length (read image).rules = omega (arith, c.rules-i-end.ensures) in
-    let own = rule_at_lem (read image) (ranges (read image) (valid-in_range image c.requires)) i is_rule in
+    let is_rule : i < length (set).rules = omega (arith, c.rules-i-end.ensures) in
+    let own = rule_at_lem (set) (ranges (set) (valid-in_range c.args.image.bytes.now c.args.image.valid)) i is_rule in
     let long = c.left_length.ensures in
     let most = rw (← c.max-most.ensures) at (larger c.loop-i.most c.left_length.result) in (
       most.2 8 c.loop-i.invariant.0 (omega (arith, own.short_left, long)),
-      longer i (read image).rules c.loop-i.most c.max-most.result c.loop-i.invariant.1 most.0 (omega (arith, long, most.1)),
+      longer i (set).rules c.loop-i.most c.max-most.result c.loop-i.invariant.1 most.0 (omega (arith, long, most.1)),
       λ m all. most.2 m (c.loop-i.invariant.2 m (λ k h. all k (omega arith))) (omega (arith, all i (omega arith), long)),
     )
