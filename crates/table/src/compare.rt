@@ -1,17 +1,16 @@
 // The check of a lent table, in place: each state against its parent, its failure state and its node of the trie. It
 // holds exactly where the table is the one that compile writes (specs/Consistent.antt has the tests).
 // The module is private: what its functions ask, check has shown.
-ghost use Rattle.std.specs.Prelude.{◌+◌, ◌*◌, ◌≤◌, ◌<◌, ◌≡◌, true, length, get_or};
-ghost use Rattle.layout.specs.Image.{read, valid};
+ghost use Rattle.std.specs.Prelude.{◌+◌, ◌*◌, ◌≤◌, ◌<◌, ◌≡◌, length, get_or};
 ghost use Rattle.layout.specs.ImageCheck.{Decides};
 ghost use Rattle.rewriting.specs.Lists.{prefix};
 ghost use Rattle.layout.specs.Table.{table_of};
+ghost use Rattle.image.specs.Sets.{set_of};
 ghost use Rattle.trie.specs.Nodes.{parent, symbol, matched, failure, Built};
-ghost use Rattle.layout.specs.Words as Words;
 ghost use Rattle.layout.specs.Words.{transition, own_or};
 ghost use Rattle.table.specs.Consistent.{differing, leaving, Passes, RootPassed, MarkPassed, RightTable};
 
-use image::wide;
+use image::Rooted;
 use trie::{Node, failure_of};
 
 // How many words of the rows of q and f differ. Where a row begins is worked out once, before the loop. The loop counts to the
@@ -57,9 +56,9 @@ fn led_to(trie: &[Node], rows: &[u16], s: usize, q: usize) -> usize
     requires row { parent trie.now q * s + symbol trie.now q < length rows.now }
     ensures { result ≡ transition rows.now s (parent trie.now q) (symbol trie.now q) }
 {
-    let p = wide::word(trie[q].parent);
-    let a = wide::word(trie[q].symbol);
-    wide::word(rows[p * s + a])
+    let p = usize::from(trie[q].parent);
+    let a = usize::from(trie[q].symbol);
+    usize::from(rows[p * s + a])
 }
 
 // The match word that node q should have: its own, or else its failure state's.
@@ -72,7 +71,7 @@ fn inherited(trie: &[Node], matches: &[u16], q: usize) -> u16
     if own != 0 {
         return own;
     }
-    let f = wide::word(trie[q].failure);
+    let f = usize::from(trie[q].failure);
     matches[f]
 }
 
@@ -129,7 +128,7 @@ fn state_holds(trie: &[Node], matches: &[u16], rows: &[u16], s: usize, q: usize)
     if m != matches[q] {
         return false;
     }
-    let f = wide::word(trie[q].failure);
+    let f = usize::from(trie[q].failure);
     let n = differences(rows, s, q, f);
     if n != trie[q].children {
         return false;
@@ -140,30 +139,28 @@ fn state_holds(trie: &[Node], matches: &[u16], rows: &[u16], s: usize, q: usize)
 // Every state's tests, in the order of their numbers, so that its parent and its parent's failure state are known when a
 // state is reached. Keeps each state's failure state in its node, after both looks at its parent: a word that was read before a
 // store is read again behind it.
-fn states_hold(image: &[u8], root: usize, trie: &mut [Node], matches: &[u16], rows: &[u16]) -> bool
-    requires image_value { valid image.now ≡ true }
-    requires root_value { root ≡ Words.root (read image.now).rules }
-    requires built { Built (read image.now) (length trie.old) trie.old }
-    requires n_value { (length trie.old ≡ length matches.now) × (length trie.old * (read image.now).symbols ≡ length rows.now) }
+fn states_hold(rooted: Rooted<'_>, trie: &mut [Node], matches: &[u16], rows: &[u16]) -> bool
+    requires built { Built (set_of rooted.image) (length trie.old) trie.old }
+    requires n_value { (length trie.old ≡ length matches.now) × (length trie.old * (set_of rooted.image).symbols ≡ length rows.now) }
     ensures { Decides result
-        (RightTable (read image.now).rules (read image.now).symbols matches.now rows.now) }
+        (RightTable (set_of rooted.entry.image).rules (set_of rooted.entry.image).symbols matches.now rows.now) }
 {
     let n = trie.len();
-    let s = image::symbols(image);
-    if !root_holds(trie, matches, rows, s, root) {
+    let s = rooted.image.symbols();
+    if !root_holds(trie, matches, rows, s, rooted.root) {
         return false;
     }
-    if 0 < root {
-        if !mark_holds(trie, matches, rows, s, root) {
+    if 0 < rooted.root {
+        if !mark_holds(trie, matches, rows, s, rooted.root) {
             return false;
         }
     }
-    for q in root + 1..n {
+    for q in rooted.root + 1..n {
         let child = led_to(trie, rows, s, q);
         if child != q {
             return false;
         }
-        let f = failure_of(trie, rows, s, root, q);
+        let f = failure_of(trie, rows, s, rooted.root, q);
         if f >= n {
             return false;
         }
@@ -177,24 +174,22 @@ fn states_hold(image: &[u8], root: usize, trie: &mut [Node], matches: &[u16], ro
 
 // Whether the table begins with the words that compile gives for the image, by the trie of its states: N, S, and every
 // state's tests. Keeps each state's failure state in its node of the trie.
-pub(crate) fn holds(image: &[u8], root: usize, trie: &mut [Node], table: &[u16]) -> bool
-    requires image_value { valid image.now ≡ true }
-    requires root_value { root ≡ Words.root (read image.now).rules }
-    requires built { Built (read image.now) (length trie.old) trie.old }
-    ensures { result ≡ prefix (table_of (read image.now)) table.now }
+pub(crate) fn holds(rooted: Rooted<'_>, trie: &mut [Node], table: &[u16]) -> bool
+    requires { Built (set_of rooted.image) (length trie.old) trie.old }
+    ensures { result ≡ prefix (table_of (set_of rooted.entry.image)) table.now }
 {
     let n = trie.len();
-    let s = image::symbols(image);
+    let s = rooted.image.symbols();
     let first = 2 + n;
     let end = first + n * s;
     if table.len() < end {
         return false;
     }
-    if wide::word(table[0]) != n {
+    if usize::from(table[0]) != n {
         return false;
     }
-    if wide::word(table[1]) != s {
+    if usize::from(table[1]) != s {
         return false;
     }
-    states_hold(image, root, trie, &table[2..first], &table[first..end])
+    states_hold(rooted, trie, &table[2..first], &table[first..end])
 }
