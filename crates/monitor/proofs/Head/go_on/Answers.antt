@@ -1,53 +1,8 @@
--- `monitor::Head::go_on` meets its contract: refused by what is lent, or the call that `once` makes.
-use Rattle.machine.specs.Areas.{document_capacity, Monitor}
+-- `monitor::Head::go_on` meets its contract.
 use Rattle.machine.specs.Lent.{offer_or_go_on}
-use Rattle.monitor.specs.Lent.{lent}
-use Rattle.machine.specs.Calls.{GoOn, go_on_of}
-use Rattle.machine.proofs.LentRefusal.{lent_none, lent-some}
-use Rattle.machine.proofs.BatchChecks.{passed_image}
-use Rattle.machine.proofs.Offering.{passed_sizes}
-use Rattle.machine.proofs.Deciding.{lent_refused}
-use Rattle.monitor.proofs.Head.go_on.Goals.{Start}
+use Rattle.machine.specs.Calls.{go_on_of}
 use Rattle.monitor.proofs.Head.go_on.Goals as goal
 
--- what is lent
-abbrev given : Start → Monitor
-given s = lent s.args.self s.args.bytes.now s.args.words.now
-
-pub returns-in-Err : goal.returns-in-Err
-unfolding go_on_of
-returns-in-Err c =
-    let s = (goal.at.returns-in-Err c).Start in
-    rw c.refused.ensures
-    (lent_refused document_capacity c.args.image.now c.args.table.now (given s) (GoOn c.args.fuel) _
-    (lent-some document_capacity c.args.image.now c.args.table.now (given s) c.check_lent.ensures
-    c.in-Err.is))
-
-pub index-requires : goal.index-requires
-index-requires c =
-    let s = (goal.at.index-requires c).Start in
-    let passed = passed_image document_capacity c.args.image.now c.args.table.now (given s)
-    (lent_none document_capacity c.args.image.now c.args.table.now (given s) c.check_lent.ensures c.in-Ok.is) in
-    record { image = passed.0; room = passed.1 }
-
-pub once-requires : goal.once-requires
-once-requires c =
-    let s = (goal.at.once-requires c).Start in
-    let image = c.args.image.now in
-    let table = c.args.table.now in record {
-      lent = rw
-          (passed_sizes document_capacity image table (given s)
-          (lent_none document_capacity image table (given s) c.check_lent.ensures c.in-Ok.is)).0
-          (lent_none document_capacity image table (given s) c.check_lent.ensures c.in-Ok.is);
-      starts = c.index.ensures;
-    }
-
-pub returns-in-Ok : goal.returns-in-Ok
+pub returns : goal.returns
 unfolding go_on_of offer_or_go_on
-returns-in-Ok c =
-    let s = (goal.at.returns-in-Ok c).Start in
-    rw
-    (passed_sizes document_capacity c.args.image.now c.args.table.now (given s)
-    (lent_none document_capacity c.args.image.now c.args.table.now (given s) c.check_lent.ensures
-    c.in-Ok.is)).0 at
-    c.once.ensures
+returns c = c.call.ensures
