@@ -8,7 +8,14 @@ ghost use Rattle.machine.specs.Run.{no_counts};
 ghost use Rattle.machine.specs.Calls.{call_checks, call_of, decided, answer_number};
 ghost use Rattle.machine.specs.Batch.{events_most, in_turn, batched};
 ghost use Rattle.machine.specs.Lent.{
-    upon, offer_or_go_on, offers_or_goes_on, event_allowed, event_fits, waiting_with, bytes_with, answer_from,
+  upon,
+  offer_or_go_on,
+  offers_or_goes_on,
+  event_allowed,
+  event_fits,
+  waiting_with,
+  bytes_with,
+  answer_from,
 };
 ghost use Rattle.monitor.specs.Lent.{lent, flat_in, flat, counts_in, ran_from, outcome_from, series_from};
 
@@ -51,7 +58,13 @@ fn has_room(offered: Option<u8>, settled: usize, waiting: usize, capacity: usize
 
 impl Flat {
     // The refusals of a call's own: 12 to 15 of an offer, 13 and 14 of a go-on.
-    fn refusal(self, image: Image<'_>, capacity: usize, offered: Option<u8>, fuel: u32) -> Result<(), Refusal>
+    fn refusal(
+        self,
+        image: Image<'_>,
+        capacity: usize,
+        offered: Option<u8>,
+        fuel: u32,
+    ) -> Result<(), Refusal>
         requires { self.settled + self.waiting ≤ capacity }
         ensures { numbered result
             ≡ answered (refusal (call_checks (set_of image.entry) capacity (flat_in self) (offer_or_go_on offered fuel))) }

@@ -116,7 +116,13 @@ impl Head {
     }
 
     // The checks of what is lent: refusals 7, 9, 10 and 11. Where they pass, there is the table.
-    fn check_lent<'a>(self, image: &'a [u8], table: &'a [u16], bytes: &[u8], words: &[u16]) -> Result<Table<'a>, Refusal>
+    fn check_lent<'a>(
+        self,
+        image: &'a [u8],
+        table: &'a [u16],
+        bytes: &[u8],
+        words: &[u16],
+    ) -> Result<Table<'a>, Refusal>
         ensures { MatchResult result
             (λ t. (t.image.bytes.now ≡ image.now)
             × (t.words.now ≡ table.now)

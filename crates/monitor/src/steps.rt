@@ -16,12 +16,7 @@ use machine::{FULL, QUIET, SPENT, VERDICT};
 impl Flat {
     // The next step: the head after it, where its answer is 16 + the verdict that it set, else 0. Where the step does not fit the answer
     // is 2 (Full), and nothing has changed. It counts its rewrite and what it put back; the run counts the steps.
-    fn step(
-        self,
-        rules: Rules<'_>,
-        bytes: &mut [u8],
-        words: &mut [u16],
-    ) -> Flat
+    fn step(self, rules: Rules<'_>, bytes: &mut [u8], words: &mut [u16]) -> Flat
         requires lent { PassedWith rules (active self bytes.old words.old) }
         requires waiting { 0 < self.waiting }
         requires sums { self.rewrites + self.put + 9 < 18446744073709551616 }
@@ -38,14 +33,7 @@ impl Flat {
         let next = rules.table.next(q, usize::from(symbol));
         let matched = rules.table.match_word(next);
         if matched != 0 {
-            return match areas::rewrite(
-                settled,
-                self.waiting,
-                rules,
-                bytes,
-                words,
-                matched - 1,
-            ) {
+            return match areas::rewrite(settled, self.waiting, rules, bytes, words, matched - 1) {
                 None => Flat {
                     settled: settled,
                     waiting: self.waiting,

@@ -1,6 +1,6 @@
 -- `monitor::flat::Flat::in_turn` meets its contract: the invariant is `Offering` (machine/proofs/Offering.antt), and that the answer byte
 -- written last is the head's answer.
-use Prim.Native.Nat.{ℕ, ◌+◌, ◌≤◌}
+use Prim.Native.Nat.{◌≤◌}
 use mathlib.Core.Path.{◌≡◌, refl, sym, ap, ◌∙◌}
 use native.Mathlib.Omega.{arith}
 use native.Mathlib.Numerals.{add-one}
@@ -10,11 +10,8 @@ use Rattle.machine.specs.Areas.{Monitor}
 use Rattle.machine.specs.Lent.{offers_or_goes_on, where_offering}
 use Rattle.monitor.specs.Lent.{flat, ran_from}
 use Rattle.layout.specs.Refusals.{refusal_number, refused_by, numbered}
-use Rattle.layout.proofs.Image.{valid-in_range}
 use Rattle.layout.proofs.Refusals.{not_refused}
-use Rattle.layout.proofs.States.{few_states}
-use Rattle.machine.proofs.Stepping.{Held, held, passed_valid, passed_table}
-use Rattle.machine.proofs.TableWords.{table_header, states_in}
+use Rattle.machine.proofs.Stepping.{Held, held}
 use Rattle.machine.proofs.LentRefusal.{answered_passed, answered_refused}
 use Rattle.machine.proofs.Offering.{
   offering_first,
