@@ -1,8 +1,46 @@
--- `monitor::Head::offer` meets its contract.
-use Rattle.machine.specs.Lent.{offer_or_go_on}
-use Rattle.machine.specs.Calls.{offer_of}
+-- `monitor::Head::offer` meets its contract: refused by what is lent, or the call that `once` makes.
+use Rattle.std.proofs.Common.{length}
+use Rattle.machine.specs.Areas.{document_capacity, Monitor}
+use Rattle.machine.specs.Calls.{Offer, offer_of}
+use Rattle.machine.specs.Lent.{Passed, offer_or_go_on}
+use Rattle.monitor.specs.Lent.{lent}
+use Rattle.machine.proofs.BatchChecks.{passed_image}
+use Rattle.machine.proofs.Offering.{passed_sizes}
+use Rattle.machine.proofs.Deciding.{lent_refused}
+use Rattle.monitor.proofs.Head.offer.Goals.{Start}
 use Rattle.monitor.proofs.Head.offer.Goals as goal
 
-pub returns : goal.returns
+-- what is lent
+abbrev given : Start → Monitor
+given s = lent s.args.self s.args.bytes.now s.args.words.now
+
+pub returns-in-Err : goal.returns-in-Err
+unfolding offer_of
+returns-in-Err c =
+    let s = (goal.at.returns-in-Err c).Start in
+    rw c.refused.ensures
+    (lent_refused document_capacity c.args.image.now c.args.table.now (given s) (Offer c.args.event c.args.fuel) _
+    c.in-Err.ensures)
+
+pub index-requires : goal.index-requires
+index-requires c =
+    let s = (goal.at.index-requires c).Start in
+    let t = c.in-Ok.table in
+    (passed_image document_capacity t.image.bytes.now t.words.now (given s) c.in-Ok.ensures.2).1
+
+pub once-requires : goal.once-requires
+once-requires c =
+    let s = (goal.at.once-requires c).Start in
+    let t = c.in-Ok.table in
+    let passed : Passed (length c.args.bytes.now) t.image.bytes.now t.words.now (given s) =
+    rw (passed_sizes document_capacity t.image.bytes.now t.words.now (given s) c.in-Ok.ensures.2).0 c.in-Ok.ensures.2
+    in
+    passed
+
+pub returns-in-Ok : goal.returns-in-Ok
 unfolding offer_of offer_or_go_on
-returns c = c.call.ensures
+returns-in-Ok c =
+    let s = (goal.at.returns-in-Ok c).Start in
+    let t = c.in-Ok.table in
+    rw (← c.in-Ok.ensures.0, ← c.in-Ok.ensures.1)
+    (rw (passed_sizes document_capacity t.image.bytes.now t.words.now (given s) c.in-Ok.ensures.2).0 at c.once.ensures)
