@@ -581,7 +581,7 @@ checked b n e h room told =
     (checked_valid b h (omega arith) (rw e at told)) (valid_symbols b))
 
 -- The rules that are read have a mark where the contents have one.
-marks-read : (n : ℕ) (c b : List ℕ) → has_mark (read_rules n c b) ≡ marks_in n c
+pub marks-read : (n : ℕ) (c b : List ℕ) → has_mark (read_rules n c b) ≡ marks_in n c
 unfolding has_mark read_rules read_rule marks_in
 marks-read zero c b = refl
 marks-read (suc n) c b =

@@ -6,4 +6,4 @@ pub returns-then-own-ne0 : goal.returns-then-own-ne0
 returns-then-own-ne0 c = rw (ne_eqb _ 0 c.if-own-ne0.true)
 
 pub returns : goal.returns
-returns c = rw (eq-eqb _ 0 c.if-own-ne0.false, c.word-f.ensures)
+returns c = rw (eq-eqb _ 0 c.if-own-ne0.false, c.from-f.ensures)
