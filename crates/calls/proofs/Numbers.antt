@@ -41,7 +41,8 @@ pub record PairAt (l : List ℕ) (i : ℕ) (pair : List ℕ) : Type 0 where
   pub first : get_or pair 0 0 ≡ get_or l (2 * i) 0
   pub second : get_or pair 1 0 ≡ get_or l (2 * i + 1) 0
 
-pub pair_at : (n i : ℕ) (l : List ℕ) (xs : List (List ℕ)) → xs ≡ first_chunks 2 n l → i < n → (d : List ℕ) → PairAt l i (get_or xs i d)
+pub pair_at : (n i : ℕ) (l : List ℕ) (xs : List (List ℕ)) → xs ≡ first_chunks 2 n l → i < n
+    → (d : List ℕ) → PairAt l i (get_or xs i d)
 pair_at n i l xs e h d = rw e (go n i l h)
   where
     go : (n i : ℕ) (l : List ℕ) → i < n → PairAt l i (get_or (first_chunks 2 n l) i d)

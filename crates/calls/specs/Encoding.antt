@@ -1,6 +1,7 @@
 -- A list of calls as numbers, two a call: the first is 0 for a go-on and 1 + e for an offer of event e, the second is the
 -- fuel.
-use Rattle.std.specs.Prelude.{ℕ, zero, suc, Bool, true, false, ◌&&◌, List, [], ◌∷◌, leb, length, get_or, ◌≤◌, ◌<◌, ◌≡◌, Result, MatchResult}
+use Rattle.std.specs.Prelude.{ℕ, zero, suc, ◌≤◌, ◌<◌, ◌≡◌, Bool, true, false, ◌&&◌, leb}
+use Rattle.std.specs.Prelude.{List, [], ◌∷◌, length, get_or, Result, MatchResult}
 use Rattle.layout.specs.declared.Refusal.{Refusal}
 use Rattle.machine.specs.Calls.{Call, Offer, GoOn}
 use Rattle.calls.specs.declared.Call as Declared

@@ -95,7 +95,13 @@ fn is_list(numbers: &[u32]) -> bool
 impl Played {
     // A refusal of the list, beside the empty head.
     fn refused(refusal: Refusal) -> Played
-        ensures { result ≡ record { head = head_out (head_of State.empty); answer = Err refusal; accepted = 0; counts = no_counts } }
+        ensures { result
+            ≡ record {
+              head = head_out (head_of State.empty);
+              answer = Err refusal;
+              accepted = 0;
+              counts = no_counts;
+            } }
     {
         Played {
             head: Head::EMPTY,
@@ -107,7 +113,8 @@ impl Played {
 
     // One call more, and what it gave back.
     fn with(self, call: Call, called: Returned) -> Played
-        requires { Within self.accepted (length (events_of (refused_by (numbered called.answer)) (call_in call))) self.counts called.counts }
+        requires { Within self.accepted (length (events_of (refused_by (numbered called.answer)) (call_in call)))
+            self.counts called.counts }
         ensures { result
             ≡ record {
               head = called.head;
