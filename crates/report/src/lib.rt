@@ -67,8 +67,12 @@ impl Memory {
         requires inside { size ≤ length self.old.image }
         requires rules { valid (take size self.old.image) ≡ true }
         ensures answer { begun_in result self.new
-            ≡ Events (record { head = fresh_monitor.head; at = at; image = size;
-            table = length (table_of (read (take size self.old.image))) }) }
+            ≡ Events (record {
+              head = fresh_monitor.head;
+              at = at;
+              image = size;
+              table = length (table_of (read (take size self.old.image)));
+            }) }
         ensures image { self.new.image ≡ self.old.image }
         ensures names { self.new.names ≡ self.old.names }
         ensures table { self.new.table ≡ over (table_of (read (take size self.old.image))) self.old.table }

@@ -74,8 +74,7 @@ returns-clause-onward c =
     let input = c.args.input.now in
     let self = c.args.self in
     let place = turn_place _ _ _ _ _ _ c.named.new.memory c.named.ensures.turn in
-    let onward = run_onward input self.at _ c.first_run-run.ensures c.if-input-at.false c.if-from-to.false in
-    (
+    let onward = run_onward input self.at _ c.first_run-run.ensures c.if-input-at.false c.if-from-to.false in (
       turn_some _ _ _ _ _ _ c.named.new.memory c.named.ensures.turn,
       (omega (arith, place, onward.0), omega (arith, place, onward.1)),
     )
