@@ -7,7 +7,8 @@ ghost use mathlib.Core.List.{[], ◌∷◌, ◌++◌, flat_map};
 ghost use Rattle.rewriting.specs.Lists.{below};
 ghost use Rattle.layout.specs.Refusals.{refused_by, numbered};
 ghost use Rattle.monitor.specs.Lent.{outcome_from};
-ghost use Rattle.printing.specs.Lines.{space, comma, newline, refused_word, decimal, name_in, joined, answer_word, counted, told, refused_line};
+ghost use Rattle.printing.specs.Lines.{space, comma, newline, refused_word, decimal, name_in, joined};
+ghost use Rattle.printing.specs.Lines.{answer_word, counted, told, refused_line};
 ghost use Rattle.printing.specs.Turns.{line_most};
 ghost use Rattle.lines.specs.Wrote.{area, empty, Writes, HasSlot, Small};
 ghost use Rattle.grammar.specs.Names.{slot_size};
@@ -139,7 +140,8 @@ impl Line {
     // The names of the string whose first symbols are settled and whose last ones wait, joined by commas; or `-`.
     fn put_string(&mut self, names: &[u8; NAMES_BYTES], settled: &[u8], waiting: &[u8])
         requires slots { below 48 (settled.now ++ waiting.now) ≡ true }
-        requires room { (1 ≤ length self.old.behind) × (slot_size * length settled.now + slot_size * length waiting.now ≤ length self.old.behind) }
+        requires some { 1 ≤ length self.old.behind }
+        requires room { slot_size * length settled.now + slot_size * length waiting.now ≤ length self.old.behind }
         ensures { Writes (joined names.now (settled.now ++ waiting.now)) self.old self.new }
     {
         if let Some((&first, others)) = settled.split_first() {
@@ -179,26 +181,6 @@ impl Line {
         self.put_byte(b'\n');
     }
 
-    // What is told of a call that is not refused: the answer, the counts, the string.
-    fn put_accepted(
-        &mut self,
-        names: &[u8; NAMES_BYTES],
-        answer: Answer,
-        called: Returned,
-        bytes: &[u8; CAPACITY],
-    )
-        requires slot { HasSlot answer }
-        requires small { Small (outcome_from called bytes.now []) }
-        requires room { line_most ≤ slot_size + length self.old.behind }
-        ensures { Writes (answer_word names.now (Ok answer)
-            ++ space ∷ (counted names.now (outcome_from called bytes.now []) ++ newline ∷ []))
-            self.old self.new }
-    {
-        self.put_answer(names, answer);
-        self.put_byte(b' ');
-        self.put_counted(names, called, bytes);
-    }
-
     // What is told of a call that is refused: the number.
     pub fn put_refused(&mut self, n: u32)
         requires room { 40 ≤ length self.old.behind }
@@ -209,7 +191,7 @@ impl Line {
         self.put_byte(b'\n');
     }
 
-    // The rest of the line for a name, from the answer on.
+    // The rest of the line for a name, from the answer on: that, the counts and the string, or the number of a refusal.
     pub fn put_told(&mut self, names: &[u8; NAMES_BYTES], called: Returned, bytes: &[u8; CAPACITY])
         requires slot { (answer : Answer) → called.answer ≡ Ok answer → HasSlot answer }
         requires small { refused_by (numbered called.answer) ≡ None → Small (outcome_from called bytes.now []) }
@@ -220,7 +202,11 @@ impl Line {
     {
         match called.answer {
             Err(refusal) => self.put_refused(refusal.number()),
-            Ok(answer) => self.put_accepted(names, answer, called, bytes),
+            Ok(answer) => {
+                self.put_answer(names, answer);
+                self.put_byte(b' ');
+                self.put_counted(names, called, bytes)
+            }
         }
     }
 

@@ -22,6 +22,7 @@ use Rattle.std.specs.List.{position, position_or_len}
 use Rattle.std.specs.Option.{unwrap_or}
 use Rattle.std.proofs.lemmas.List.Recursion.{is_position_or_len}
 use Rattle.printing.proofs.Split.{rule_part_le}
+use Rattle.machine.specs.Calls.{Outcome}
 use Rattle.lines.specs.Wrote.{Written, Writes, area, empty}
 use Rattle.printing.specs.Lines.{space, newline, answer_word, told, event_line}
 use Rattle.printing.specs.Watch.{percent, rule_part, Watch, offered_name, line_for}
@@ -143,8 +144,8 @@ module _ {x : List ℕ} {l l' : Written} (begins : l.bytes ≡ []) (w : Writes x
 
 -- What the code gave back, by its parts: a line ..
 pub turn_is :
-    (n : Next) (walk : Walk) (head : Head) (bytes words a : List ℕ) (line : Written) → line.bytes ≡ n.line → area line ≡ over n.line a
-    → lent head bytes words ≡ n.monitor
+    (n : Next) (walk : Walk) (head : Head) (bytes words a : List ℕ) (line : Written) → line.bytes ≡ n.line
+    → area line ≡ over n.line a → lent head bytes words ≡ n.monitor
     → (record {
       walk = walk_in (record { head = head; at = n.at; image = walk.image; table = walk.table });
       length = length line.bytes;
@@ -183,7 +184,9 @@ pub turn_some :
     → turn_from walk (Some next) m ≡ turn_of (walk_in walk) (offering w end x) a → 0 < length m.line.bytes
 unfolding turn_of offering line_for event_line
 turn_some w walk next end x a m e =
-    omega (arith, ap (λ (t : Turn). t.length) e, length-append x (space ∷ (answer_word w.names (offered_name w x).answer ++ space ∷ (told w.names (offered_name w x) (offered_name w x).answer ++ newline ∷ []))))
+    let o : Outcome = offered_name w x in
+    let behind : List ℕ = answer_word w.names o.answer ++ space ∷ (told w.names o o.answer ++ newline ∷ []) in
+    omega (arith, ap (λ (t : Turn). t.length) e, length-append x (space ∷ behind))
 
 -- the first part of an area, as the code takes it
 pub first_part : (n most : ℕ) (area : List ℕ) → length area ≡ most → take (min n most) area ≡ take n area

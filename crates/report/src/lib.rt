@@ -21,7 +21,8 @@ pub const INPUT_BYTES: usize = 20480;
 
 const FUEL: u32 = 1000;
 
-// All that `watch` works with, whatever it holds before: image and table of the rules, the names' slots, the monitor's areas, a line.
+// All that `watch` works with: image and table of the rules, the names' slots, the monitor's areas, a line. `begin` takes it
+// whatever it holds.
 #[derive(Drop)]
 pub struct Memory {
     pub image: [u8; IMAGE_BYTES],
@@ -66,7 +67,12 @@ impl Memory {
         requires inside { size ≤ length self.old.image }
         requires rules { valid (take size self.old.image) ≡ true }
         ensures answer { begun_in result self.new
-            ≡ Events (record { head = fresh_monitor.head; at = at; image = size; table = length (table_of (read (take size self.old.image))) }) }
+            ≡ Events (record {
+              head = fresh_monitor.head;
+              at = at;
+              image = size;
+              table = length (table_of (read (take size self.old.image)));
+            }) }
         ensures image { self.new.image ≡ self.old.image }
         ensures names { self.new.names ≡ self.old.names }
         ensures table { self.new.table ≡ over (table_of (read (take size self.old.image))) self.old.table }
@@ -74,6 +80,7 @@ impl Memory {
         ensures words { self.new.words ≡ fresh_monitor.words }
         ensures line { self.new.line ≡ self.old.line }
     {
+        // A valid image is never refused.
         let table = table::compile(&self.image[..size], &mut self.table).ok()?;
         let begun = monitor::fresh(&mut self.bytes, &mut self.words);
         Some(Walk {
@@ -84,8 +91,8 @@ impl Memory {
         })
     }
 
-    // Begins with an input: the rules go into their areas, and the events are to be offered one by one, by `next`. Where the input
-    // or its rule text is wrong, there are none, and what is wrong is the line.
+    // Begins with an input: the rules go into their areas, and the events are to be offered one by one, by `next`. Where the
+    // input or its rule text is wrong, there are none, and what is wrong is the line.
     pub fn begin(&mut self, input: &[u8]) -> Option<Walk>
         ensures outcome { begins_from (begun_in result self.new) (areas_in self.new) ≡ begin_of input.now (areas_in self.old) }
         ensures inside { Inside (begun_in result self.new) }

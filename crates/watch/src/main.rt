@@ -11,8 +11,8 @@ use machine::CAPACITY;
 use report::{INPUT_BYTES, Memory, Walk};
 use std::io::{Read, Write};
 
-// Reads until the buffer is full, the input ends or a read fails, and tells how many bytes there are: the library's `read_exact` does
-// not tell that.
+// Reads until the buffer is full, the input ends or a read fails, and tells how many bytes there are: the library's
+// `read_exact` does not tell that.
 fn read_full<R: Read>(from: &mut R, buf: &mut [u8]) -> usize
     ensures { result ≤ length buf.old }
 {

@@ -60,23 +60,30 @@ unfolding string_of state_of
 put_string-requires-clause-slots c =
     rw (string_in c.args.called.head.settled c.args.called.head.waiting c.args.bytes.now c.told-bytes) c.requires.small.slots
 
+pub put_string-requires-clause-some : goal.put_string-requires-clause-some
+put_string-requires-clause-some c =
+    omega (
+      arith,
+      c.requires.room,
+      counts_length _ _ c.requires.small.steps c.requires.small.rewrites,
+      room_left c.put_counts.ensures,
+      room_left c.put_byte.ensures,
+    )
+
 pub put_string-requires-clause-room : goal.put_string-requires-clause-room
 put_string-requires-clause-room c =
     let bytes = c.args.bytes.now in
     let a = c.args.called.head.settled in
     let w = c.args.called.head.waiting in
-    let counts = counts_length _ _ c.requires.small.steps c.requires.small.rewrites in (
-      omega (arith, c.requires.room, counts, room_left c.put_counts.ensures, room_left c.put_byte.ensures),
-      omega (
-        arith,
-        c.requires.room,
-        c.requires.small.string,
-        counts,
-        room_left c.put_counts.ensures,
-        room_left c.put_byte.ensures,
-        length-take a bytes,
-        length-take (2048 - (2048 - w)) (drop (2048 - w) bytes),
-      ),
+    omega (
+      arith,
+      c.requires.room,
+      c.requires.small.string,
+      counts_length _ _ c.requires.small.steps c.requires.small.rewrites,
+      room_left c.put_counts.ensures,
+      room_left c.put_byte.ensures,
+      length-take a bytes,
+      length-take (2048 - (2048 - w)) (drop (2048 - w) bytes),
     )
 
 pub put_byte-requires-2 : goal.put_byte-requires-2

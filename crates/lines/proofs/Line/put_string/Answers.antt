@@ -9,7 +9,7 @@ pub put_symbols-requires-clause-room : goal.put_symbols-requires-clause-room
 put_symbols-requires-clause-room c =
     omega (
       arith,
-      c.requires.room.1,
+      c.requires.room,
       c.in-Some.ensures.cases.1,
       name-length c.args.names.now c.in-Some.field-0-0.now,
       room_left c.put_name.ensures,
@@ -19,7 +19,7 @@ pub put_symbols-requires-in-Some-clause-room : goal.put_symbols-requires-in-Some
 put_symbols-requires-in-Some-clause-room c =
     omega (
       arith,
-      c.requires.room.1,
+      c.requires.room,
       c.in-Some.ensures.cases.1,
       name-length c.args.names.now c.in-Some.field-0-0.now,
       room_left c.put_name.ensures,
@@ -36,7 +36,7 @@ pub put_symbols-requires-in-Some-split_first-clause-room : goal.put_symbols-requ
 put_symbols-requires-in-Some-split_first-clause-room c =
     omega (
       arith,
-      c.requires.room.1,
+      c.requires.room,
       c.in-Some-split_first.ensures.cases.1,
       name-length c.args.names.now c.in-Some-split_first.field-0-0.now,
       room_left c.put_name-in-Some-split_first.ensures,

@@ -23,4 +23,5 @@ put_name-requires-clause-room c =
 pub loop-symbol-preserved : goal.loop-symbol-preserved
 loop-symbol-preserved c =
     rw add-one
-    (naming_next c.args.names.now c.args.symbols.now c.loop-symbol.invariant c.loop-symbol-test.true c.put_byte.ensures c.put_name.ensures)
+    (naming_next c.args.names.now c.args.symbols.now c.loop-symbol.invariant c.loop-symbol-test.true c.put_byte.ensures
+    c.put_name.ensures)

@@ -10,9 +10,11 @@ use Rattle.layout.specs.Table.{table_of}
 use Rattle.layout.specs.Refusals.{numbered}
 use Rattle.machine.specs.Areas.{Monitor}
 use Rattle.machine.specs.Calls.{Fresh}
+use Rattle.monitor.specs.Lent.{lent}
+use Rattle.printing.specs.Watch.{fresh_monitor}
 use Rattle.printing.proofs.Starting.{compile_answers, compile_writes, is-fresh}
 use Rattle.report.proofs.Memory.make_ready.Goals as goal
-use Rattle.report.proofs.Memory.make_ready.Goals.{After-ok}
+use Rattle.report.proofs.Memory.make_ready.Goals.{After-ok, After-fresh-begun}
 
 -- what is not refused
 taken : (r : Result ℕ Refusal) (n : ℕ) → numbered r ≡ Ok n → result_ok r ≡ Some n
@@ -46,6 +48,14 @@ returns-in_err-table-clause-bytes c = absurd (never (goal.at.returns-in_err-tabl
 pub returns-in_err-table-clause-words : goal.returns-in_err-table-clause-words
 returns-in_err-table-clause-words c = absurd (never (goal.at.returns-in_err-table-clause-words c).After-ok c.in_err-table.was)
 
+-- the monitor is a fresh one
+is_made :
+    (c : After-fresh-begun)
+    → lent c.fresh-begun.result.head c.fresh-begun.new.bytes c.fresh-begun.new.words ≡ fresh_monitor
+is_made c =
+    ap (λ (f : Fresh). f.monitor) c.fresh-begun.ensures
+    ∙ is-fresh c.args.self.now.bytes c.args.self.now.words (omega arith) (omega arith)
+
 pub returns-clause-table : goal.returns-clause-table
 returns-clause-table c =
     c.compile.ensures.area
@@ -53,16 +63,12 @@ returns-clause-table c =
 
 pub returns-clause-answer : goal.returns-clause-answer
 returns-clause-answer c =
-    let written = same_number _ _ (sym c.in_ok-table.was ∙ compiled (goal.at.returns-clause-answer c).After-ok) in
-    let fresh = ap (λ (f : Fresh). f.monitor) c.fresh-begun.ensures ∙ is-fresh c.args.self.now.bytes c.args.self.now.words (omega arith) (omega arith) in
-    rw (written, ap (λ (m : Monitor). m.head) fresh) refl
+    let at = goal.at.returns-clause-answer c in
+    let written = same_number _ _ (sym c.in_ok-table.was ∙ compiled at.After-ok) in
+    rw (written, ap (λ (m : Monitor). m.head) (is_made at.After-fresh-begun)) refl
 
 pub returns-clause-bytes : goal.returns-clause-bytes
-returns-clause-bytes c =
-    ap (λ (m : Monitor). m.bytes)
-    (ap (λ (f : Fresh). f.monitor) c.fresh-begun.ensures ∙ is-fresh c.args.self.now.bytes c.args.self.now.words (omega arith) (omega arith))
+returns-clause-bytes c = ap (λ (m : Monitor). m.bytes) (is_made (goal.at.returns-clause-bytes c).After-fresh-begun)
 
 pub returns-clause-words : goal.returns-clause-words
-returns-clause-words c =
-    ap (λ (m : Monitor). m.words)
-    (ap (λ (f : Fresh). f.monitor) c.fresh-begun.ensures ∙ is-fresh c.args.self.now.bytes c.args.self.now.words (omega arith) (omega arith))
+returns-clause-words c = ap (λ (m : Monitor). m.words) (is_made (goal.at.returns-clause-words c).After-fresh-begun)

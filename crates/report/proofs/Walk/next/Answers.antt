@@ -64,7 +64,8 @@ returns-clause-turn c =
     let input = c.args.input.now in
     let self = c.args.self in
     let w = watched self c.args.memory.now in
-    let next = next-some input self.at _ c.first_run-run.ensures c.if-input-at.false w c.if-input-gt-INPUT_BYTES.false c.if-from-to.false in
+    let next = next-some input self.at _ c.first_run-run.ensures c.if-input-at.false w c.if-input-gt-INPUT_BYTES.false
+    c.if-from-to.false in
     let bytes = run-bytes input self.at _ c.first_run-run.ensures c.if-input-at.false in
     rw next (rw (bytes, c.clear.ensures.line) at c.named.ensures.turn)
 
@@ -73,5 +74,7 @@ returns-clause-onward c =
     let input = c.args.input.now in
     let self = c.args.self in
     let place = turn_place _ _ _ _ _ _ c.named.new.memory c.named.ensures.turn in
-    let onward = run_onward input self.at _ c.first_run-run.ensures c.if-input-at.false c.if-from-to.false in
-    (turn_some _ _ _ _ _ _ c.named.new.memory c.named.ensures.turn, (omega (arith, place, onward.0), omega (arith, place, onward.1)))
+    let onward = run_onward input self.at _ c.first_run-run.ensures c.if-input-at.false c.if-from-to.false in (
+      turn_some _ _ _ _ _ _ c.named.new.memory c.named.ensures.turn,
+      (omega (arith, place, onward.0), omega (arith, place, onward.1)),
+    )
