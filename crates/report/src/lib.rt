@@ -10,8 +10,8 @@ ghost use Rattle.printing.specs.Turns.{line_most, Events, offering, next_of, tur
 ghost use Rattle.lines.specs.Wrote.{area};
 ghost use Rattle.report.specs.Lent.{areas_in, walk_in, begun_in, watched, turn_from, SameRules};
 
-use grammar::{NAMES_BYTES, Read};
-use layout::{IMAGE_BYTES, TABLE_WORDS};
+use grammar::NAMES_BYTES;
+use layout::{IMAGE_BYTES, Refusal, TABLE_WORDS};
 use lines::Line;
 use machine::CAPACITY;
 use monitor::Head;
@@ -104,11 +104,11 @@ impl Memory {
         }
         let end = rule_length(input);
         match text::read_rules(&input[..end], &mut self.image, &mut self.names) {
-            Read::Refused(n, place) => {
-                self.line.put_rules_refused(n, place);
+            Err(error) => {
+                self.line.put_rules_refused(error.refusal.number(), error.place);
                 None
             }
-            Read::Image(size) => self.make_ready(events_start(input, end), size),
+            Ok(size) => self.make_ready(events_start(input, end), size),
         }
     }
 }
@@ -128,7 +128,7 @@ impl Walk {
         memory.line.put_byte(b' ');
         match tokens::symbol(&memory.names, x) {
             None => {
-                memory.line.put_refused(12);
+                memory.line.put_refused(Refusal::NoEvent.number());
                 Walk { at: end, ..self }
             }
             Some(a) => {

@@ -49,7 +49,7 @@ returns-in-None-clause-turn c =
     let w = watched c.args.self c.args.memory.now in
     let unknown = sym c.symbol.ensures ∙ c.in-None.is in
     let line = writes_as (line_unknown w c.args.x.now unknown)
-    (writes_then c.put.ensures (writes_then c.put_byte.ensures c.put_refused.ensures)) in
+    (writes_then c.put.ensures (writes_then c.put_byte.ensures (rw c.number.ensures at c.put_refused.ensures))) in
     turn_is _ _ _ _ _ _ _ (line_bytes c.requires.line line) (line_area c.requires.line line) (rw unknown)
 
 pub returns-in-Some-clause-turn : goal.returns-in-Some-clause-turn
