@@ -8,31 +8,23 @@ use mathlib.Core.Logic.{◌≢◌, ⊎_elim}
 use mathlib.Core.List.{List}
 use native.Mathlib.Omega.{arith}
 use lib.Dec.{ltb}
-use lib.ListN.{length, get_or, length-set}
+use lib.ListN.{length, length-set}
 use borrow.Author.Tests.{ltb-true, ltb-false, not-true, not-false}
 use Rattle.rewriting.specs.Rules.{RuleSet, in_range}
 use Rattle.rewriting.proofs.Ranges.{ranges}
 use Rattle.layout.specs.ImageCheck.{Decides}
 use Rattle.layout.proofs.ImageCheck.{decided, denied}
 use Rattle.layout.specs.States.{states}
-use Rattle.layout.specs.Words.{root, transition, own_or}
+use Rattle.layout.specs.Words.{root, transition}
 use Rattle.trie.specs.declared.Node.{Node}
-use Rattle.trie.specs.Nodes.{parent, symbol, children, matched, failure, TrieOf, Owned, failure_by}
-use Rattle.table.specs.Consistent.{differing, Passes, Passed, RootPassed, MarkPassed, RightTable}
+use Rattle.trie.specs.Nodes.{parent, symbol, failure, TrieOf, Owned, failure_by}
+use Rattle.table.specs.Consistent.{Passes, Passed, RootPassed, MarkPassed, RightTable}
 use Rattle.layout.proofs.States.{few_states}
 use Rattle.layout.proofs.RowPlaces.{row_end, word_within}
 use Rattle.trie.proofs.Growth.{node_cases}
 use Rattle.trie.proofs.Kept.{with_failure, parent_kept, symbol_kept, children_kept, failure_set, failure_other, matched_same, failure_kept, trie_kept}
 use Rattle.table.proofs.PassesRight.{consistent_right}
 use Rattle.table.proofs.RightPasses.{right_passes, right_inside, right_root, right_mark}
-
--- state q passes, by what the code of its tests read and counted
-pub passes : (t : List Node) (matches rows : List ℕ) (symbols q : ℕ) {word f n : ℕ}
-    → transition rows symbols (parent t q) (symbol t q) ≡ q
-    → word ≡ own_or (matched t q) (get_or matches (failure t q) 0) → word ≡ get_or matches q 0
-    → f ≡ failure t q → n ≡ differing rows symbols q f → n ≡ children t q → Passes t matches rows symbols q
-passes t matches rows symbols q led inherits same fails differs count =
-    record { led = led; inherits = sym same ∙ inherits; differs = rw (← fails) (sym differs ∙ count) }
 
 -- A check keeps node q's failure state, and what was tested before stays.
 module _ (t : List Node) (q f : ℕ) (inside : q < length t) where

@@ -68,11 +68,11 @@ fn inherited(trie: &[Node], matches: &[u16], q: usize) -> u16
     ensures { result ≡ own_or (matched trie.now q) (get_or matches.now (failure trie.now q) 0) }
 {
     let own = trie[q].matched;
-    if own != 0 {
-        return own;
+    if own == 0 {
+        matches[usize::from(trie[q].failure)]
+    } else {
+        own
     }
-    let f = usize::from(trie[q].failure);
-    matches[f]
 }
 
 // The tests of the root.
@@ -84,14 +84,7 @@ fn root_holds(trie: &[Node], matches: &[u16], rows: &[u16], s: usize, root: usiz
     requires row { root * s + s ≤ length rows.now }
     ensures { Decides result (RootPassed trie.now matches.now rows.now s root) }
 {
-    if matches[root] != 0 {
-        return false;
-    }
-    let n = transitions(rows, s, root);
-    if n != trie[root].children {
-        return false;
-    }
-    true
+    matches[root] == 0 && transitions(rows, s, root) == trie[root].children
 }
 
 // The tests of the mark alone, which no state leads to: it has no match, and its row differs from the root's in as many words as it
@@ -104,14 +97,7 @@ fn mark_holds(trie: &[Node], matches: &[u16], rows: &[u16], s: usize, root: usiz
     requires other { root * s + s ≤ length rows.now }
     ensures { Decides result (MarkPassed trie.now matches.now rows.now s root) }
 {
-    if matches[0] != 0 {
-        return false;
-    }
-    let n = differences(rows, s, 0, root);
-    if n != trie[0].children {
-        return false;
-    }
-    true
+    matches[0] == 0 && differences(rows, s, 0, root) == trie[0].children
 }
 
 // The tests of state q, which its parent leads to, and whose failure state its node holds.
@@ -124,16 +110,8 @@ fn state_holds(trie: &[Node], matches: &[u16], rows: &[u16], s: usize, q: usize)
     requires other { failure trie.now q * s + s ≤ length rows.now }
     ensures { Decides result (Passes trie.now matches.now rows.now s q) }
 {
-    let m = inherited(trie, matches, q);
-    if m != matches[q] {
-        return false;
-    }
     let f = usize::from(trie[q].failure);
-    let n = differences(rows, s, q, f);
-    if n != trie[q].children {
-        return false;
-    }
-    true
+    inherited(trie, matches, q) == matches[q] && differences(rows, s, q, f) == trie[q].children
 }
 
 // Every state's tests, in the order of their numbers, so that its parent and its parent's failure state are known when a
