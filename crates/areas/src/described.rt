@@ -155,8 +155,8 @@ fn settled_right(table: Table<'_>, symbols: &[u8], words: &[u16]) -> bool
     true
 }
 
-// Whether head and areas are as described, with areas of one length. The head comes as its four numbers: the struct has its methods in the
-// crate monitor, above this one.
+// Whether head and areas are as described, with areas of one length. The head comes as its four numbers: its struct has methods, so
+// it stands with them in the crate monitor, above this one.
 pub fn as_described(
     settled: usize,
     waiting: usize,

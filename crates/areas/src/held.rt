@@ -1,5 +1,5 @@
-// Writes into the two areas. They ask that their places are inside, which the checks of a call have shown: a test in each would cost at
-// every step.
+// Writes into the two areas. They ask that their places are inside, which the checks of a call have shown: a test in each would
+// cost at every step.
 ghost use Rattle.std.specs.Prelude.{◌+◌, ◌*◌, ◌-◌, ◌≤◌, ◌<◌, ◌≡◌, true, length, get_or, set, drop, replicate};
 ghost use Rattle.std.proofs.Math.Seq.{paste};
 ghost use Rattle.machine.specs.Lent.{word_before, Starts};

@@ -128,7 +128,8 @@ impl Flat {
         fuel: u32,
     ) -> Flat
         requires lent { PassedWith rules (flat self bytes.old words.old) }
-        requires accepted { refusal (call_checks (set_by rules) (length bytes.old) (flat_in self) (offer_or_go_on offered fuel)) ≡ None }
+        requires accepted { refusal (call_checks (set_by rules) (length bytes.old) (flat_in self)
+            (offer_or_go_on offered fuel)) ≡ None }
         requires sums { self.steps + self.rewrites + self.put + 10 * fuel < 18446744073709551616 }
         ensures outcome { ran_from result bytes.new words.new
             ≡ upon (counts_in self) (decided (set_by rules.entry) (length bytes.old)
@@ -141,7 +142,8 @@ impl Flat {
         head.run(rules, bytes, words, fuel)
     }
 
-    // Calls one after another, up to the first that is refused: an offer of each event or, where `offering` is false, as many goes-on.
+    // Calls one after another, up to the first that is refused: an offer of each event or, where `offering` is false, as many
+    // goes-on. The flag says what all of them are, since a batch lends its events as they are.
     pub(crate) fn in_turn(
         self,
         rules: Rules<'_>,
@@ -158,7 +160,8 @@ impl Flat {
         requires room { length events.now ≤ length answers.old }
         ensures calls { series_from result bytes.new words.new answers.new
             ≡ batched None (flat self bytes.old words.old) answers.old
-            (in_turn (length bytes.old) rules.entry.table.image.bytes.now rules.entry.table.words.now (flat self bytes.old words.old)
+            (in_turn (length bytes.old) rules.entry.table.image.bytes.now rules.entry.table.words.now
+            (flat self bytes.old words.old)
             (offers_or_goes_on offering events.now fuel)) }
         ensures last { (k : ℕ) → result.accepted ≡ suc k → get_or answers.new k 0 ≡ result.head.answer }
     {
@@ -195,7 +198,8 @@ impl Head {
     ) -> Returned
         requires { PassedWith rules (lent self bytes.old words.old) }
         ensures { outcome_from result bytes.new words.new
-            ≡ call_of (length bytes.old) rules.entry.table.image.bytes.now rules.entry.table.words.now (lent self bytes.old words.old)
+            ≡ call_of (length bytes.old) rules.entry.table.image.bytes.now rules.entry.table.words.now
+            (lent self bytes.old words.old)
             (offer_or_go_on offered fuel) }
     {
         let events = [offered.unwrap_or(0)];

@@ -149,8 +149,8 @@ impl Head {
         Ok(table)
     }
 
-    // The event becomes the last waiting symbol, and the call runs. It has a body of its own: with one function for it and go_on an offer
-    // where nothing is held takes a twentieth longer.
+    // The event becomes the last waiting symbol, and the call runs. It has a body of its own: with one function for it and go_on an
+    // offer where nothing is held takes a twentieth longer.
     pub fn offer(
         self,
         image: &[u8],
