@@ -14,7 +14,6 @@ ghost use Rattle.monitor.specs.Lent.{head_in, lent, stop_number};
 ghost use Rattle.ffi.specs.Numbers.{read_number, read_words, refused_number};
 ghost use Rattle.ffi.specs.Heads.{standing_word, head_from, head_words, head_after, call_words, fresh_made, call_made, batch_made};
 
-use grammar::Read;
 use layout::Refusal;
 use machine::Answer;
 use monitor::{Head, Returned};
@@ -33,13 +32,13 @@ pub extern "C" fn watcher_read_rules(
     ensures words { out.new ≡ read_words (read_of text.now image.old names.old).answer }
 {
     match text::read_rules(text, image, names) {
-        Read::Image(n) => {
+        Ok(n) => {
             *out = [n as u64, 0];
             0
         }
-        Read::Refused(n, place) => {
-            *out = [0, place as u64];
-            n
+        Err(error) => {
+            *out = [0, error.place as u64];
+            error.refusal.number()
         }
     }
 }

@@ -1,5 +1,6 @@
 -- The sample's text as it is read, and texts at the edges of the grammar, computed.
 -- Assumes nothing.
+use Rattle.std.specs.Prelude.{Ok, Err}
 use Prim.Native.Char.{code}
 use Prim.Native.String.{String, [] as no_text, ◌∷◌ as ◌then◌}
 use Prim.Native.Nat.{ℕ, zero, suc}
@@ -11,7 +12,6 @@ use Rattle.rewriting.specs.Rules.{Put, Close, ◌⇒◌, at_start, symbols_of}
 use Rattle.rewriting.specs.Sample.{sample}
 use Rattle.layout.specs.Image.{kind, length_or_verdict, mark_byte, contents, body, image_of}
 use Rattle.layout.specs.Refusals.{refusal}
-use Rattle.grammar.specs.declared.Read.TheVariants.{Image, Refused}
 use Rattle.grammar.specs.Tokens.{separator, letter, digit, name_byte, is_name, token_of, unbroken, runs_from, runs}
 use Rattle.grammar.specs.Names.{number_of, or_new, numbered, slot, slots}
 use Rattle.grammar.specs.Grammar.{
@@ -38,7 +38,7 @@ use Rattle.grammar.specs.Grammar.{
   complete,
   rule_set_of,
 }
-use Rattle.grammar.specs.Read.{Result, Good, Bad, ended, or_broken, read_runs, read_text, names_of, read_checks, written, unless, read_of}
+use Rattle.grammar.specs.Read.{ReadText, ended, or_broken, read_runs, read_text, names_of, read_checks, written, unless, read_of}
 
 -- the bytes of a text in ASCII
 unfoldable pub bytes : String → List ℕ
@@ -73,7 +73,7 @@ sample_read =
       place = Between;
     }
 
-pub sample-read : read_text sample_text ≡ Good sample_read
+pub sample-read : read_text sample_text ≡ Ok sample_read
 unfolding computes sample_read
 sample-read = refl
 
@@ -97,7 +97,7 @@ sample_names = (refl, refl)
 -- No word is reserved: neither `events`, nor the words' names for symbols. Any separators will do.
 pub events_event :
     read_text (bytes "events events . events -> events .")
-    ≡ Good
+    ≡ Ok
     (record {
       symbols = bytes "events" ∷ [];
       words = bytes "fail" ∷ bytes "succeed" ∷ [];
@@ -110,12 +110,12 @@ events_event = refl
 
 -- The text is refused so, with this place.
 abbrev pub RefusedText : String → ℕ → ℕ → Type 0
-RefusedText text n place = read_text (bytes text) ≡ Bad n place
+RefusedText text n place = read_text (bytes text) ≡ Err (n, place)
 
 -- The text is good, with so many symbols, words, events and rules.
-unfoldable pub sizes : Result → List ℕ
-sizes (Good s) = length s.symbols ∷ length s.words ∷ s.events ∷ length s.rules ∷ []
-sizes (Bad n place) = []
+unfoldable pub sizes : ReadText → List ℕ
+sizes (Ok s) = length s.symbols ∷ length s.words ∷ s.events ∷ length s.rules ∷ []
+sizes (Err (n, place)) = []
 
 abbrev pub Sizes : List ℕ → ℕ → ℕ → ℕ → ℕ → Type 0
 Sizes text symbols words events rules = sizes (read_text text) ≡ symbols ∷ words ∷ events ∷ rules ∷ []
@@ -209,9 +209,9 @@ times (suc n) part = part ++ times n part
 -- "the first name of rule 65": `->` or a `#` word there is 4
 pub text_rule_65 :
     Sizes (bytes "events a . " ++ times 64 (bytes "a -> a . ")) 1 2 1 64
-    × (read_text (bytes "events a . " ++ times 64 (bytes "a -> a . ") ++ bytes "a") ≡ Bad 5 587)
-    × (read_text (bytes "events a . " ++ times 64 (bytes "a -> a . ") ++ bytes "->") ≡ Bad 4 587)
-    × (read_text (bytes "events a . " ++ times 64 (bytes "a -> a . ") ++ bytes "#x") ≡ Bad 4 587)
+    × (read_text (bytes "events a . " ++ times 64 (bytes "a -> a . ") ++ bytes "a") ≡ Err (5, 587))
+    × (read_text (bytes "events a . " ++ times 64 (bytes "a -> a . ") ++ bytes "->") ≡ Err (4, 587))
+    × (read_text (bytes "events a . " ++ times 64 (bytes "a -> a . ") ++ bytes "#x") ≡ Err (4, 587))
 unfolding computes sizes times
 text_rule_65 = (refl, refl, refl, refl)
 
@@ -223,7 +223,7 @@ fourteen =
 
 pub word_15 :
     Sizes (fourteen ++ bytes "a -> #a . a -> #fail .") 1 16 1 16
-    × (read_text (fourteen ++ bytes "a -> #o .") ≡ Bad 5 156)
+    × (read_text (fourteen ++ bytes "a -> #o .") ≡ Err (5, 156))
 unfolding computes sizes
 word_15 = (refl, refl)
 
@@ -242,7 +242,7 @@ mark_read =
       place = Between;
     }
 
-pub mark-read : read_text mark_text ≡ Good mark_read
+pub mark-read : read_text mark_text ≡ Ok mark_read
 unfolding computes mark_read
 mark-read = refl
 
@@ -294,15 +294,15 @@ behind_mark = (refl, refl, refl, refl, refl)
 
 -- where rule 65 would begin, `^` is taken, and the name behind it is its first
 pub mark_65 :
-    (read_text (bytes "events a . " ++ times 64 (bytes "a -> a . ") ++ bytes "^ a") ≡ Bad 5 589)
-    × (read_text (bytes "events a . " ++ times 64 (bytes "a -> a . ") ++ bytes "^ ->") ≡ Bad 4 589)
-    × (read_text (bytes "events a . " ++ times 64 (bytes "a -> a . ") ++ bytes "^") ≡ Bad 4 588)
+    (read_text (bytes "events a . " ++ times 64 (bytes "a -> a . ") ++ bytes "^ a") ≡ Err (5, 589))
+    × (read_text (bytes "events a . " ++ times 64 (bytes "a -> a . ") ++ bytes "^ ->") ≡ Err (4, 589))
+    × (read_text (bytes "events a . " ++ times 64 (bytes "a -> a . ") ++ bytes "^") ≡ Err (4, 588))
 unfolding computes times
 mark_65 = (refl, refl, refl)
 
 -- "It returns the image's length; bytes beyond either stay.": the sample into areas that are one byte longer than needed
 pub sample-taken :
-    ((read_of sample_text (replicate 1285 9) (replicate 1201 9)).answer ≡ Image 22)
+    ((read_of sample_text (replicate 1285 9) (replicate 1201 9)).answer ≡ Ok 22)
     × (drop 22 (read_of sample_text (replicate 1285 9) (replicate 1201 9)).image ≡ replicate 1263 9)
     × (drop 1200 (read_of sample_text (replicate 1285 9) (replicate 1201 9)).names ≡ 9 ∷ [])
 unfolding computes whole
@@ -311,22 +311,22 @@ sample-taken = (refl, refl, refl)
 -- a refused text, and both areas as they were
 pub text_refused :
     read_of (bytes "events a b a .") (replicate 1284 9) (replicate 1200 9)
-    ≡ record { answer = Refused 6 11; image = replicate 1284 9; names = replicate 1200 9 }
+    ≡ record { answer = Err (6, 11); image = replicate 1284 9; names = replicate 1200 9 }
 unfolding computes whole
 text_refused = refl
 
 -- "2, image area under 1,284 or name area under 1,200", also where the text breaks
 pub area_short :
-    ((read_of sample_text (replicate 1283 9) (replicate 1200 9)).answer ≡ Refused 2 0)
-    × ((read_of sample_text (replicate 1284 9) (replicate 1199 9)).answer ≡ Refused 2 0)
-    × ((read_of (bytes "events .") (replicate 1283 9) (replicate 1200 9)).answer ≡ Refused 2 0)
+    ((read_of sample_text (replicate 1283 9) (replicate 1200 9)).answer ≡ Err (2, 0))
+    × ((read_of sample_text (replicate 1284 9) (replicate 1199 9)).answer ≡ Err (2, 0))
+    × ((read_of (bytes "events .") (replicate 1283 9) (replicate 1200 9)).answer ≡ Err (2, 0))
 unfolding computes whole
 area_short = (refl, refl, refl)
 
 -- "1, over 16,384 bytes", before 2; 16,384 are read
 pub long_text :
-    ((read_of (replicate 16385 32) [] []).answer ≡ Refused 1 0)
-    × ((read_of (replicate 16384 32) [] []).answer ≡ Refused 2 0)
-    × ((read_of (replicate 16384 32) (replicate 1284 9) (replicate 1200 9)).answer ≡ Refused 4 16384)
+    ((read_of (replicate 16385 32) [] []).answer ≡ Err (1, 0))
+    × ((read_of (replicate 16384 32) [] []).answer ≡ Err (2, 0))
+    × ((read_of (replicate 16384 32) (replicate 1284 9) (replicate 1200 9)).answer ≡ Err (4, 16384))
 unfolding computes whole
 long_text = (refl, refl, refl)

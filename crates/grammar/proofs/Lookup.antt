@@ -3,7 +3,7 @@
 use Prim.Native.Nat.{ℕ, zero, suc, ◌+◌, ◌*◌, ◌-◌, ◌≤◌, ◌<◌}
 use mathlib.Core.Path.{◌≡◌, refl, sym, ap, ◌∙◌}
 use mathlib.Core.Bool.{Bool, true, false, cond, ◌&&◌}
-use Rattle.std.specs.Prelude.{Option, None, Some, option_map}
+use Rattle.std.specs.Prelude.{Option, None, Some, option_map, Ok, Err}
 use mathlib.Core.List.{List, [], ◌∷◌, ◌++◌, append_assoc, flat_map}
 use mathlib.Core.Logic.{◌⊎◌, inl, inr}
 use native.Mathlib.Omega.{arith}
@@ -28,8 +28,6 @@ use Rattle.grammar.specs.Grammar.{
   Ending,
   Reading,
   Taken,
-  Goes,
-  Breaks,
   events_word,
   epsilon_word,
   fail_word,
@@ -53,7 +51,7 @@ use Rattle.grammar.specs.Grammar.{
   stop,
   after_token,
 }
-use Rattle.grammar.specs.Read.{Good, read_text, names_of}
+use Rattle.grammar.specs.Read.{read_text, names_of}
 use Rattle.grammar.specs.Lookup.{slot_at, symbol_named}
 use Rattle.grammar.specs.Sound.{Sound}
 use Rattle.grammar.proofs.Slots.{name-some, name_short, length-slot, length-slots, same-slot}
@@ -234,7 +232,7 @@ lookup_over s area x h =
     rw append_assoc (lookup_slots s (slots 16 s.words ++ drop (length (names_of s)) area) x h)
 
 pub lookup_read :
-    (text : List ℕ) (s : Reading) (area x : List ℕ) → read_text text ≡ Good s
+    (text : List ℕ) (s : Reading) (area x : List ℕ) → read_text text ≡ Ok s
     → symbol_named (over (names_of s) area) x ≡ number_of s.symbols x
 lookup_read text s area x e = lookup_over s area x (read_sound text s e).0
 
@@ -292,15 +290,15 @@ distinct_adds names more d (inr h) = rw h.2 (distinct_added names h.0 d h.1)
 
 -- A token adds at most one symbol, or one word.
 abbrev pub Added : Reading → Taken → Type 0
-Added s t = (s' : Reading) → t ≡ Goes s' → Adds s.symbols s'.symbols × Adds s.words s'.words
+Added s t = (s' : Reading) → t ≡ Ok s' → Adds s.symbols s'.symbols × Adds s.words s'.words
 
-added_breaks : (s : Reading) (n : ℕ) → Added s (Breaks n)
+added_breaks : (s : Reading) (n : ℕ) → Added s (Err n)
 added_breaks s n s' e = let z : ◌≡◌ {A = ℕ} 0 1 = cc in absurd (omega arith)
 
-added_goes : (s s'' : Reading) → Adds s.symbols s''.symbols → Adds s.words s''.words → Added s (Goes s'')
+added_goes : (s s'' : Reading) → Adds s.symbols s''.symbols → Adds s.words s''.words → Added s (Ok s'')
 added_goes s s'' a b s' e = let p : s'' ≡ s' = cc in rw (← p) (a, b)
 
-added-placed : (s : Reading) (p : Place) → Added s (Goes (placed s p))
+added-placed : (s : Reading) (p : Place) → Added s (Ok (placed s p))
 unfolding placed
 added-placed s p = added_goes s (placed s p) (inl refl) (inl refl)
 
@@ -440,7 +438,7 @@ length_adds names more (inl e) = rw e (omega arith)
 length_adds names more (inr a) = rw a.2 (simp length-append (omega arith))
 
 names_after :
-    (s : Reading) (t : Token) → NamesKept s → NamedToken t → (s' : Reading) → after_token s t ≡ Goes s' → NamesKept s'
+    (s : Reading) (t : Token) → NamesKept s → NamedToken t → (s' : Reading) → after_token s t ≡ Ok s' → NamesKept s'
 names_after s t k nx s' e =
     let a : Adds s.symbols s'.symbols × Adds s.words s'.words = added-after s t s' e in
     record {
@@ -451,18 +449,18 @@ names_after s t k nx s' e =
       two_words = omega (arith, length_adds s.words s'.words a.1);
     }
 
-pub read_names : (text : List ℕ) (s : Reading) → read_text text ≡ Good s → NamesKept s
+pub read_names : (text : List ℕ) (s : Reading) → read_text text ≡ Ok s → NamesKept s
 read_names text s e = (text_keeps NamesKept names_after names_begun text s e).0
 
 -- Each symbol of a text is found by its name, and what is found by a name has it.
 pub lookup_symbol :
-    (text : List ℕ) (s : Reading) (area : List ℕ) (i : ℕ) → read_text text ≡ Good s → i < length s.symbols
+    (text : List ℕ) (s : Reading) (area : List ℕ) (i : ℕ) → read_text text ≡ Ok s → i < length s.symbols
     → symbol_named (over (names_of s) area) (get_or s.symbols i []) ≡ Some i
 lookup_symbol text s area i e h =
     lookup_read text s area (get_or s.symbols i []) e ∙ (read_names text s e).symbols_differ i h
 
 pub lookup_found :
-    (text : List ℕ) (s : Reading) (area x : List ℕ) (i : ℕ) → read_text text ≡ Good s
+    (text : List ℕ) (s : Reading) (area x : List ℕ) (i : ℕ) → read_text text ≡ Ok s
     → symbol_named (over (names_of s) area) x ≡ Some i → (i < length s.symbols) × (get_or s.symbols i [] ≡ x)
 lookup_found text s area x i e found =
     let p : number_of s.symbols x ≡ Some i = sym (lookup_read text s area x e) ∙ found in

@@ -4,7 +4,7 @@
 use Prim.Native.Nat.{ℕ, suc, ◌+◌, ◌≤◌}
 use mathlib.Core.Path.{◌≡◌, refl}
 use mathlib.Core.Bool.{Bool, true, false, cond, ◌&&◌}
-use Rattle.std.specs.Prelude.{Option, None, Some}
+use Rattle.std.specs.Prelude.{Option, None, Some, Ok, Err}
 use mathlib.Core.List.{List, [], ◌∷◌, Memᴰ}
 use native.Mathlib.Omega.{arith}
 use lib.Dec.{leb, ltb}
@@ -29,8 +29,6 @@ use Rattle.grammar.specs.Grammar.{
   Ending,
   Reading,
   Taken,
-  Goes,
-  Breaks,
   events_word,
   epsilon_word,
   begun,
@@ -54,9 +52,7 @@ use Rattle.grammar.specs.Grammar.{
   rule_set_of,
 }
 use Rattle.grammar.specs.Read.{
-  Result,
-  Good,
-  Bad,
+  ReadText,
   ended,
   or_broken,
   read_runs,
@@ -92,8 +88,8 @@ by_6 = (Memᴰ.tail (Memᴰ.tail (Memᴰ.tail (Memᴰ.head refl))), omega arith)
 
 -- What a token makes of a reading: where the text breaks, it does so by one of them.
 abbrev BreaksBy : Taken → Type 0
-BreaksBy (Goes s) = Unit {0}
-BreaksBy (Breaks n) = Broken n
+BreaksBy (Ok s) = Unit {0}
+BreaksBy (Err n) = Broken n
 
 by_symbol : (s : Reading) (x : List ℕ) (to : ℕ → Place) → BreaksBy (symbol s x to)
 unfolding symbol with_symbol
@@ -189,9 +185,9 @@ by_run s (Some Stop) = by_stop s s.place
 by_run s (Some Mark) = by_mark s s.place
 
 -- A text that breaks does so by one of these numbers, inside the text or at its end.
-abbrev BreaksAt : ℕ → Result → Type 0
-BreaksAt size (Good s) = Unit {0}
-BreaksAt size (Bad n place) = Broken n × (place ≤ size)
+abbrev BreaksAt : ℕ → ReadText → Type 0
+BreaksAt size (Ok s) = Unit {0}
+BreaksAt size (Err (n, place)) = Broken n × (place ≤ size)
 
 by_runs :
     (size : ℕ) (s : Reading) (apart : Bool) (i : ℕ) (t : List ℕ) → i + length t ≤ size
@@ -205,8 +201,8 @@ by_runs size s apart i (b ∷ t) h =
     Rest = (s' : Reading) (apart' : Bool) → BreaksAt size (read_runs size s' (runs_from apart' (suc i) t))
 
     taken : (k : Taken) → BreaksBy k → Rest → BreaksAt size (or_broken i (λ s'. read_runs size s' (runs_from false (suc i) t)) k)
-    taken (Goes s') by rest = rest s' false
-    taken (Breaks n) by rest = (by, omega arith)
+    taken (Ok s') by rest = rest s' false
+    taken (Err n) by rest = (by, omega arith)
 
     separated : (c d : Bool) → Rest
         → BreaksAt size
@@ -237,7 +233,7 @@ read_theorem text image names =
     go (leb (length text) 16384) (leb 1284 (length image) && leb 1200 (length names)) refl refl (read_text text) refl (by_text text)
   where
     refused : (n place : ℕ) → Memᴰ n (1 ∷ 2 ∷ 3 ∷ 4 ∷ 5 ∷ 6 ∷ []) → place ≤ length text → (n ≤ 2 → place ≡ 0)
-        → ReadEnded text image names (written (Bad n place) image names)
+        → ReadEnded text image names (written (Err (n, place)) image names)
     refused n place known inside zero =
         record {
           refused = λ k (p : Some n ≡ Some k).
@@ -255,8 +251,8 @@ read_theorem text image names =
           size = (refl, refl);
         }
 
-    good : (s : Reading) → length text ≤ 16384 → 1284 ≤ length image → 1200 ≤ length names → read_text text ≡ Good s
-        → ReadEnded text image names (written (Good s) image names)
+    good : (s : Reading) → length text ≤ 16384 → 1284 ≤ length image → 1200 ≤ length names → read_text text ≡ Ok s
+        → ReadEnded text image names (written (Ok s) image names)
     good s short image_room names_room e =
         let i : List ℕ = image_of (rule_set_of s) in
         let few = read_image_short text s e in
@@ -281,14 +277,14 @@ read_theorem text image names =
         }
 
     go : (a b : Bool) → leb (length text) 16384 ≡ a → (leb 1284 (length image) && leb 1200 (length names)) ≡ b
-        → (r : Result) → read_text text ≡ r → BreaksAt (length text) r
+        → (r : ReadText) → read_text text ≡ r → BreaksAt (length text) r
         → ReadEnded text image names (written (unless (refusal ((a, 1) ∷ (b, 2) ∷ [])) r) image names)
     go false b p q r e h = refused 1 0 (Memᴰ.head refl) (omega arith) (λ _. refl)
     go true false p q r e h = refused 2 0 (Memᴰ.tail (Memᴰ.head refl)) (omega arith) (λ _. refl)
-    go true true p q (Good s) e h =
+    go true true p q (Ok s) e h =
         good s (leb-true (length text) 16384 p)
         (leb-true 1284 (length image) (and_left (leb 1284 (length image)) (leb 1200 (length names)) q))
         (leb-true 1200 (length names) (and_right (leb 1284 (length image)) (leb 1200 (length names)) q))
         e
-    go true true p q (Bad n place) e h =
+    go true true p q (Err (n, place)) e h =
         refused n place (Memᴰ.tail (Memᴰ.tail h.0.0)) h.1 (λ (le : n ≤ 2). absurd (omega (arith, h.0.1)))

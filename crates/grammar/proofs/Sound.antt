@@ -4,7 +4,7 @@
 use Prim.Native.Nat.{ℕ, suc, ◌≤◌, ◌<◌}
 use mathlib.Core.Path.{◌≡◌, refl, subst}
 use mathlib.Core.Bool.{Bool, true, false, cond, ◌&&◌}
-use Rattle.std.specs.Prelude.{Option, None, Some, option_map}
+use Rattle.std.specs.Prelude.{Option, None, Some, option_map, Ok, Err}
 use mathlib.Core.List.{List, [], ◌∷◌, ◌++◌}
 use native.Mathlib.Omega.{arith}
 use lib.Dec.{eqb, leb, ltb}
@@ -29,8 +29,6 @@ use Rattle.grammar.specs.Grammar.{
   Ending,
   Reading,
   Taken,
-  Goes,
-  Breaks,
   events_word,
   epsilon_word,
   begun,
@@ -55,7 +53,7 @@ use Rattle.grammar.specs.Grammar.{
   complete,
   rule_set_of,
 }
-use Rattle.grammar.specs.Read.{Good, Bad, ended, or_broken, read_runs, read_text, names_of}
+use Rattle.grammar.specs.Read.{ReadText, ended, or_broken, read_runs, read_text, names_of}
 use Rattle.grammar.specs.Sound.{EventsKnown, RuleBegun, SoundAt, Sound}
 use Rattle.grammar.proofs.Slots.{length-slots}
 
@@ -209,12 +207,12 @@ sound_begun =
 
 -- What a token makes of a reading keeps it sound, where the text goes on.
 abbrev pub KeepsSound : Taken → Type 0
-KeepsSound t = (s' : Reading) → t ≡ Goes s' → Sound s'
+KeepsSound t = (s' : Reading) → t ≡ Ok s' → Sound s'
 
-pub keeps_goes : (s : Reading) → Sound s → KeepsSound (Goes s)
+pub keeps_goes : (s : Reading) → Sound s → KeepsSound (Ok s)
 keeps_goes s h s' e = let p : s ≡ s' = cc in rw (← p) h
 
-pub keeps_breaks : (n : ℕ) → KeepsSound (Breaks n)
+pub keeps_breaks : (n : ℕ) → KeepsSound (Err n)
 keeps_breaks n s' e = let z : ◌≡◌ {A = ℕ} 0 1 = cc in absurd (omega arith)
 
 -- A reading with at least these symbols and words, and these events and rules.
@@ -608,35 +606,35 @@ complete-between (Ending m l r) e = let z : ◌≡◌ {A = ℕ} 0 1 = cc in absu
 -- What each token keeps, and holds before the first, holds of what a text is read as. It is then behind a `.`.
 module _
     (P : Reading → Type 0)
-    (step : (s : Reading) (t : Token) → P s → NamedToken t → (s' : Reading) → after_token s t ≡ Goes s' → P s') where
-  pub after_run_lem : (s : Reading) (bytes : List ℕ) → P s → (s' : Reading) → after_run s (token_of bytes) ≡ Goes s' → P s'
+    (step : (s : Reading) (t : Token) → P s → NamedToken t → (s' : Reading) → after_token s t ≡ Ok s' → P s') where
+  pub after_run_lem : (s : Reading) (bytes : List ℕ) → P s → (s' : Reading) → after_run s (token_of bytes) ≡ Ok s' → P s'
   unfolding after_run
   after_run_lem s bytes h = go (token_of bytes) (token_named bytes)
     where
-      go : (o : Option Token) → NamedIn o → (s' : Reading) → after_run s o ≡ Goes s' → P s'
+      go : (o : Option Token) → NamedIn o → (s' : Reading) → after_run s o ≡ Ok s' → P s'
       go None nx s' e = let z : ◌≡◌ {A = ℕ} 0 1 = cc in absurd (omega arith)
       go (Some t) nx s' e = step s t h nx s' e
 
   pub runs_keep :
-      (size : ℕ) (s : Reading) (rs : List Run) (s' : Reading) → P s → read_runs size s rs ≡ Good s'
+      (size : ℕ) (s : Reading) (rs : List Run) (s' : Reading) → P s → read_runs size s rs ≡ Ok s'
       → P s' × (s'.place ≡ Between)
   unfolding read_runs ended or_broken
   runs_keep size s [] s' h e = go (complete s.place) refl e
     where
-      go : (b : Bool) → complete s.place ≡ b → cond b (Good s) (Bad 4 size) ≡ Good s' → P s' × (s'.place ≡ Between)
+      go : (b : Bool) → complete s.place ≡ b → cond {A = ReadText} b (Ok s) (Err (4, size)) ≡ Ok s' → P s' × (s'.place ≡ Between)
       go true c p = let q : s ≡ s' = cc in rw (← q) (h, complete-between s.place c)
       go false c p = let z : ◌≡◌ {A = ℕ} 0 1 = cc in absurd (omega arith)
   runs_keep size s (r ∷ rest) s' h e =
       go (after_run s (token_of r.bytes)) (after_run_lem s r.bytes h) (λ s'' h'' p. runs_keep size s'' rest s' h'' p) e
     where
       go :
-          (t : Taken) → ((s'' : Reading) → t ≡ Goes s'' → P s'')
-          → ((s'' : Reading) → P s'' → read_runs size s'' rest ≡ Good s' → P s' × (s'.place ≡ Between))
-          → or_broken r.place (λ s''. read_runs size s'' rest) t ≡ Good s' → P s' × (s'.place ≡ Between)
-      go (Goes s'') keeps ih p = ih s'' (keeps s'' refl) p
-      go (Breaks n) keeps ih p = let z : ◌≡◌ {A = ℕ} 0 1 = cc in absurd (omega arith)
+          (t : Taken) → ((s'' : Reading) → t ≡ Ok s'' → P s'')
+          → ((s'' : Reading) → P s'' → read_runs size s'' rest ≡ Ok s' → P s' × (s'.place ≡ Between))
+          → or_broken r.place (λ s''. read_runs size s'' rest) t ≡ Ok s' → P s' × (s'.place ≡ Between)
+      go (Ok s'') keeps ih p = ih s'' (keeps s'' refl) p
+      go (Err n) keeps ih p = let z : ◌≡◌ {A = ℕ} 0 1 = cc in absurd (omega arith)
 
-  pub text_keeps : P begun → (text : List ℕ) (s : Reading) → read_text text ≡ Good s → P s × (s.place ≡ Between)
+  pub text_keeps : P begun → (text : List ℕ) (s : Reading) → read_text text ≡ Ok s → P s × (s.place ≡ Between)
   unfolding read_text
   text_keeps h text s e = runs_keep (length text) begun (runs text) s h e
 
@@ -644,7 +642,7 @@ module _
 pub sound_run : (s : Reading) (bytes : List ℕ) → Sound s → KeepsSound (after_run s (token_of bytes))
 sound_run s bytes h = after_run_lem Sound sound_after s bytes h
 
-pub read_sound : (text : List ℕ) (s : Reading) → read_text text ≡ Good s → Sound s × (s.place ≡ Between)
+pub read_sound : (text : List ℕ) (s : Reading) → read_text text ≡ Ok s → Sound s × (s.place ≡ Between)
 read_sound text s e = text_keeps Sound sound_after sound_begun text s e
 
 -- A sound reading behind a `.` has its rules in range.
@@ -664,17 +662,17 @@ sound_in_range s h p =
     h.all_rules
 
 -- The rules that a text gives are in range.
-pub read-in_range : (text : List ℕ) (s : Reading) → read_text text ≡ Good s → in_range (rule_set_of s) ≡ true
+pub read-in_range : (text : List ℕ) (s : Reading) → read_text text ≡ Ok s → in_range (rule_set_of s) ≡ true
 read-in_range text s e =
     let h : Sound s × (s.place ≡ Between) = read_sound text s e in
     sound_in_range s h.0 h.1
 
 -- The image that a text gives is valid.
-pub read-valid : (text : List ℕ) (s : Reading) → read_text text ≡ Good s → valid (image_of (rule_set_of s)) ≡ true
+pub read-valid : (text : List ℕ) (s : Reading) → read_text text ≡ Ok s → valid (image_of (rule_set_of s)) ≡ true
 read-valid text s e = image_valid (rule_set_of s) (read-in_range text s e)
 
 -- It has at most 1,284 bytes.
-pub read_image_short : (text : List ℕ) (s : Reading) → read_text text ≡ Good s → length (image_of (rule_set_of s)) ≤ 1284
+pub read_image_short : (text : List ℕ) (s : Reading) → read_text text ≡ Ok s → length (image_of (rule_set_of s)) ≤ 1284
 read_image_short text s e = longest (image_of (rule_set_of s)) (read-valid text s e)
 
 -- The names of a sound reading have 1,200 bytes, 48 slots of 25.
@@ -685,5 +683,5 @@ length_names s h =
     let b = length-slots 16 s.words h.few_words h.words_named in
     simp length-append (omega arith)
 
-pub read_length_names : (text : List ℕ) (s : Reading) → read_text text ≡ Good s → length (names_of s) ≡ 1200
+pub read_length_names : (text : List ℕ) (s : Reading) → read_text text ≡ Ok s → length (names_of s) ≡ 1200
 read_length_names text s e = length_names s (read_sound text s e).0

@@ -4,7 +4,7 @@
 --     NAME NAME ..  ->  NAME NAME ..  .
 --     NAME NAME ..  ->  #word  .
 --     ^ NAME NAME ..  ->  ..  .
-use Rattle.std.specs.Prelude.{ℕ, Bool, true, false, cond, List, [], ◌∷◌, ◌++◌, ltb, length, Option, None, Some}
+use Rattle.std.specs.Prelude.{ℕ, Bool, true, false, cond, List, [], ◌∷◌, ◌++◌, ltb, length, Option, None, Some, Result, Ok, Err}
 use Rattle.rewriting.specs.Lists.{same}
 use Rattle.rewriting.specs.Rules.{Right, Put, Close, Rule, RuleSet}
 use Rattle.grammar.specs.Tokens.{Token, Name, Word, Arrow, Stop, Mark}
@@ -36,9 +36,8 @@ pub record Reading : Type 0 where
   pub place : Place
 
 -- What a token makes of it: it goes on, or the text breaks here, by this refusal.
-pub data Taken : Type 0 where
-  Goes : Reading → Taken
-  Breaks : ℕ → Taken
+abbrev pub Taken : Type 0
+Taken = Result Reading ℕ
 
 -- `events`, `epsilon`, `fail`, `succeed`
 abbrev pub events_word : List ℕ
@@ -63,9 +62,9 @@ placed s p = record { symbols = s.symbols; words = s.words; events = s.events; r
 
 -- "names their symbol likewise"; 5 is "the 33rd symbol". The place behind a name may depend on its symbol.
 unfoldable pub with_symbol : Reading → (ℕ → Place) → Option Numbered → Taken
-with_symbol s to None = Breaks 5
+with_symbol s to None = Err 5
 with_symbol s to (Some n) =
-    Goes (record { symbols = n.names; words = s.words; events = s.events; rules = s.rules; place = to n.number })
+    Ok (record { symbols = n.names; words = s.words; events = s.events; rules = s.rules; place = to n.number })
 
 unfoldable pub symbol : Reading → List ℕ → (ℕ → Place) → Taken
 symbol s x to = with_symbol s to (numbered 32 s.symbols x)
@@ -73,31 +72,31 @@ symbol s x to = with_symbol s to (numbered 32 s.symbols x)
 -- "6, an event named twice"
 unfoldable pub event : Reading → List ℕ → Option ℕ → Taken
 event s x None = symbol s x (λ i. Events)
-event s x (Some i) = Breaks 6
+event s x (Some i) = Err 6
 
 -- one more symbol of a side; 5 is "the ninth name of a side"
 unfoldable pub side_symbol : Reading → List ℕ → List ℕ → (List ℕ → Place) → Taken
-side_symbol s x side to = cond (ltb (length side) 8) (symbol s x (λ i. to (side ++ i ∷ []))) (Breaks 5)
+side_symbol s x side to = cond (ltb (length side) 8) (symbol s x (λ i. to (side ++ i ∷ []))) (Err 5)
 
 -- the first name of a left side; 5 is "the first name of rule 65"
 unfoldable pub first_symbol : Reading → List ℕ → Bool → Taken
-first_symbol s x marked = cond (ltb (length s.rules) 64) (side_symbol s x [] (InLeft marked)) (Breaks 5)
+first_symbol s x marked = cond (ltb (length s.rules) 64) (side_symbol s x [] (InLeft marked)) (Err 5)
 
 -- A name.
 unfoldable pub name : Reading → List ℕ → Place → Taken
-name s x First = cond (same x events_word) (Goes (placed s Events)) (Breaks 4)
+name s x First = cond (same x events_word) (Ok (placed s Events)) (Err 4)
 name s x Events = event s x (number_of s.symbols x)
 name s x Between = first_symbol s x false
 name s x Marked = first_symbol s x true
 name s x (InLeft m l) = side_symbol s x l (InLeft m)
 name s x (InRight m l v) = side_symbol s x v (InRight m l)
-name s x (Ending m l r) = Breaks 4
+name s x (Ending m l r) = Err 4
 
 -- "other words get 2 to 15 by first appearance"; 5 is "the 15th other word"
 unfoldable pub with_verdict : Reading → Bool → List ℕ → Option Numbered → Taken
-with_verdict s m l None = Breaks 5
+with_verdict s m l None = Err 5
 with_verdict s m l (Some n) =
-    Goes
+    Ok
     (record {
       symbols = s.symbols;
       words = n.names;
@@ -109,44 +108,44 @@ with_verdict s m l (Some n) =
 -- "`#epsilon` is the empty string"
 unfoldable pub right_word : Reading → List ℕ → Bool → List ℕ → Taken
 right_word s x m l =
-    cond (same x epsilon_word) (Goes (placed s (Ending m l (Put [])))) (with_verdict s m l (numbered 16 s.words x))
+    cond (same x epsilon_word) (Ok (placed s (Ending m l (Put [])))) (with_verdict s m l (numbered 16 s.words x))
 
 -- A `#` word: "then one or more names or a single `#` word"
 unfoldable pub word : Reading → List ℕ → Place → Taken
-word s x First = Breaks 4
-word s x Events = Breaks 4
-word s x Between = Breaks 4
-word s x Marked = Breaks 4
-word s x (InLeft m l) = Breaks 4
+word s x First = Err 4
+word s x Events = Err 4
+word s x Between = Err 4
+word s x Marked = Err 4
+word s x (InLeft m l) = Err 4
 word s x (InRight m l []) = right_word s x m l
-word s x (InRight m l (a ∷ v)) = Breaks 4
-word s x (Ending m l r) = Breaks 4
+word s x (InRight m l (a ∷ v)) = Err 4
+word s x (Ending m l r) = Err 4
 
 -- "one or more names, `->`"
 unfoldable pub arrow : Reading → Place → Taken
-arrow s First = Breaks 4
-arrow s Events = Breaks 4
-arrow s Between = Breaks 4
-arrow s Marked = Breaks 4
-arrow s (InLeft m l) = Goes (placed s (InRight m l []))
-arrow s (InRight m l v) = Breaks 4
-arrow s (Ending m l r) = Breaks 4
+arrow s First = Err 4
+arrow s Events = Err 4
+arrow s Between = Err 4
+arrow s Marked = Err 4
+arrow s (InLeft m l) = Ok (placed s (InRight m l []))
+arrow s (InRight m l v) = Err 4
+arrow s (Ending m l r) = Err 4
 
 -- "The token `^` may stand first in a left side, before 1 to 8 names. .. A misplaced `^` is refusal 4."
 unfoldable pub mark : Reading → Place → Taken
-mark s First = Breaks 4
-mark s Events = Breaks 4
-mark s Between = Goes (placed s Marked)
-mark s Marked = Breaks 4
-mark s (InLeft m l) = Breaks 4
-mark s (InRight m l v) = Breaks 4
-mark s (Ending m l r) = Breaks 4
+mark s First = Err 4
+mark s Events = Err 4
+mark s Between = Ok (placed s Marked)
+mark s Marked = Err 4
+mark s (InLeft m l) = Err 4
+mark s (InRight m l v) = Err 4
+mark s (Ending m l r) = Err 4
 
 -- the list of events is closed: "one or more names"
 unfoldable pub close_events : Reading → List (List ℕ) → Taken
-close_events s [] = Breaks 4
+close_events s [] = Err 4
 close_events s (x ∷ names) =
-    Goes
+    Ok
     (record { symbols = s.symbols; words = s.words; events = length s.symbols; rules = s.rules; place = Between })
 
 -- the rule with these sides, with a mark or without
@@ -156,7 +155,7 @@ rule_with m l r = record { marked = m; left = l; right = r }
 -- one more rule
 unfoldable pub close_rule : Reading → Rule → Taken
 close_rule s r =
-    Goes
+    Ok
     (record {
       symbols = s.symbols;
       words = s.words;
@@ -167,12 +166,12 @@ close_rule s r =
 
 -- a `.`
 unfoldable pub stop : Reading → Place → Taken
-stop s First = Breaks 4
+stop s First = Err 4
 stop s Events = close_events s s.symbols
-stop s Between = Breaks 4
-stop s Marked = Breaks 4
-stop s (InLeft m l) = Breaks 4
-stop s (InRight m l []) = Breaks 4
+stop s Between = Err 4
+stop s Marked = Err 4
+stop s (InLeft m l) = Err 4
+stop s (InRight m l []) = Err 4
 stop s (InRight m l (a ∷ v)) = close_rule s (rule_with m l (Put (a ∷ v)))
 stop s (Ending m l r) = close_rule s (rule_with m l r)
 
@@ -185,7 +184,7 @@ after_token s Mark = mark s s.place
 
 -- a run of bytes: "3, not a token"
 unfoldable pub after_run : Reading → Option Token → Taken
-after_run s None = Breaks 3
+after_run s None = Err 3
 after_run s (Some t) = after_token s t
 
 -- a text may end behind a `.`

@@ -1,36 +1,34 @@
 -- The reader, as a function of the text and the two areas lent to it.
-use Rattle.std.specs.Prelude.{ℕ, ◌≤◌, ◌≡◌, true, cond, ◌&&◌, leb, length, take, drop, Option, None, Some}
+use Rattle.std.specs.Prelude.{ℕ, ◌≤◌, ◌≡◌, true, cond, ◌&&◌, leb, length, take, drop, Option, None, Some, Result, Ok, Err}
 use mathlib.Core.List.{List, [], ◌∷◌, ◌++◌, Memᴰ}
 use Rattle.rewriting.specs.Lists.{over}
 use Rattle.layout.specs.Image.{image_most, image_of, read, valid}
-use Rattle.layout.specs.Refusals.{Check, refusal}
-use Rattle.grammar.specs.declared.Read.{Read}
-use Rattle.grammar.specs.declared.Read.TheVariants.{Image, Refused}
+use Rattle.layout.specs.Refusals.{Check, refusal, number}
+use Rattle.grammar.specs.declared.TextError.{TextError}
 use Rattle.grammar.specs.Tokens.{Run, token_of, runs}
 use Rattle.grammar.specs.Names.{names_size, slots}
-use Rattle.grammar.specs.Grammar.{Reading, Taken, Goes, Breaks, begun, after_run, complete, rule_set_of}
+use Rattle.grammar.specs.Grammar.{Reading, Taken, begun, after_run, complete, rule_set_of}
 
--- What a text is read as: what it says, or the refusal and its place.
-pub data Result : Type 0 where
-  Good : Reading → Result
-  Bad : ℕ → ℕ → Result
+-- What a text is read as: what it says, or the number of the refusal and its place.
+abbrev pub ReadText : Type 0
+ReadText = Result Reading (ℕ × ℕ)
 
 -- "4, .. or the text ended": "the text's length at the end"
-unfoldable pub ended : ℕ → Reading → Result
-ended size s = cond (complete s.place) (Good s) (Bad 4 size)
+unfoldable pub ended : ℕ → Reading → ReadText
+ended size s = cond (complete s.place) (Ok s) (Err (4, size))
 
 -- "the first token at which the text breaks decides .. The place returned is that token's first byte"
-unfoldable pub or_broken : ℕ → (Reading → Result) → Taken → Result
-or_broken place rest (Goes s) = rest s
-or_broken place rest (Breaks n) = Bad n place
+unfoldable pub or_broken : ℕ → (Reading → ReadText) → Taken → ReadText
+or_broken place rest (Ok s) = rest s
+or_broken place rest (Err n) = Err (n, place)
 
 -- the runs from here on, of a text of so many bytes
-unfoldable pub read_runs : ℕ → Reading → List Run → Result
+unfoldable pub read_runs : ℕ → Reading → List Run → ReadText
 read_runs size s [] = ended size s
 read_runs size s (r ∷ rest) =
     or_broken r.place (λ s'. read_runs size s' rest) (after_run s (token_of r.bytes))
 
-unfoldable pub read_text : List ℕ → Result
+unfoldable pub read_text : List ℕ → ReadText
 read_text text = read_runs (length text) begun (runs text)
 
 -- "Slots 0..31 are symbols, 32..47 verdicts (32 `fail`, 33 `succeed`, always)"
@@ -39,7 +37,7 @@ names_of s = slots 32 s.symbols ++ slots 16 s.words
 
 -- what the reader answers, and the areas as it leaves them
 pub record Outcome : Type 0 where
-  pub answer : Read
+  pub answer : Result ℕ (ℕ × ℕ)
   pub image : List ℕ
   pub names : List ℕ
 
@@ -53,35 +51,40 @@ read_checks text image names =
     (leb (length text) text_most, 1) ∷ (leb image_most (length image) && leb names_size (length names), 2) ∷ []
 
 -- "It returns the image's length; bytes beyond either stay."
-unfoldable pub written : Result → List ℕ → List ℕ → Outcome
-written (Good s) image names =
+unfoldable pub written : ReadText → List ℕ → List ℕ → Outcome
+written (Ok s) image names =
     record {
-      answer = Image (length (image_of (rule_set_of s)));
+      answer = Ok (length (image_of (rule_set_of s)));
       image = over (image_of (rule_set_of s)) image;
       names = over (names_of s) names;
     }
-written (Bad n place) image names = record { answer = Refused n place; image = image; names = names }
+written (Err e) image names = record { answer = Err e; image = image; names = names }
 
 -- "The place returned is .. 0 for 1 and 2."
-unfoldable pub unless : Option ℕ → Result → Result
+unfoldable pub unless : Option ℕ → ReadText → ReadText
 unless None r = r
-unless (Some n) r = Bad n 0
+unless (Some n) r = Err (n, 0)
 
 unfoldable pub read_of : List ℕ → List ℕ → List ℕ → Outcome
 read_of text image names = written (unless (refusal (read_checks text image names)) (read_text text)) image names
 
+-- what the code answers, with the number of its refusal
+abbrev pub answered : Result ℕ TextError → Result ℕ (ℕ × ℕ)
+answered (Ok n) = Ok n
+answered (Err e) = Err (number e.refusal, e.place)
+
 -- the refusal that an answer is, if it is one; its place, 0 where there is none; the image's length, 0 beside a refusal
-unfoldable pub refused_by : Read → Option ℕ
-refused_by (Image n) = None
-refused_by (Refused n place) = Some n
+unfoldable pub refused_by : Result ℕ (ℕ × ℕ) → Option ℕ
+refused_by (Ok n) = None
+refused_by (Err (n, place)) = Some n
 
-unfoldable pub refusal_place : Read → ℕ
-refusal_place (Image n) = 0
-refusal_place (Refused n place) = place
+unfoldable pub refusal_place : Result ℕ (ℕ × ℕ) → ℕ
+refusal_place (Ok n) = 0
+refusal_place (Err (n, place)) = place
 
-unfoldable pub image_length : Read → ℕ
-image_length (Image n) = n
-image_length (Refused n place) = 0
+unfoldable pub image_length : Result ℕ (ℕ × ℕ) → ℕ
+image_length (Ok n) = n
+image_length (Err e) = 0
 
 -- A text that is refused with n.
 pub record ReadRefused (text image names : List ℕ) (o : Outcome) (n : ℕ) : Type 0 where
@@ -100,7 +103,7 @@ pub record ReadTaken (text image names : List ℕ) (o : Outcome) : Type 0 where
   -- it is short enough and good: this is what it says
   pub short_text : length text ≤ text_most
   pub reading : Reading
-  pub good_text : read_text text ≡ Good reading
+  pub good_text : read_text text ≡ Ok reading
   -- the image of its rules is valid, and they are read back from it
   pub rules-valid : valid (image_of (rule_set_of reading)) ≡ true
   pub rules_back : read (image_of (rule_set_of reading)) ≡ rule_set_of reading

@@ -1,6 +1,8 @@
 // The types that the definitions of specs/ share with the code above. It has no functions.
 #![tactic(auto)]
 
+use layout::Refusal;
+
 // The longest rule text.
 pub const TEXT_BYTES: usize = 16384;
 
@@ -15,9 +17,9 @@ pub const WORDS_BYTES: usize = 400;
 
 pub const NAMES_BYTES: usize = 1200;
 
-// What the reader answers: the length of the image, or the number of the refusal and its place in the text.
-#[derive(Clone, Copy)]
-pub enum Read {
-    Image(usize),
-    Refused(u32, usize),
+// Why a text is refused, and where in it: 0 where it is too long, or an area too short.
+#[derive(Clone, Copy, Debug, PartialEq, Eq)]
+pub struct TextError {
+    pub refusal: Refusal,
+    pub place: usize,
 }

@@ -1,5 +1,6 @@
 -- The place that a `match` on the code's place tells.
 -- Assumes nothing.
+use Rattle.std.specs.Prelude.{Err}
 use Prim.Native.Nat.{ℕ}
 use mathlib.Core.Path.{◌≡◌, refl}
 use mathlib.Core.Bool.{Bool, false}
@@ -17,7 +18,6 @@ use Rattle.grammar.specs.Grammar.{
   InRight,
   Ending,
   Reading,
-  Breaks,
   word,
   arrow,
   mark,
@@ -52,7 +52,7 @@ place_at q p e = rw (← e) (at_own p)
 -- An arm for several variants: the place is none of those that the other arms take.
 
 pub word_elsewhere : (s : Reading) (x : List ℕ) (p : Place) → (place_of p ≡ places.Right → ⊥)
-    → word s x p ≡ Breaks 4
+    → word s x p ≡ Err 4
 unfolding word place_of
 word_elsewhere s x First h = refl
 word_elsewhere s x Events h = refl
@@ -63,7 +63,7 @@ word_elsewhere s x (InRight m l v) h = absurd (h refl)
 word_elsewhere s x (Ending m l r) h = refl
 
 pub arrow_elsewhere : (s : Reading) (p : Place) → (place_of p ≡ places.Left → ⊥)
-    → arrow s p ≡ Breaks 4
+    → arrow s p ≡ Err 4
 unfolding arrow place_of
 arrow_elsewhere s First h = refl
 arrow_elsewhere s Events h = refl
@@ -74,7 +74,7 @@ arrow_elsewhere s (InRight m l v) h = refl
 arrow_elsewhere s (Ending m l r) h = refl
 
 pub mark_elsewhere : (s : Reading) (p : Place) → (place_of p ≡ places.Between → ⊥)
-    → mark s p ≡ Breaks 4
+    → mark s p ≡ Err 4
 unfolding mark place_of
 mark_elsewhere s First h = refl
 mark_elsewhere s Events h = refl
@@ -86,7 +86,7 @@ mark_elsewhere s (Ending m l r) h = refl
 
 pub stop_elsewhere : (s : Reading) (p : Place) → (place_of p ≡ places.Events → ⊥) → (place_of p ≡ places.Right → ⊥)
     → (place_of p ≡ places.Ending → ⊥)
-    → stop s p ≡ Breaks 4
+    → stop s p ≡ Err 4
 unfolding stop place_of
 stop_elsewhere s First he hr hn = refl
 stop_elsewhere s Events he hr hn = absurd (he refl)

@@ -3,21 +3,19 @@
 use Prim.Native.Nat.{ℕ, ◌≤◌}
 use mathlib.Core.Path.{◌≡◌, refl, ap, ◌∙◌}
 use mathlib.Core.Bool.{Bool, true, false, cond}
-use Rattle.std.specs.Prelude.{Option, None}
+use Rattle.std.specs.Prelude.{Option, None, Result, Ok, Err}
 use mathlib.Core.List.{List, [], flat_map}
 use native.Mathlib.Omega.{arith}
 use lib.ListN.{length, drop, replicate}
 use Rattle.rewriting.specs.Rules.{symbols_of}
 use Rattle.layout.specs.Image.{body}
 use Rattle.parser.specs.declared.Reader.{Reader}
-use Rattle.parser.specs.declared.Taken as taken_as
-use Rattle.parser.specs.declared.Taken.TheVariants as taken
-use Rattle.parser.specs.declared.Finished as finished_as
-use Rattle.parser.specs.declared.Finished.TheVariants as finished
 use Rattle.grammar.specs.Tokens.{Token, token_of, runs_from, runs}
 use Rattle.grammar.specs.Names.{slots}
-use Rattle.grammar.specs.Grammar.{Between, Reading, Taken, Goes, Breaks, begun, after_run, complete}
-use Rattle.grammar.specs.Read.{Good, Bad, ended, or_broken, read_runs, read_text}
+use Rattle.grammar.specs.Grammar.{Between, Reading, Taken, begun, after_run, complete}
+use Rattle.grammar.specs.declared.TextError.{TextError}
+use Rattle.layout.specs.declared.Refusal.{Refusal}
+use Rattle.grammar.specs.Read.{ReadText, ended, or_broken, read_runs, read_text}
 use Rattle.grammar.specs.Sound.{Sound}
 use Rattle.parser.specs.Held.{rule_at, reader_of, Keeps, Held, TakenIs, FinishedIs}
 use Rattle.grammar.proofs.Runs.{rest_of, Next}
@@ -26,13 +24,13 @@ use Rattle.grammar.proofs.Sound.{sound_begun, sound_run}
 
 -- The end of the text.
 module _ {s : Reading} {r : Reader} {a b c d : List ℕ} (size : ℕ) (sound : Sound s) (k : Keeps s r a b c d) where
-  pub ended_good : s.place ≡ Between → FinishedIs (ended size s) (finished.Good r) a b c d
+  pub ended_good : s.place ≡ Between → FinishedIs (ended size s) (Ok r) a b c d
   unfolding ended complete
   ended_good here =
-      let e : ended size s ≡ Good s = ap (λ (b : Bool). cond b (Good s) (Bad 4 size)) (ap complete here) in
+      let e : ended size s ≡ Ok s = ap (λ (b : Bool). cond {A = ReadText} b (Ok s) (Err (4, size))) (ap complete here) in
       rw e (sound, here, k)
 
-  pub ended_early : complete s.place ≡ false → FinishedIs (ended size s) (finished.Bad 4 size) a b c d
+  pub ended_early : complete s.place ≡ false → FinishedIs (ended size s) (Err (record { refusal = Refusal.Misplaced; place = size })) a b c d
   unfolding ended
   ended_early e = rw e (refl, refl)
 
@@ -79,7 +77,7 @@ module _ {text : List ℕ} {r : Reader} {a b c d : List ℕ} {at : ℕ} (g : Goi
 
   -- no run is left
   pub going_ended :
-      (answer : finished_as.Finished) → runs_from true at (drop at text) ≡ []
+      (answer : Result Reader TextError) → runs_from true at (drop at text) ≡ []
       → FinishedIs (ended (length text) g.reading) answer a b c d → FinishedIs (read_text text) answer a b c d
   unfolding read_runs
   going_ended answer e h =
@@ -95,10 +93,10 @@ module _ {text : List ℕ} {r : Reader} {a b c d : List ℕ} {at : ℕ} (g : Goi
     step = g.rest ∙ ap (read_runs (length text) g.reading) n.these
 
     pub no_token : (a' b' c' d' : List ℕ) → token_of (rest_of text start) ≡ None
-        → FinishedIs (read_text text) (finished.Bad 3 start) a' b' c' d'
+        → FinishedIs (read_text text) (Err (record { refusal = Refusal.NoToken; place = start })) a' b' c' d'
     unfolding or_broken after_run
     no_token a' b' c' d' e =
-        let broken : read_text text ≡ Bad 3 start =
+        let broken : read_text text ≡ Err (3, start) =
         step
         ∙ ap
         (λ (o : Option Token).
@@ -107,7 +105,7 @@ module _ {text : List ℕ} {r : Reader} {a b c d : List ℕ} {at : ℕ} (g : Goi
         in
         rw broken (refl, refl)
 
-    module _ (a' b' c' d' : List ℕ) (answer : taken_as.Taken) (o : Option Token)
+    module _ (a' b' c' d' : List ℕ) (answer : Result Reader Refusal) (o : Option Token)
         (same : token_of (rest_of text start) ≡ o)
         (is : TakenIs (after_run g.reading o) answer a' b' c' d') where
       after : (t : Taken) → after_run g.reading o ≡ t
@@ -118,26 +116,26 @@ module _ {text : List ℕ} {r : Reader} {a b c d : List ℕ} {at : ℕ} (g : Goi
           (λ (t : Taken). or_broken start (λ s. read_runs (length text) s (runs_from true end (drop end text))) t)
           (ap (after_run g.reading) same ∙ e)
 
-      pub broken : (m : ℕ) → answer ≡ taken.Breaks m → FinishedIs (read_text text) (finished.Bad m start) a' b' c' d'
+      pub broken : (m : Refusal) → answer ≡ Err m → FinishedIs (read_text text) (Err (record { refusal = m; place = start })) a' b' c' d'
       unfolding or_broken
       broken m told = go (after_run g.reading o) refl (rw told at is)
         where
-          go : (t : Taken) → after_run g.reading o ≡ t → TakenIs t (taken.Breaks m) a' b' c' d'
-              → FinishedIs (read_text text) (finished.Bad m start) a' b' c' d'
-          go (Goes s) e h = absurd h
-          go (Breaks i) e h = rw (after (Breaks i) e) (h, refl)
+          go : (t : Taken) → after_run g.reading o ≡ t → TakenIs t (Err m) a' b' c' d'
+              → FinishedIs (read_text text) (Err (record { refusal = m; place = start })) a' b' c' d'
+          go (Ok s) e h = absurd h
+          go (Err i) e h = rw (after (Err i) e) (h, refl)
 
-      pub going_on : (r' : Reader) → answer ≡ taken.Goes r' → Going text r' a' b' c' d' end
+      pub going_on : (r' : Reader) → answer ≡ Ok r' → Going text r' a' b' c' d' end
       unfolding or_broken
       going_on r' told = go (after_run g.reading o) refl (rw told at is)
         where
-          go : (t : Taken) → after_run g.reading o ≡ t → TakenIs t (taken.Goes r') a' b' c' d' → Going text r' a' b' c' d' end
-          go (Goes s) e h =
+          go : (t : Taken) → after_run g.reading o ≡ t → TakenIs t (Ok r') a' b' c' d' → Going text r' a' b' c' d' end
+          go (Ok s) e h =
               record {
                 reading = s;
                 sound = sound_run g.reading (rest_of text start) g.sound s (ap (after_run g.reading) same ∙ e);
                 keeps = h;
                 inside = n.within;
-                rest = after (Goes s) e;
+                rest = after (Ok s) e;
               }
-          go (Breaks i) e h = absurd h
+          go (Err i) e h = absurd h

@@ -3,19 +3,22 @@
 use Prim.Native.Nat.{ℕ, ◌+◌, ◌≤◌, ◌<◌}
 use mathlib.Core.Path.{◌≡◌, refl, sym, ap, ◌∙◌}
 use mathlib.Core.Bool.{Bool, true, false, cond}
-use Rattle.std.specs.Prelude.{Option, None, Some}
+use Rattle.std.specs.Prelude.{Option, None, Some, Result, Ok, Err}
 use mathlib.Core.List.{List, [], ◌∷◌, ◌++◌, append-nil, append_assoc}
 use native.Mathlib.Omega.{arith}
 use lib.Dec.{ltb}
 use lib.ListN.{length, set, length-append}
 use borrow.Author.Tests.{lt-ltb, le-ltb}
+use Rattle.std.specs.Option.{ok_or}
+use Rattle.std.specs.Result.{IsErrAnd}
+use Rattle.std.proofs.lemmas.Result.{err_from_is_err_and}
 use Rattle.rewriting.specs.Lists.{same}
 use Rattle.rewriting.specs.Rules.{Right, Put, symbols_of}
 use Rattle.layout.specs.Image.{kind, length_or_verdict, body}
 use Rattle.parser.specs.declared.Place as code
 use Rattle.parser.specs.declared.Place.TheVariants as places
 use Rattle.parser.specs.declared.Reader.{Reader}
-use Rattle.parser.specs.declared.Taken.TheVariants as taken
+use Rattle.layout.specs.declared.Refusal.{Refusal}
 use Rattle.tokens.specs.declared.Numbered as numbered_as
 use Rattle.grammar.specs.Names as Names
 use Rattle.grammar.specs.Names.{number_of, Numbered, or_new, numbered}
@@ -29,7 +32,6 @@ use Rattle.grammar.specs.Grammar.{
   InRight,
   Ending,
   Reading,
-  Breaks,
   events_word,
   epsilon_word,
   placed,
@@ -65,6 +67,12 @@ use Rattle.parser.proofs.Keeping.{
   keeps_verdict,
   keeps_events,
 }
+
+-- what a `?` behind `ok_or` answers
+pub err_by : {A : Type 0} (o : Option A) (r : Result Reader Refusal) (m e : Refusal) → IsErrAnd r (λ y. y ≡ m)
+    → ◌≡◌ {A = Result A Refusal} (Err m) (ok_or o e) → r ≡ Err e
+err_by None r m e back value = let b = err_from_is_err_and r back in let p : m ≡ e = cc in b.1 ∙ ap Err (b.2 ∙ p)
+err_by (Some x) r m e back value = let z : ◌≡◌ {A = ℕ} 0 1 = cc in absurd (omega arith)
 
 -- the name x has a number, and the code has it, with the slots of the names then
 pub record HasNumber (most : ℕ) (names : List (List ℕ)) (x : List ℕ) (n : numbered_as.Numbered) (area : List ℕ) : Type 0 where
@@ -131,7 +139,7 @@ module _ {s : Reading} {r : Reader} {a b c d : List ℕ} (k : Keeps s r a b c d)
   -- The first token.
   pub first_events : (x : List ℕ) → s.place ≡ First → same x events_word ≡ true
       → TakenIs (name s x s.place)
-      (taken.Goes
+      (Ok
       (record {
         place = places.Events;
         symbols = r.symbols;
@@ -150,18 +158,18 @@ module _ {s : Reading} {r : Reader} {a b c d : List ℕ} (k : Keeps s r a b c d)
       (rw here (record { left = refl; side = refl; kinds = refl; bodies = refl })))
 
   pub first_other : (x : List ℕ) → s.place ≡ First → same x events_word ≡ false
-      → TakenIs (name s x s.place) (taken.Breaks 4) a b c d
+      → TakenIs (name s x s.place) (Err Refusal.Misplaced) a b c d
   unfolding name
   first_other x here e = rw (here, e) refl
 
   -- The list of events.
   module _ (x area : List ℕ) (here : s.place ≡ Events) where
-    pub event_33 : NumberedIs 32 s.symbols (numbered 32 s.symbols x) None area → TakenIs (name s x s.place) (taken.Breaks 5) area b c d
+    pub event_33 : NumberedIs 32 s.symbols (numbered 32 s.symbols x) None area → TakenIs (name s x s.place) (Err Refusal.TooMany) area b c d
     unfolding name event symbol with_symbol
     event_33 is = rw (here, too_many_new 32 s.symbols x area is, too_many 32 s.symbols x area is) refl
 
     module _ (n : numbered_as.Numbered) (is : NumberedIs 32 s.symbols (numbered 32 s.symbols x) (Some n) area) where
-      pub event_twice : n.number < r.symbols → TakenIs (name s x s.place) (taken.Breaks 6) area b c d
+      pub event_twice : n.number < r.symbols → TakenIs (name s x s.place) (Err Refusal.Repeated) area b c d
       unfolding name event
       event_twice low =
           let old = old_number 32 s.symbols x area n is (omega (arith, symbols_number s k.numbers)) in
@@ -169,7 +177,7 @@ module _ {s : Reading} {r : Reader} {a b c d : List ℕ} (k : Keeps s r a b c d)
 
       pub event_new : r.symbols ≤ n.number
           → TakenIs (name s x s.place)
-          (taken.Goes
+          (Ok
           (record {
             place = r.place;
             symbols = n.count;
@@ -190,7 +198,7 @@ module _ {s : Reading} {r : Reader} {a b c d : List ℕ} (k : Keeps s r a b c d)
 
   -- A symbol of a side.
   module _ (x side : List ℕ) (to : List ℕ → Place) where
-    pub ninth : side_of s.place ≡ length side → 8 ≤ r.side → TakenIs (side_symbol s x side to) (taken.Breaks 5) a b c d
+    pub ninth : side_of s.place ≡ length side → 8 ≤ r.side → TakenIs (side_symbol s x side to) (Err Refusal.TooMany) a b c d
     unfolding side_symbol
     ninth size full = rw (le-ltb (length side) 8 (omega (arith, side_number s k.numbers))) refl
 
@@ -199,14 +207,14 @@ module _ {s : Reading} {r : Reader} {a b c d : List ℕ} (k : Keeps s r a b c d)
       short = lt-ltb (length side) 8 (omega (arith, side_number s k.numbers, h.size))
 
       pub symbol_33 : NumberedIs 32 s.symbols (numbered 32 s.symbols x) None area
-          → TakenIs (side_symbol s x side to) (taken.Breaks 5) area b c d
+          → TakenIs (side_symbol s x side to) (Err Refusal.TooMany) area b c d
       unfolding side_symbol symbol with_symbol
       symbol_33 is = rw (short, too_many 32 s.symbols x area is) refl
 
       pub side_longer : (n : numbered_as.Numbered) → NumberedIs 32 s.symbols (numbered 32 s.symbols x) (Some n) area
           → r.bodies < length d
           → TakenIs (side_symbol s x side to)
-          (taken.Goes
+          (Ok
           (record {
             place = q;
             symbols = n.count;
@@ -225,7 +233,7 @@ module _ {s : Reading} {r : Reader} {a b c d : List ℕ} (k : Keeps s r a b c d)
 
   -- A rule's first name, with a mark or without.
   module _ (x : List ℕ) (m : Bool) where
-    pub rule_65 : 64 ≤ r.rules → TakenIs (first_symbol s x m) (taken.Breaks 5) a b c d
+    pub rule_65 : 64 ≤ r.rules → TakenIs (first_symbol s x m) (Err Refusal.TooMany) a b c d
     unfolding first_symbol
     rule_65 full = rw (le-ltb (length s.rules) 64 (omega (arith, rules-number s k.numbers))) refl
 
@@ -253,7 +261,7 @@ module _ {s : Reading} {r : Reader} {a b c d : List ℕ} (k : Keeps s r a b c d)
     some_side some_yet e = some_yet (open_side ∙ e)
 
     -- a `.` behind `->`
-    pub stop-empty : r.side ≡ 0 → TakenIs (stop s s.place) (taken.Breaks 4) a b c d
+    pub stop-empty : r.side ≡ 0 → TakenIs (stop s s.place) (Err Refusal.Misplaced) a b c d
     unfolding stop
     stop-empty none_yet = rw (empty_side none_yet) refl
 
@@ -269,17 +277,17 @@ module _ {s : Reading} {r : Reader} {a b c d : List ℕ} (k : Keeps s r a b c d)
 
     -- A `#` word as a right side.
     module _ (x : List ℕ) where
-      pub word_behind : (r.side ≡ 0 → ⊥) → TakenIs (word s x s.place) (taken.Breaks 4) a b c d
+      pub word_behind : (r.side ≡ 0 → ⊥) → TakenIs (word s x s.place) (Err Refusal.Misplaced) a b c d
       unfolding word
       word_behind some_yet = rw (ap (word s x) here) (go v (some_side some_yet))
         where
-          go : (w : List ℕ) → (length w ≡ 0 → ⊥) → TakenIs (word s x (InRight m l w)) (taken.Breaks 4) a b c d
+          go : (w : List ℕ) → (length w ≡ 0 → ⊥) → TakenIs (word s x (InRight m l w)) (Err Refusal.Misplaced) a b c d
           go [] Some_of = absurd (Some_of refl)
           go (y ∷ w) Some_of = refl
 
       pub word_epsilon : r.side ≡ 0 → same x epsilon_word ≡ true
           → TakenIs (word s x s.place)
-          (taken.Goes
+          (Ok
           (record {
             place = places.Ending;
             symbols = r.symbols;
@@ -298,13 +306,13 @@ module _ {s : Reading} {r : Reader} {a b c d : List ℕ} (k : Keeps s r a b c d)
           (rw (empty_side none_yet) (record { left = refl; side = refl; kinds = refl; bodies = refl })))
 
       module _ (none_yet : r.side ≡ 0) (other : same x epsilon_word ≡ false) (area : List ℕ) where
-        pub word_17 : NumberedIs 16 s.words (numbered 16 s.words x) None area → TakenIs (word s x s.place) (taken.Breaks 5) a area c d
+        pub word_17 : NumberedIs 16 s.words (numbered 16 s.words x) None area → TakenIs (word s x s.place) (Err Refusal.TooMany) a area c d
         unfolding word right_word with_verdict
         word_17 is = rw (empty_side none_yet, other, too_many 16 s.words x area is) refl
 
         pub word_verdict : (n : numbered_as.Numbered) → NumberedIs 16 s.words (numbered 16 s.words x) (Some n) area
             → TakenIs (word s x s.place)
-            (taken.Goes
+            (Ok
             (record {
               place = places.Ending;
               symbols = r.symbols;
@@ -325,7 +333,7 @@ module _ {s : Reading} {r : Reader} {a b c d : List ℕ} (k : Keeps s r a b c d)
   -- `->`
   pub arrow_left : (m : Bool) (l : List ℕ) → s.place ≡ InLeft m l
       → TakenIs (arrow s s.place)
-      (taken.Goes
+      (Ok
       (record {
         place = places.Right;
         symbols = r.symbols;
@@ -343,7 +351,7 @@ module _ {s : Reading} {r : Reader} {a b c d : List ℕ} (k : Keeps s r a b c d)
   -- `^`
   pub mark-between : s.place ≡ Between
       → TakenIs (mark s s.place)
-      (taken.Goes
+      (Ok
       (record {
         place = places.Marked;
         symbols = r.symbols;
@@ -359,17 +367,17 @@ module _ {s : Reading} {r : Reader} {a b c d : List ℕ} (k : Keeps s r a b c d)
   mark-between here = rw here (keeps_mark k here)
 
   -- The end of the list of events.
-  pub no_events : s.place ≡ Events → r.symbols ≡ 0 → TakenIs (stop s s.place) (taken.Breaks 4) a b c d
+  pub no_events : s.place ≡ Events → r.symbols ≡ 0 → TakenIs (stop s s.place) (Err Refusal.Misplaced) a b c d
   unfolding stop close_events
   no_events here none_yet = rw (ap (stop s) here) (go s.symbols (sym (symbols_number s k.numbers) ∙ none_yet))
     where
-      go : (names : List (List ℕ)) → length names ≡ 0 → TakenIs (close_events s names) (taken.Breaks 4) a b c d
+      go : (names : List (List ℕ)) → length names ≡ 0 → TakenIs (close_events s names) (Err Refusal.Misplaced) a b c d
       go [] e = refl
       go (y ∷ names) e = absurd (omega arith)
 
   pub some_events : s.place ≡ Events → (r.symbols ≡ 0 → ⊥)
       → TakenIs (stop s s.place)
-      (taken.Goes
+      (Ok
       (record {
         place = places.Between;
         symbols = r.symbols;
@@ -386,7 +394,7 @@ module _ {s : Reading} {r : Reader} {a b c d : List ℕ} (k : Keeps s r a b c d)
     where
       go : (names : List (List ℕ)) → (length names ≡ 0 → ⊥)
           → TakenIs (close_events s names)
-          (taken.Goes
+          (Ok
           (record {
             place = places.Between;
             symbols = r.symbols;
@@ -488,6 +496,6 @@ module _ (s : Reading) (x : List ℕ) where
   unfolding name
   name_right m l v here = ap (name s x) here
 
-  pub name-ending : (m : Bool) (l : List ℕ) (r : Right) → s.place ≡ Ending m l r → name s x s.place ≡ Breaks 4
+  pub name-ending : (m : Bool) (l : List ℕ) (r : Right) → s.place ≡ Ending m l r → name s x s.place ≡ Err 4
   unfolding name
   name-ending m l r here = ap (name s x) here

@@ -1,5 +1,5 @@
 -- How the code keeps a reading: a struct of numbers, two areas of name slots, the contents and the bodies of the rules.
-use Rattle.std.specs.Prelude.{ℕ, ◌+◌, ◌*◌, ◌≤◌, ◌≡◌, true, length}
+use Rattle.std.specs.Prelude.{ℕ, ◌+◌, ◌*◌, ◌≤◌, ◌≡◌, true, length, Result, Ok, Err}
 use mathlib.Core.List.{List, [], ◌∷◌, ◌++◌, flat_map}
 use Rattle.rewriting.specs.Lists.{prefix}
 use Rattle.rewriting.specs.Rules.{Put, Rule, ◌⇒◌, at_start}
@@ -8,10 +8,6 @@ use Rattle.layout.specs.Image.{kind, length_or_verdict, mark_byte, body}
 use Rattle.parser.specs.declared.Place as place
 use Rattle.parser.specs.declared.Place.TheVariants as places
 use Rattle.parser.specs.declared.Reader.{Reader}
-use Rattle.parser.specs.declared.Taken as taken_as
-use Rattle.parser.specs.declared.Taken.TheVariants as taken
-use Rattle.parser.specs.declared.Finished as finished_as
-use Rattle.parser.specs.declared.Finished.TheVariants as finished
 use Rattle.grammar.specs.Names.{slots}
 use Rattle.grammar.specs.Grammar.{
   Place,
@@ -24,11 +20,12 @@ use Rattle.grammar.specs.Grammar.{
   Ending,
   Reading,
   Taken,
-  Goes,
-  Breaks,
   rule_with,
 }
-use Rattle.grammar.specs.Read.{Result, Good, Bad}
+use Rattle.grammar.specs.declared.TextError.{TextError}
+use Rattle.grammar.specs.Read.{ReadText}
+use Rattle.layout.specs.declared.Refusal.{Refusal}
+use Rattle.layout.specs.Refusals.{number}
 use Rattle.grammar.specs.Sound.{Sound}
 
 -- the bytes that contents and bodies of 64 rules need: four for each, and sixteen symbols for each
@@ -117,15 +114,15 @@ pub record Held (r : Reader) : Type 0 where
   pub numbers : r ≡ reader_of reading
 
 -- the code's answer to a token is the definition's
-abbrev pub TakenIs : Taken → taken_as.Taken → List ℕ → List ℕ → List ℕ → List ℕ → Type 0
-TakenIs (Goes s) (taken.Goes r) symbols words contents bodies = Keeps s r symbols words contents bodies
-TakenIs (Goes s) (taken.Breaks m) symbols words contents bodies = ⊥
-TakenIs (Breaks n) (taken.Goes r) symbols words contents bodies = ⊥
-TakenIs (Breaks n) (taken.Breaks m) symbols words contents bodies = m ≡ n
+abbrev pub TakenIs : Taken → Result Reader Refusal → List ℕ → List ℕ → List ℕ → List ℕ → Type 0
+TakenIs (Ok s) (Ok r) symbols words contents bodies = Keeps s r symbols words contents bodies
+TakenIs (Ok s) (Err m) symbols words contents bodies = ⊥
+TakenIs (Err n) (Ok r) symbols words contents bodies = ⊥
+TakenIs (Err n) (Err m) symbols words contents bodies = number m ≡ n
 
 -- From whatever reading is kept in r and these areas, the answer and the areas then are what f makes of it.
 abbrev pub Takes :
-    (Reading → Taken) → Reader → List ℕ → List ℕ → List ℕ → List ℕ → taken_as.Taken → List ℕ → List ℕ → List ℕ → List ℕ → Type 0
+    (Reading → Taken) → Reader → List ℕ → List ℕ → List ℕ → List ℕ → Result Reader Refusal → List ℕ → List ℕ → List ℕ → List ℕ → Type 0
 Takes f r symbols words contents bodies answer symbols' words' contents' bodies' =
     (s : Reading) → Sound s → Keeps s r symbols words contents bodies → TakenIs (f s) answer symbols' words' contents' bodies'
 
@@ -144,12 +141,12 @@ pub record Closed (p : Place) : Type 0 where
   pub right : side_of p ≡ length_or_verdict (rule_at p).right
 
 -- how the reading of a text ended
-abbrev pub FinishedIs : Result → finished_as.Finished → List ℕ → List ℕ → List ℕ → List ℕ → Type 0
-FinishedIs (Good s) (finished.Good r) symbols words contents bodies =
+abbrev pub FinishedIs : ReadText → Result Reader TextError → List ℕ → List ℕ → List ℕ → List ℕ → Type 0
+FinishedIs (Ok s) (Ok r) symbols words contents bodies =
     Sound s × (s.place ≡ Between) × Keeps s r symbols words contents bodies
-FinishedIs (Good s) (finished.Bad m q) symbols words contents bodies = ⊥
-FinishedIs (Bad n p) (finished.Good r) symbols words contents bodies = ⊥
-FinishedIs (Bad n p) (finished.Bad m q) symbols words contents bodies = (m ≡ n) × (q ≡ p)
+FinishedIs (Ok s) (Err e) symbols words contents bodies = ⊥
+FinishedIs (Err (n, p)) (Ok r) symbols words contents bodies = ⊥
+FinishedIs (Err (n, p)) (Err e) symbols words contents bodies = (number e.refusal ≡ n) × (e.place ≡ p)
 
 -- the numbers of an image are bytes, and what it is made of is inside its areas
 pub record Small (r : Reader) : Type 0 where

@@ -10,7 +10,8 @@ ghost use Rattle.grammar.specs.Sound.{Sound};
 ghost use Rattle.parser.specs.Held.{contents_size, bodies_size, Keeps, Held, TakenIs, Takes, Lengthens, Closed, rule_at};
 ghost use Rattle.grammar.specs.Names.{slot_size, symbols_size, words_size};
 
-use crate::{Place, Reader, Taken};
+use crate::{Place, Reader};
+use layout::Refusal;
 use tokens::{Kind, names};
 
 impl Reader {
@@ -43,37 +44,40 @@ impl Reader {
     }
 
     // The text's first name.
-    fn first(self, x: &[u8]) -> Taken
+    fn first(self, x: &[u8]) -> Result<Reader, Refusal>
         ensures { (a b c d : List ℕ) → self.place ≡ Place.First → Takes (λ s. name s x.now s.place) self a b c d result a b c d }
     {
         if x == b"events".as_slice() {
-            Taken::Goes(self.at(Place::Events))
+            Ok(self.at(Place::Events))
         } else {
-            Taken::Breaks(4)
+            Err(Refusal::Misplaced)
         }
     }
 
     // A name in the list of events.
-    fn event(self, x: &[u8], symbols: &mut [u8]) -> Taken
+    fn event(self, x: &[u8], symbols: &mut [u8]) -> Result<Reader, Refusal>
         requires slots { slot_size * self.symbols ≤ length symbols.old }
         requires named { is_name x.now ≡ true }
         ensures { (b c d : List ℕ) → self.place ≡ Place.Events
             → Takes (λ s. name s x.now s.place) self symbols.old b c d result symbols.new b c d }
     {
-        let n = match names::number_of(symbols, self.symbols, x) {
-            Some(n) => n,
-            None => return Taken::Breaks(5),
-        };
+        let n = names::number_of(symbols, self.symbols, x).ok_or(Refusal::TooMany)?;
         if n.number < self.symbols {
-            return Taken::Breaks(6);
+            return Err(Refusal::Repeated);
         }
         let mut next = self;
         next.symbols = n.count;
-        Taken::Goes(next)
+        Ok(next)
     }
 
     // A name in a side: the place behind it is `to`.
-    fn side_symbol(self, to: Place, x: &[u8], symbols: &mut [u8], bodies: &mut [u8]) -> Taken
+    fn side_symbol(
+        self,
+        to: Place,
+        x: &[u8],
+        symbols: &mut [u8],
+        bodies: &mut [u8],
+    ) -> Result<Reader, Refusal>
         requires few { self.symbols ≤ 32 }
         requires slots { slot_size * self.symbols ≤ length symbols.old }
         requires named { is_name x.now ≡ true }
@@ -83,23 +87,20 @@ impl Reader {
             → TakenIs (side_symbol s x.now side p) result symbols.new b c bodies.new }
     {
         if 8 <= self.side {
-            return Taken::Breaks(5);
+            return Err(Refusal::TooMany);
         }
-        let n = match names::number_of(symbols, self.symbols, x) {
-            Some(n) => n,
-            None => return Taken::Breaks(5),
-        };
+        let n = names::number_of(symbols, self.symbols, x).ok_or(Refusal::TooMany)?;
         let end = self.bodies;
         bodies[end] = n.number as u8;
         let mut next = self.at(to);
         next.symbols = n.count;
         next.bodies = end + 1;
         next.side = self.side + 1;
-        Taken::Goes(next)
+        Ok(next)
     }
 
     // A rule's first name, behind `.` or `^`.
-    fn left_symbol(self, x: &[u8], symbols: &mut [u8], bodies: &mut [u8]) -> Taken
+    fn left_symbol(self, x: &[u8], symbols: &mut [u8], bodies: &mut [u8]) -> Result<Reader, Refusal>
         requires few { self.symbols ≤ 32 }
         requires slots { slot_size * self.symbols ≤ length symbols.old }
         requires named { is_name x.now ≡ true }
@@ -109,13 +110,13 @@ impl Reader {
             → TakenIs (first_symbol s x.now m) result symbols.new b c bodies.new }
     {
         if 64 <= self.rules {
-            return Taken::Breaks(5);
+            return Err(Refusal::TooMany);
         }
         self.side_symbol(Place::Left, x, symbols, bodies)
     }
 
     // A name.
-    fn name(self, x: &[u8], symbols: &mut [u8], bodies: &mut [u8]) -> Taken
+    fn name(self, x: &[u8], symbols: &mut [u8], bodies: &mut [u8]) -> Result<Reader, Refusal>
         requires held { Held self }
         requires slots { length symbols.old ≡ symbols_size }
         requires room { length bodies.old ≡ bodies_size }
@@ -131,12 +132,12 @@ impl Reader {
             Place::Marked => self.left_symbol(x, symbols, bodies),
             Place::Left => self.side_symbol(Place::Left, x, symbols, bodies),
             Place::Right => self.side_symbol(Place::Right, x, symbols, bodies),
-            Place::Ending => Taken::Breaks(4),
+            Place::Ending => Err(Refusal::Misplaced),
         }
     }
 
     // A `#` word as a right side.
-    fn right_word(self, x: &[u8], words: &mut [u8]) -> Taken
+    fn right_word(self, x: &[u8], words: &mut [u8]) -> Result<Reader, Refusal>
         requires few { self.words ≤ 16 }
         requires slots { slot_size * self.words ≤ length words.old }
         requires named { is_name x.now ≡ true }
@@ -145,24 +146,21 @@ impl Reader {
             → Takes (λ s. word s x.now s.place) self a words.old c d result a words.new c d }
     {
         if self.side != 0 {
-            return Taken::Breaks(4);
+            return Err(Refusal::Misplaced);
         }
         let mut next = self.at(Place::Ending);
         if x == b"epsilon".as_slice() {
-            return Taken::Goes(next);
+            return Ok(next);
         }
-        let n = match names::number_of(words, self.words, x) {
-            Some(n) => n,
-            None => return Taken::Breaks(5),
-        };
+        let n = names::number_of(words, self.words, x).ok_or(Refusal::TooMany)?;
         next.words = n.count;
         next.side = n.number as u8;
         next.kind = self.kind + 1;
-        Taken::Goes(next)
+        Ok(next)
     }
 
     // A `#` word.
-    fn word(self, x: &[u8], words: &mut [u8]) -> Taken
+    fn word(self, x: &[u8], words: &mut [u8]) -> Result<Reader, Refusal>
         requires held { Held self }
         requires slots { length words.old ≡ words_size }
         requires named { is_name x.now ≡ true }
@@ -172,12 +170,12 @@ impl Reader {
         let place = self.place;
         match place {
             Place::Right => self.right_word(x, words),
-            _ => Taken::Breaks(4),
+            _ => Err(Refusal::Misplaced),
         }
     }
 
     // `->`
-    fn arrow(self) -> Taken
+    fn arrow(self) -> Result<Reader, Refusal>
         ensures { (a b c d : List ℕ) → Takes (λ s. arrow s s.place) self a b c d result a b c d }
     {
         let place = self.place;
@@ -186,14 +184,14 @@ impl Reader {
                 let mut next = self.at(Place::Right);
                 next.left = self.side;
                 next.side = 0;
-                Taken::Goes(next)
+                Ok(next)
             }
-            _ => Taken::Breaks(4),
+            _ => Err(Refusal::Misplaced),
         }
     }
 
     // `^`
-    fn mark(self) -> Taken
+    fn mark(self) -> Result<Reader, Refusal>
         ensures { (a b c d : List ℕ) → Takes (λ s. mark s s.place) self a b c d result a b c d }
     {
         let place = self.place;
@@ -201,26 +199,26 @@ impl Reader {
             Place::Between => {
                 let mut next = self.at(Place::Marked);
                 next.kind = 2;
-                Taken::Goes(next)
+                Ok(next)
             }
-            _ => Taken::Breaks(4),
+            _ => Err(Refusal::Misplaced),
         }
     }
 
     // The end of the list of events.
-    fn close_events(self) -> Taken
+    fn close_events(self) -> Result<Reader, Refusal>
         ensures { (a b c d : List ℕ) → self.place ≡ Place.Events → Takes (λ s. stop s s.place) self a b c d result a b c d }
     {
         if self.symbols == 0 {
-            return Taken::Breaks(4);
+            return Err(Refusal::Misplaced);
         }
         let mut next = self.at(Place::Between);
         next.events = self.symbols;
-        Taken::Goes(next)
+        Ok(next)
     }
 
     // The end of a rule: its contents.
-    fn close_rule(self, contents: &mut [u8]) -> Taken
+    fn close_rule(self, contents: &mut [u8]) -> Result<Reader, Refusal>
         requires room { 4 * self.rules + 4 ≤ length contents.old }
         ensures { (a b d : List ℕ) (s : Grammar.Reading) → Closed s.place → Keeps s self a b contents.old d
             → TakenIs (close_rule s (rule_at s.place)) result a b contents.new d }
@@ -235,11 +233,11 @@ impl Reader {
         next.left = 0;
         next.side = 0;
         next.kind = 0;
-        Taken::Goes(next)
+        Ok(next)
     }
 
     // `.`
-    fn stop(self, contents: &mut [u8]) -> Taken
+    fn stop(self, contents: &mut [u8]) -> Result<Reader, Refusal>
         requires held { Held self }
         requires room { length contents.old ≡ contents_size }
         ensures { (a b d : List ℕ) → Takes (λ s. stop s s.place) self
@@ -250,12 +248,12 @@ impl Reader {
             Place::Events => self.close_events(),
             Place::Right => {
                 if self.side == 0 {
-                    return Taken::Breaks(4);
+                    return Err(Refusal::Misplaced);
                 }
                 self.close_rule(contents)
             }
             Place::Ending => self.close_rule(contents),
-            _ => Taken::Breaks(4),
+            _ => Err(Refusal::Misplaced),
         }
     }
 
@@ -268,7 +266,7 @@ impl Reader {
         words: &mut [u8],
         contents: &mut [u8],
         bodies: &mut [u8],
-    ) -> Taken
+    ) -> Result<Reader, Refusal>
         requires held { Held self }
         requires named { Named kind x.now }
         requires sizes { (length symbols.old ≡ symbols_size) × (length words.old ≡ words_size) × (length contents.old ≡ contents_size)
@@ -277,10 +275,7 @@ impl Reader {
             symbols.old words.old contents.old bodies.old result
             symbols.new words.new contents.new bodies.new }
     {
-        let Some(kind) = kind else {
-            return Taken::Breaks(3);
-        };
-        match kind {
+        match kind.ok_or(Refusal::NoToken)? {
             Kind::Name => self.name(x, symbols, bodies),
             Kind::Word => self.word(x, words),
             Kind::Arrow => self.arrow(),

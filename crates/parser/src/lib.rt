@@ -9,7 +9,8 @@ ghost use Rattle.grammar.specs.Read.{ended, read_text};
 ghost use Rattle.grammar.specs.Sound.{Sound};
 ghost use Rattle.parser.specs.Held.{contents_size, bodies_size, reader_of, Keeps, FinishedIs};
 
-use grammar::SLOT_BYTES;
+use grammar::{SLOT_BYTES, TextError};
+use layout::Refusal;
 use tokens::bytes::Class;
 use tokens::{bytes, names};
 
@@ -48,20 +49,6 @@ pub struct Reader {
     pub kind: u8,
 }
 
-// What a token makes of what has been read: it goes on, or the text breaks here, by this refusal.
-#[derive(Clone, Copy)]
-pub enum Taken {
-    Goes(Reader),
-    Breaks(u32),
-}
-
-// How the reading of a text ends: what has been read, or the refusal and its place.
-#[derive(Clone, Copy)]
-pub enum Finished {
-    Good(Reader),
-    Bad(u32, usize),
-}
-
 // Nothing read: two words, `fail` and `succeed`.
 fn begin(words: &mut [u8]) -> Reader
     requires { words.old ≡ replicate words_size 0 }
@@ -84,13 +71,16 @@ fn begin(words: &mut [u8]) -> Reader
 }
 
 // The end of the text.
-fn ended(reader: Reader, size: usize) -> Finished
+fn ended(reader: Reader, size: usize) -> Result<Reader, TextError>
     ensures { (a b c d : List ℕ) (s : Reading) → Sound s → Keeps s reader a b c d → FinishedIs (ended size s) result a b c d }
 {
     let place = reader.place;
     match place {
-        Place::Between => Finished::Good(reader),
-        _ => Finished::Bad(4, size),
+        Place::Between => Ok(reader),
+        _ => Err(TextError {
+            refusal: Refusal::Misplaced,
+            place: size,
+        }),
     }
 }
 
@@ -102,7 +92,7 @@ pub fn read_tokens(
     words: &mut [u8],
     contents: &mut [u8],
     bodies: &mut [u8],
-) -> Finished
+) -> Result<Reader, TextError>
     requires symbols { symbols.old ≡ replicate symbols_size 0 }
     requires words { words.old ≡ replicate words_size 0 }
     requires contents { length contents.old ≡ contents_size }
@@ -127,13 +117,23 @@ pub fn read_tokens(
             match bytes::class_at(text, end) {
                 Class::Name => end += 1,
                 Class::Separator => break,
-                Class::Other => break 'tokens Finished::Bad(3, start),
+                Class::Other => {
+                    break 'tokens Err(TextError {
+                        refusal: Refusal::NoToken,
+                        place: start,
+                    });
+                }
             }
         }
         let kind = bytes::kind_of(&text[start..end]);
         match reader.token(kind, &text[from..end], symbols, words, contents, bodies) {
-            Taken::Goes(next) => reader = next,
-            Taken::Breaks(n) => break 'tokens Finished::Bad(n, start),
+            Ok(next) => reader = next,
+            Err(refusal) => {
+                break 'tokens Err(TextError {
+                    refusal,
+                    place: start,
+                });
+            }
         }
         at = end;
     }

@@ -4,7 +4,6 @@ use Prim.Native.String.{String}
 use Prim.Native.Nat.{ℕ, zero, suc}
 use mathlib.Core.Path.{◌≡◌, refl, ◌∙◌}
 use mathlib.Core.Bool.{true}
-use Rattle.std.specs.Option.{option_or}
 use mathlib.Core.List.{List, [], ◌++◌, flat_map}
 use lib.Dec.{ltb}
 use lib.ListN.{length, replicate, length-replicate}

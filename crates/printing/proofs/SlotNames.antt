@@ -15,7 +15,7 @@ use Rattle.rewriting.proofs.Lists.{and_left, and_right}
 use Rattle.grammar.specs.Tokens.{is_name}
 use Rattle.grammar.specs.Names.{slot, slots}
 use Rattle.grammar.specs.Grammar.{Reading}
-use Rattle.grammar.specs.Read.{Good, read_text, names_of}
+use Rattle.grammar.specs.Read.{read_text, names_of}
 use Rattle.grammar.specs.Sound.{Sound}
 use Rattle.grammar.proofs.Slots.{name_short, length-slot, length-slots}
 use Rattle.grammar.proofs.Sound.{read_sound}
@@ -61,7 +61,7 @@ name-slots n names rest i named h = rw append_assoc (name_used names _ i named h
 
 -- "Slots 0..31 are symbols"
 pub symbol-name :
-    (text : List ℕ) (s : Reading) (area : List ℕ) (i : ℕ) → read_text text ≡ Good s → i < length s.symbols
+    (text : List ℕ) (s : Reading) (area : List ℕ) (i : ℕ) → read_text text ≡ Ok s → i < length s.symbols
     → name_in (over (names_of s) area) i ≡ get_or s.symbols i []
 unfolding names_of over
 symbol-name text s area i e h =
@@ -70,7 +70,7 @@ symbol-name text s area i e h =
 
 -- "32..47 verdicts"
 pub verdict_name :
-    (text : List ℕ) (s : Reading) (area : List ℕ) (v : ℕ) → read_text text ≡ Good s → v < length s.words
+    (text : List ℕ) (s : Reading) (area : List ℕ) (v : ℕ) → read_text text ≡ Ok s → v < length s.words
     → name_in (over (names_of s) area) (32 + v) ≡ get_or s.words v []
 unfolding names_of over
 verdict_name text s area v e h =

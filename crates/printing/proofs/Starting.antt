@@ -1,6 +1,6 @@
 -- What `begin` rests on: compile takes a valid image, fresh areas of 2,048, and what is read is that of the rule part.
 -- Assumes nothing.
-use Rattle.std.specs.Prelude.{Ok, Err}
+use Rattle.std.specs.Prelude.{Result, Ok, Err}
 use Prim.Native.Nat.{ℕ, ◌≤◌, ◌<◌}
 use mathlib.Core.Path.{◌≡◌, refl, sym, ap, ◌∙◌}
 use mathlib.Core.Bool.{Bool, true, false}
@@ -12,7 +12,7 @@ use lib.Seq.{take-append_seam}
 use borrow.Author.Tests.{leb-true, le-leb, lt-leb, eq-eqb}
 use Rattle.rewriting.specs.Lists.{over}
 use Rattle.layout.specs.Image.{image_of, read, valid}
-use Rattle.layout.specs.Refusals.{refusal}
+use Rattle.layout.specs.Refusals.{number, refusal}
 use Rattle.layout.proofs.Image.{valid-in_range, read_image}
 use Rattle.layout.specs.Table.{table_most, table_of}
 use Rattle.layout.specs.Compile.{compile_of}
@@ -20,10 +20,9 @@ use Rattle.layout.proofs.Table.{table_length}
 use Rattle.layout.proofs.Compilation.{compile_words}
 use Rattle.machine.specs.Areas.{document_capacity}
 use Rattle.machine.specs.Calls.{sized, freshened, fresh_of}
-use Rattle.grammar.specs.declared.Read.{Read}
-use Rattle.grammar.specs.declared.Read.TheVariants as read_as
+use Rattle.grammar.specs.declared.TextError.{TextError}
 use Rattle.grammar.specs.Grammar.{Reading, rule_set_of}
-use Rattle.grammar.specs.Read.{Result, Good, Bad, Outcome as ReadOutcome, read_text, names_of, read_checks, written, unless, read_of}
+use Rattle.grammar.specs.Read.{ReadText, Outcome as ReadOutcome, read_text, names_of, read_checks, written, unless, read_of, answered}
 use Rattle.grammar.proofs.Sound.{read-valid, read_image_short}
 use Rattle.printing.specs.Lines.{refused_line, too_long_line}
 use Rattle.printing.specs.Watch.{rule_part, fresh_monitor, rule_text_read}
@@ -71,45 +70,45 @@ reads_as text image names i n =
     go false = refl
 
 -- A text that is read as good is short enough, and good.
-pub rule_text_good : (text : List ℕ) (s : Reading) → rule_text_read text ≡ Good s → (length text ≤ 16384) × (read_text text ≡ Good s)
+pub rule_text_good : (text : List ℕ) (s : Reading) → rule_text_read text ≡ Ok s → (length text ≤ 16384) × (read_text text ≡ Ok s)
 unfolding rule_text_read unless refusal
 rule_text_good text s e = go (leb (length text) 16384) refl e
   where
     go :
-        (b : Bool) → leb (length text) 16384 ≡ b → unless (refusal ((b, 1) ∷ [])) (read_text text) ≡ Good s
-        → (length text ≤ 16384) × (read_text text ≡ Good s)
+        (b : Bool) → leb (length text) 16384 ≡ b → unless (refusal ((b, 1) ∷ [])) (read_text text) ≡ Ok s
+        → (length text ≤ 16384) × (read_text text ≡ Ok s)
     go true short p = (leb-true (length text) 16384 short, p)
     go false short p = let z : ◌≡◌ {A = ℕ} 0 1 = cc in absurd (omega arith)
 
 -- a text that it refuses
 pub record BadRead (text image names : List ℕ) (n place : ℕ) : Type 0 where
-  pub bad_text : rule_text_read text ≡ Bad n place
+  pub bad_text : rule_text_read text ≡ Err (n, place)
   pub image_stays : (read_of text image names).image ≡ image
   pub names_stay : (read_of text image names).names ≡ names
 
 pub read_bad :
-    (text image names : List ℕ) (a : Read) (n place : ℕ) → length image ≡ 1284 → length names ≡ 1200
-    → a ≡ (read_of text image names).answer → a ≡ read_as.Refused n place → BadRead text image names n place
+    (text image names : List ℕ) (a : Result ℕ TextError) (bad : TextError) → length image ≡ 1284 → length names ≡ 1200
+    → answered a ≡ (read_of text image names).answer → a ≡ Err bad → BadRead text image names (number bad.refusal) bad.place
 unfolding written
-read_bad text image names a n place i m e p =
-    go (rule_text_read text) refl (sym p ∙ e ∙ ap (λ (o : ReadOutcome). o.answer) (reads_as text image names i m))
+read_bad text image names a bad i m e p =
+    go (rule_text_read text) refl (sym (ap answered p) ∙ e ∙ ap (λ (o : ReadOutcome). o.answer) (reads_as text image names i m))
   where
     go :
-        (r : Result) → rule_text_read text ≡ r → read_as.Refused n place ≡ (written r image names).answer
-        → BadRead text image names n place
-    go (Bad b q) t f =
-        let is : Bad b q ≡ Bad n place = cc in
+        (r : ReadText) → rule_text_read text ≡ r → Err (number bad.refusal, bad.place) ≡ (written r image names).answer
+        → BadRead text image names (number bad.refusal) bad.place
+    go (Err (b, q)) t f =
+        let is : ◌≡◌ {A = ReadText} (Err (b, q)) (Err (number bad.refusal, bad.place)) = cc in
         record {
           bad_text = t ∙ is;
           image_stays = rw (reads_as text image names i m, t);
           names_stay = rw (reads_as text image names i m, t);
         }
-    go (Good s) t f = let z : ◌≡◌ {A = ℕ} 0 1 = cc in absurd (omega arith)
+    go (Ok s) t f = let z : ◌≡◌ {A = ℕ} 0 1 = cc in absurd (omega arith)
 
 -- a text that it takes
 pub record GoodRead (text image names : List ℕ) (size : ℕ) : Type 0 where
   pub reading : Reading
-  pub good_text : rule_text_read text ≡ Good reading
+  pub good_text : rule_text_read text ≡ Ok reading
   pub image_size : size ≡ length (image_of (rule_set_of reading))
   pub image_short : size ≤ 1284
   pub image_there : take size (read_of text image names).image ≡ image_of (rule_set_of reading)
@@ -119,18 +118,18 @@ pub record GoodRead (text image names : List ℕ) (size : ℕ) : Type 0 where
   pub rules_back : read (image_of (rule_set_of reading)) ≡ rule_set_of reading
 
 pub read_good :
-    (text image names : List ℕ) (a : Read) (size : ℕ) → length image ≡ 1284 → length names ≡ 1200
-    → a ≡ (read_of text image names).answer → a ≡ read_as.Image size → GoodRead text image names size
+    (text image names : List ℕ) (a : Result ℕ TextError) (size : ℕ) → length image ≡ 1284 → length names ≡ 1200
+    → answered a ≡ (read_of text image names).answer → a ≡ Ok size → GoodRead text image names size
 unfolding written over
 read_good text image names a size i m e p =
-    go (rule_text_read text) refl (sym p ∙ e ∙ ap (λ (o : ReadOutcome). o.answer) (reads_as text image names i m))
+    go (rule_text_read text) refl (sym (ap answered p) ∙ e ∙ ap (λ (o : ReadOutcome). o.answer) (reads_as text image names i m))
   where
     go :
-        (r : Result) → rule_text_read text ≡ r → read_as.Image size ≡ (written r image names).answer
+        (r : ReadText) → rule_text_read text ≡ r → Ok size ≡ (written r image names).answer
         → GoodRead text image names size
-    go (Bad n q) t f = let z : ◌≡◌ {A = ℕ} 0 1 = cc in absurd (omega arith)
-    go (Good s) t f =
-        let good : read_text text ≡ Good s = (rule_text_good text s t).1 in
+    go (Err (n, q)) t f = let z : ◌≡◌ {A = ℕ} 0 1 = cc in absurd (omega arith)
+    go (Ok s) t f =
+        let good : read_text text ≡ Ok s = (rule_text_good text s t).1 in
         let long : size ≡ length (image_of (rule_set_of s)) = cc in
         record {
           reading = s;
@@ -150,13 +149,13 @@ unfolding begin_of
 begin_long input l h = rw (lt-leb (length input) 20480 h)
 
 pub begin_bad :
-    (input : List ℕ) (l : Areas) (n place : ℕ) → length input ≤ 20480 → rule_text_read (rule_part input) ≡ Bad n place
+    (input : List ℕ) (l : Areas) (n place : ℕ) → length input ≤ 20480 → rule_text_read (rule_part input) ≡ Err (n, place)
     → begin_of input l ≡ message (refused_line n place) l
 unfolding begin_of begin_read
 begin_bad input l n place h e = rw (le-leb (length input) 20480 h, e)
 
 pub begin_good :
-    (input : List ℕ) (l : Areas) (s : Reading) → length input ≤ 20480 → rule_text_read (rule_part input) ≡ Good s
+    (input : List ℕ) (l : Areas) (s : Reading) → length input ≤ 20480 → rule_text_read (rule_part input) ≡ Ok s
     → begin_of input l ≡ started s (events_at input) l
 unfolding begin_of begin_read
 begin_good input l s h e = rw (le-leb (length input) 20480 h, e)

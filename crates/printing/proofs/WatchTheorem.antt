@@ -1,5 +1,6 @@
 -- `watch_theorem`: what `begin`, and then `next` until it writes nothing, give is what `watch` prints.
 -- Assumes nothing.
+use Rattle.std.specs.Prelude.{Ok, Err}
 use Prim.Native.Nat.{ℕ, zero, suc, ◌+◌, ◌≤◌, ◌<◌}
 use mathlib.Core.Path.{◌≡◌, refl, sym, ap, ◌∙◌}
 use mathlib.Core.Bool.{Bool, true, false, cond}
@@ -16,7 +17,7 @@ use Rattle.layout.specs.Table.{table_of}
 use Rattle.grammar.specs.Tokens.{unbroken, runs_from, runs}
 use Rattle.grammar.specs.FirstRun.{gap}
 use Rattle.grammar.specs.Grammar.{Reading, rule_set_of}
-use Rattle.grammar.specs.Read.{Result, Good, Bad, read_text, names_of}
+use Rattle.grammar.specs.Read.{ReadText, read_text, names_of}
 use Rattle.grammar.proofs.Runs.{gap_le, unbroken_le, run-some, runs_none, runs-next, end_of}
 use Rattle.grammar.proofs.Sound.{read_length_names}
 use Rattle.printing.specs.Lines.{event_line, refused_line, too_long_line}
@@ -131,7 +132,7 @@ unfolding written_by message
 written-message k input m l = over_there m l.line
 
 -- what is lent to `next` is the good text's
-started_watch : (text : List ℕ) (s : Reading) (l : Areas) → length l.names ≡ 1200 → read_text text ≡ Good s
+started_watch : (text : List ℕ) (s : Reading) (l : Areas) → length l.names ≡ 1200 → read_text text ≡ Ok s
     → (k : ℕ) (input : List ℕ) (at : ℕ)
     → written_by k input (started s at l).answer (started s at l).areas ≡ lines_from k (begun s) input at
 unfolding written_by started begun
@@ -149,13 +150,13 @@ unfolding begin_of begin_read printed reported runs
 watch_theorem input l sized k h = go (leb (length input) 20480) refl (rule_text_read (rule_part input)) refl
   where
     go :
-        (b : Bool) → leb (length input) 20480 ≡ b → (r : Result) → rule_text_read (rule_part input) ≡ r
+        (b : Bool) → leb (length input) 20480 ≡ b → (r : ReadText) → rule_text_read (rule_part input) ≡ r
         → written_by k input (cond b (begin_read r (events_at input) l) (message too_long_line l)).answer
         (cond b (begin_read r (events_at input) l) (message too_long_line l)).areas
         ≡ cond b (reported r (event_part input)) too_long_line
     go false long r e = written-message k input too_long_line l
-    go true fits (Bad n place) e = written-message k input (refused_line n place) l
-    go true fits (Good s) e =
+    go true fits (Err (n, place)) e = written-message k input (refused_line n place) l
+    go true fits (Ok s) e =
         let good = rule_text_good (rule_part input) s e in
         let short : length input ≤ 20480 = leb-true (length input) 20480 fits in
         let fewer : length (drop (events_at input) input) < k = omega (arith, length-drop (events_at input) input) in

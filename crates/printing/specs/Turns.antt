@@ -1,5 +1,5 @@
 -- `begin` and `next`, as functions of all that is lent to them; and that what they write, line after line, is what `watch` prints.
-use Rattle.std.specs.Prelude.{ℕ, zero, suc, ◌+◌, ◌*◌, ◌-◌, ◌≤◌, ◌<◌, ◌≡◌, cond, List, [], ◌∷◌, ◌++◌, leb, length, take, drop}
+use Rattle.std.specs.Prelude.{ℕ, zero, suc, ◌+◌, ◌*◌, ◌-◌, ◌≤◌, ◌<◌, ◌≡◌, cond, List, [], ◌∷◌, ◌++◌, leb, length, take, drop, Ok, Err}
 use Rattle.rewriting.specs.Lists.{over}
 use Rattle.layout.specs.Image.{image_of}
 use Rattle.layout.specs.Table.{table_of}
@@ -8,7 +8,7 @@ use Rattle.machine.specs.Lent.{monitor_in}
 use Rattle.grammar.specs.Tokens.{unbroken}
 use Rattle.grammar.specs.FirstRun.{gap}
 use Rattle.grammar.specs.Grammar.{Reading, rule_set_of}
-use Rattle.grammar.specs.Read.{Result, Good, Bad, names_of}
+use Rattle.grammar.specs.Read.{ReadText, names_of}
 use Rattle.printing.specs.Lines.{refused_line, too_long_line}
 use Rattle.printing.specs.Watch.{input_most, rule_part, event_part, Watch, holding, fresh_monitor, offered_name, line_for, rule_text_read, printed}
 use Rattle.grammar.specs.Names.{names_size}
@@ -154,9 +154,9 @@ started s at l =
           };
     }
 
-unfoldable pub begin_read : Result → ℕ → Areas → Begins
-begin_read (Bad n place) at l = message (refused_line n place) l
-begin_read (Good s) at l = started s at l
+unfoldable pub begin_read : ReadText → ℕ → Areas → Begins
+begin_read (Err (n, place)) at l = message (refused_line n place) l
+begin_read (Ok s) at l = started s at l
 
 unfoldable pub begin_of : List ℕ → Areas → Begins
 begin_of input l =

@@ -1,5 +1,5 @@
 -- What `watch` prints for an input: `printed`.
-use Rattle.std.specs.Prelude.{ℕ, cond, List, [], ◌∷◌, ◌++◌, eqb, leb, length, replicate, Option, None, Some}
+use Rattle.std.specs.Prelude.{ℕ, cond, List, [], ◌∷◌, ◌++◌, eqb, leb, length, replicate, Option, None, Some, Ok, Err}
 use Rattle.layout.specs.Image.{image_of}
 use Rattle.layout.specs.Refusals.{refusal}
 use Rattle.layout.specs.Table.{table_of}
@@ -8,7 +8,7 @@ use Rattle.machine.specs.Areas.{Monitor, document_capacity, head_of}
 use Rattle.machine.specs.Calls.{Outcome, refusal_of, offer_of}
 use Rattle.grammar.specs.Tokens.{Run, runs}
 use Rattle.grammar.specs.Grammar.{Reading, rule_set_of}
-use Rattle.grammar.specs.Read.{text_most, Result, Good, Bad, read_text, names_of, unless}
+use Rattle.grammar.specs.Read.{ReadText, text_most, read_text, names_of, unless}
 use Rattle.grammar.specs.Lookup.{symbol_named}
 use Rattle.printing.specs.Lines.{event_line, refused_line, too_long_line}
 
@@ -74,13 +74,13 @@ event_lines w [] = []
 event_lines w (r ∷ names) = line_for w r.bytes ++ event_lines (holding w (offered_name w r.bytes).monitor) names
 
 -- what the rule text is read as; "1, over 16,384 bytes"
-unfoldable pub rule_text_read : List ℕ → Result
+unfoldable pub rule_text_read : List ℕ → ReadText
 rule_text_read text = unless (refusal ((leb (length text) text_most, 1) ∷ [])) (read_text text)
 
 -- "A refused text prints `rules refused`, number, place. Then each name is offered"
-unfoldable pub reported : Result → List ℕ → List ℕ
-reported (Bad n place) events = refused_line n place
-reported (Good s) events = event_lines (begun s) (runs events)
+unfoldable pub reported : ReadText → List ℕ → List ℕ
+reported (Err (n, place)) events = refused_line n place
+reported (Ok s) events = event_lines (begun s) (runs events)
 
 -- "at most 20,480 bytes of standard input"
 abbrev pub input_most : ℕ

@@ -22,7 +22,6 @@ use Rattle.machine.specs.Areas.{Monitor, document_capacity, head_of, monitor_of,
 use Rattle.machine.specs.Calls.{Offer, fuel_of, Outcome, offer_of, call_of}
 use Rattle.machine.specs.Play.{string_of}
 use Rattle.monitor.specs.Lent.{outcome_from}
-use Rattle.machine.specs.Promise.{Stopped}
 use Rattle.machine.proofs.Areas.{state_back}
 use Rattle.machine.proofs.Calls.{Holding, next}
 use Rattle.machine.proofs.CallTheorem.{call_theorem}

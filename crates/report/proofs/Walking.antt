@@ -13,7 +13,7 @@ use borrow.Author.Rules.{part_to_end}
 use Rattle.rewriting.specs.Lists.{over}
 use Rattle.monitor.specs.declared.Head.{Head}
 use Rattle.monitor.specs.Lent.{lent}
-use Rattle.grammar.specs.declared.Run.{Run}
+use Rattle.std.specs.declared.ops.Range.{Range}
 use Rattle.grammar.specs.Tokens.{unbroken}
 use Rattle.grammar.specs.FirstRun.{gap, first_run}
 use Rattle.grammar.proofs.Runs.{unbroken-take, run_end}
@@ -37,7 +37,7 @@ next_end w input at h = rw (drop_of_length-le input h) (go (leb (length input) 2
     go false = refl
 
 -- The first run from a place on, as it is found in that part of the input.
-module _ (input : List ℕ) (at : ℕ) (r : Run) (found : r ≡ first_run (take (length input - at) (drop at input))) (inside : at < length input) where
+module _ (input : List ℕ) (at : ℕ) (r : Range ℕ) (found : r ≡ first_run (take (length input - at) (drop at input))) (inside : at < length input) where
   abbrev pub name_there : List ℕ
   name_there = unbroken (drop (gap (drop at input)) (drop at input))
 

@@ -9,7 +9,7 @@ ghost use Rattle.printing.specs.Watch.{input_most, rule_part, fresh_monitor};
 ghost use Rattle.printing.specs.Turns.{line_most, Events, offering, next_of, turn_of, watch_with, watch_in, events_at, areas, begin_of, begins_from, Inside};
 ghost use Rattle.report.specs.Lent.{walk_in, begun_in, turn_from};
 
-use grammar::{NAMES_BYTES, Read};
+use grammar::NAMES_BYTES;
 use layout::{IMAGE_BYTES, TABLE_WORDS};
 use machine::CAPACITY;
 use monitor::Head;
@@ -133,8 +133,12 @@ pub fn begin(
     }
     let end = rule_length(input);
     match text::read_rules(&input[..end], image, names) {
-        Read::Refused(n, place) => Begun::Message(lines::put_rules_refused(line, n, place)),
-        Read::Image(size) => {
+        Err(error) => Begun::Message(lines::put_rules_refused(
+            line,
+            error.refusal.number(),
+            error.place,
+        )),
+        Ok(size) => {
             let at = events_start(input, end);
             let area: &[u8] = image;
             make_ready(at, &area[..size], table, bytes, words)

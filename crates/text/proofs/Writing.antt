@@ -2,7 +2,7 @@
 -- Assumes nothing.
 use Prim.Native.Nat.{ℕ, ◌+◌, ◌*◌, ◌≤◌, ◌<◌}
 use mathlib.Core.Path.{◌≡◌, refl, sym, ap, ◌∙◌}
-use Rattle.std.specs.Prelude.{Some}
+use Rattle.std.specs.Prelude.{Some, Result, Ok, Err}
 use mathlib.Core.List.{List, [], ◌∷◌, ◌++◌, append-nil, flat_map}
 use native.Mathlib.Omega.{arith}
 use lib.ListN.{length, set, take, drop, length-append}
@@ -14,12 +14,10 @@ use Rattle.layout.specs.Image.{contents, body, image_of}
 use Rattle.layout.specs.Refusals.{refusal}
 use Rattle.layout.proofs.Image.{length-contents, length_image}
 use Rattle.parser.specs.declared.Reader.{Reader}
-use Rattle.grammar.specs.declared.Read.TheVariants as read
-use Rattle.parser.specs.declared.Finished as finished_as
-use Rattle.parser.specs.declared.Finished.TheVariants as finished
-use Rattle.grammar.specs.declared.Read.{Read}
+use Rattle.grammar.specs.declared.TextError.{TextError}
+use Rattle.layout.specs.Refusals.{number}
 use Rattle.grammar.specs.Grammar.{Place, Between, Reading, rule_set_of}
-use Rattle.grammar.specs.Read.{Result, Good, Bad, read_text, names_of, Outcome, read_checks, written, unless, read_of}
+use Rattle.grammar.specs.Read.{ReadText, read_text, names_of, Outcome, read_checks, written, unless, read_of}
 use Rattle.grammar.specs.Sound.{EventsKnown, Sound}
 use Rattle.parser.specs.Held.{rule_at, bodies_of, Keeps, FinishedIs, Small}
 use Rattle.grammar.proofs.Sound.{place_sound}
@@ -149,21 +147,21 @@ names_written symbols words names m n =
 -- The answers.
 module _ (text image names : List ℕ) where
   refused_with : (n : ℕ) → refusal (read_checks text image names) ≡ Some n
-      → read_of text image names ≡ record { answer = read.Refused n 0; image = image; names = names }
+      → read_of text image names ≡ record { answer = Err (n, 0); image = image; names = names }
   unfolding read_of unless written
   refused_with n e = rw e
 
-  pub refused_1 : 16384 < length text → read_of text image names ≡ record { answer = read.Refused 1 0; image = image; names = names }
+  pub refused_1 : 16384 < length text → read_of text image names ≡ record { answer = Err (1, 0); image = image; names = names }
   unfolding read_checks refusal
   refused_1 long = refused_with 1 (rw (lt-leb (length text) 16384 long))
 
   pub refused_image : length text ≤ 16384 → length image < 1284
-      → read_of text image names ≡ record { answer = read.Refused 2 0; image = image; names = names }
+      → read_of text image names ≡ record { answer = Err (2, 0); image = image; names = names }
   unfolding read_checks refusal
   refused_image fits short = refused_with 2 (rw (le-leb (length text) 16384 fits, lt-leb 1284 (length image) short))
 
   pub refused_names : length text ≤ 16384 → 1284 ≤ length image → length names < 1200
-      → read_of text image names ≡ record { answer = read.Refused 2 0; image = image; names = names }
+      → read_of text image names ≡ record { answer = Err (2, 0); image = image; names = names }
   unfolding read_checks refusal
   refused_names fits room short =
       refused_with 2 (rw (le-leb (length text) 16384 fits, le-leb 1284 (length image) room, lt-leb 1200 (length names) short))
@@ -173,49 +171,49 @@ module _ (text image names : List ℕ) where
     unfolding read_of read_checks refusal unless
     passed = rw (le-leb (length text) 16384 fits, le-leb 1284 (length image) image_room, le-leb 1200 (length names) names_room)
 
-    pub text_bad : (a b c d : List ℕ) (n place : ℕ) (answer : finished_as.Finished) → answer ≡ finished.Bad n place
+    pub text_bad : (a b c d : List ℕ) (e : TextError) (answer : Result Reader TextError) → answer ≡ Err e
         → FinishedIs (read_text text) answer a b c d
-        → read_of text image names ≡ record { answer = read.Refused n place; image = image; names = names }
+        → read_of text image names ≡ record { answer = Err (number e.refusal, e.place); image = image; names = names }
     unfolding written
-    text_bad a b c d n place answer told h = passed ∙ go (read_text text) (rw told at h)
+    text_bad a b c d e answer told h = passed ∙ go (read_text text) (rw told at h)
       where
-        go : (t : Result) → FinishedIs t (finished.Bad n place) a b c d
-            → written t image names ≡ record { answer = read.Refused n place; image = image; names = names }
-        go (Good s) g = absurd g
-        go (Bad m at) g = λ i. record { answer = read.Refused (sym g.0 i) (sym g.1 i); image = image; names = names }
+        go : (t : ReadText) → FinishedIs t (Err e) a b c d
+            → written t image names ≡ record { answer = Err (number e.refusal, e.place); image = image; names = names }
+        go (Ok s) g = absurd g
+        go (Err (m, at)) g = λ i. record { answer = Err (sym g.0 i, sym g.1 i); image = image; names = names }
 
     -- a good text, with what is kept of it
     pub record IsGood (r : Reader) (a b c d : List ℕ) : Type 0 where
       pub reading : Reading
-      pub read_as : read_text text ≡ Good reading
+      pub read_as : read_text text ≡ Ok reading
       pub sound : Sound reading
       pub complete : reading.place ≡ Between
       pub keeps : Keeps reading r a b c d
 
-    pub text_good : (r : Reader) (a b c d : List ℕ) (answer : finished_as.Finished) → answer ≡ finished.Good r
+    pub text_good : (r : Reader) (a b c d : List ℕ) (answer : Result Reader TextError) → answer ≡ Ok r
         → FinishedIs (read_text text) answer a b c d → IsGood r a b c d
     text_good r a b c d answer told h = go (read_text text) refl (rw told at h)
       where
-        go : (t : Result) → read_text text ≡ t → FinishedIs t (finished.Good r) a b c d → IsGood r a b c d
-        go (Good s) e g = record { reading = s; read_as = e; sound = g.0; complete = g.1; keeps = g.2 }
-        go (Bad m at) e g = absurd g
+        go : (t : ReadText) → read_text text ≡ t → FinishedIs t (Ok r) a b c d → IsGood r a b c d
+        go (Ok s) e g = record { reading = s; read_as = e; sound = g.0; complete = g.1; keeps = g.2 }
+        go (Err (m, at)) e g = absurd g
 
     pub good_outcome : {r : Reader} {a b c d : List ℕ} (g : IsGood r a b c d)
         → read_of text image names
         ≡ record {
-          answer = read.Image (length (image_of (rule_set_of g.reading)));
+          answer = Ok (length (image_of (rule_set_of g.reading)));
           image = over (image_of (rule_set_of g.reading)) image;
           names = over (names_of g.reading) names;
         }
     unfolding written
-    good_outcome g = passed ∙ ap (λ (t : Result). written t image names) g.read_as
+    good_outcome g = passed ∙ ap (λ (t : ReadText). written t image names) g.read_as
 
     pub good_names : {r : Reader} {a b c d : List ℕ} (g : IsGood r a b c d) → a ++ b ≡ names_of g.reading
     unfolding names_of
     good_names g = rw (g.keeps.symbol-slots, g.keeps.word-slots)
 
 -- an outcome, part by part
-pub parts : (o : Outcome) (answer : Read) (image names : List ℕ)
+pub parts : (o : Outcome) (answer : Result ℕ (ℕ × ℕ)) (image names : List ℕ)
     → o ≡ record { answer = answer; image = image; names = names } → (answer ≡ o.answer) × ((image ≡ o.image) × (names ≡ o.names))
 parts o answer image names e =
     (sym (ap (λ (o : Outcome). o.answer) e), (sym (ap (λ (o : Outcome). o.image) e), sym (ap (λ (o : Outcome). o.names) e)))

@@ -7,13 +7,13 @@ ghost use Rattle.rewriting.specs.Lists.{over};
 ghost use Rattle.layout.specs.Image.{image_most, image_of};
 ghost use Rattle.grammar.specs.Names.{symbols_size, words_size, names_size};
 ghost use Rattle.grammar.specs.Grammar.{Between, Reading, rule_set_of};
-ghost use Rattle.grammar.specs.Read.{read_of};
+ghost use Rattle.grammar.specs.Read.{answered, read_of};
 ghost use Rattle.grammar.specs.Sound.{Sound};
 ghost use Rattle.parser.specs.Held.{contents_size, bodies_size, Keeps, Small};
 
-use grammar::{NAMES_BYTES, Read, SYMBOLS_BYTES, TEXT_BYTES, WORDS_BYTES};
-use layout::IMAGE_BYTES;
-use parser::{BODIES_BYTES, CONTENTS_BYTES, Finished, Reader};
+use grammar::{NAMES_BYTES, SYMBOLS_BYTES, TEXT_BYTES, TextError, WORDS_BYTES};
+use layout::{IMAGE_BYTES, Refusal};
+use parser::{BODIES_BYTES, CONTENTS_BYTES, Reader};
 
 // Copies the first n bytes of `from` to the places from `at` on.
 fn copy(from: &[u8], n: usize, to: &mut [u8], at: usize)
@@ -61,30 +61,35 @@ fn write_names(symbols: &[u8], words: &[u8], names: &mut [u8])
 
 // Reads a rule text: its image into one area, its name slots into the other. Both are made beside them and written when the
 // whole text is known to be good.
-pub fn read_rules(text: &[u8], image: &mut [u8], names: &mut [u8]) -> Read
-    ensures answer { result ≡ (read_of text.now image.old names.old).answer }
+pub fn read_rules(text: &[u8], image: &mut [u8], names: &mut [u8]) -> Result<usize, TextError>
+    ensures answer { answered result ≡ (read_of text.now image.old names.old).answer }
     ensures image { image.new ≡ (read_of text.now image.old names.old).image }
     ensures names { names.new ≡ (read_of text.now image.old names.old).names }
 {
     if TEXT_BYTES < text.len() {
-        return Read::Refused(1, 0);
+        return Err(TextError {
+            refusal: Refusal::LongText,
+            place: 0,
+        });
     }
     if image.len() < IMAGE_BYTES {
-        return Read::Refused(2, 0);
+        return Err(TextError {
+            refusal: Refusal::ShortArea,
+            place: 0,
+        });
     }
     if names.len() < NAMES_BYTES {
-        return Read::Refused(2, 0);
+        return Err(TextError {
+            refusal: Refusal::ShortArea,
+            place: 0,
+        });
     }
     let mut symbols: [u8; SYMBOLS_BYTES] = [0; SYMBOLS_BYTES];
     let mut words: [u8; WORDS_BYTES] = [0; WORDS_BYTES];
     let mut contents: [u8; CONTENTS_BYTES] = [0; CONTENTS_BYTES];
     let mut bodies: [u8; BODIES_BYTES] = [0; BODIES_BYTES];
-    match parser::read_tokens(text, &mut symbols, &mut words, &mut contents, &mut bodies) {
-        Finished::Bad(n, place) => Read::Refused(n, place),
-        Finished::Good(reader) => {
-            let size = write_image(reader, &contents, &bodies, image);
-            write_names(&symbols, &words, names);
-            Read::Image(size)
-        }
-    }
+    let reader = parser::read_tokens(text, &mut symbols, &mut words, &mut contents, &mut bodies)?;
+    let size = write_image(reader, &contents, &bodies, image);
+    write_names(&symbols, &words, names);
+    Ok(size)
 }

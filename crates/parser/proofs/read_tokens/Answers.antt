@@ -187,7 +187,7 @@ tokens-preserved c =
     let p = scanning_passed e.invariant b c.in-Separator.is in
     let g = l.invariant in
     let x = run_token d e.end stop _ c.kind_of-kind.ensures p in
-    going_on g n _ _ _ _ _ _ x (c.token.ensures g.reading g.sound g.keeps) _ c.in-Goes.is
+    going_on g n _ _ _ _ _ _ x (c.token.ensures g.reading g.sound g.keeps) _ c.in-Ok.is
 
 pub returns-then-text-start : goal.returns-then-text-start
 returns-then-text-start c =
@@ -211,8 +211,8 @@ returns-in-Other c =
     (run_no_token d
     (scanning_breaks e.invariant c.class_at.ensures c.in-Other.is))
 
-pub returns-in-Breaks : goal.returns-in-Breaks
-returns-in-Breaks c =
+pub returns-in-Err : goal.returns-in-Err
+returns-in-Err c =
     let t = c.args.text.now in
     let l = c.tokens in
     let f = c.gap_of in
@@ -225,4 +225,4 @@ returns-in-Breaks c =
     let p = scanning_passed e.invariant b c.in-Separator.is in
     let g = l.invariant in
     let x = run_token d e.end stop _ c.kind_of-kind.ensures p in
-    broken g n _ _ _ _ _ _ x (c.token.ensures g.reading g.sound g.keeps) _ c.in-Breaks.is
+    broken g n _ _ _ _ _ _ x (c.token.ensures g.reading g.sound g.keeps) _ c.in-Err.is

@@ -30,38 +30,38 @@ slice_bounds-read_rules-end c =
 pub slice_bounds-make_ready-end : goal.slice_bounds-make_ready-end
 slice_bounds-make_ready-end c =
     let good = read_good _ _ _ _ _ c.told-image c.told-names
-    c.read_rules.ensures.answer c.in-Image.is in
+    c.read_rules.ensures.answer c.in-Ok.is in
     sym (length-take-le _ _ (omega (arith, good.image_short, c.read_rules.auto.image, c.told-image)))
 
 pub make_ready-requires : goal.make_ready-requires
 make_ready-requires c =
     let good = read_good _ _ _ _ _ c.told-image c.told-names
-    c.read_rules.ensures.answer c.in-Image.is in
+    c.read_rules.ensures.answer c.in-Ok.is in
     rw (c.read_rules.ensures.image, good.image_there) good.rules-valid
 
-pub returns-in-Refused : goal.returns-in-Refused
-returns-in-Refused c =
+pub returns-in-Err : goal.returns-in-Err
+returns-in-Err c =
     let l =
     (areas c.args.image.now c.args.names.now c.args.table.now c.args.bytes.now c.args.words.now
     c.args.line.now) in
     let text = rule-text _ _ c.rule_length-end.ensures in
-    let bad = read_bad _ _ _ _ _ _ c.told-image c.told-names
-    c.read_rules.ensures.answer c.in-Refused.is in
-    let line = writes_all c.put_rules_refused.ensures in
+    let bad = read_bad _ _ _ _ _ c.told-image c.told-names
+    c.read_rules.ensures.answer c.in-Err.is in
+    let line = writes_all (rw c.number.ensures at c.put_rules_refused.ensures) in
     let p =
     message-is _ l (refused_line _ _) _ _ _ _ (begin_bad _ l _ _ c.if-input-gt-INPUT_BYTES.false (ap rule_text_read (sym text) ∙ bad.bad_text))
     (c.read_rules.ensures.image ∙ bad.image_stays) (c.read_rules.ensures.names ∙ bad.names_stay) line.0 line.1
     c.put_rules_refused.auto.line c.told-line
     in record { outcome = p.0; inside = p.1 }
 
-pub returns-in-Image : goal.returns-in-Image
-returns-in-Image c =
+pub returns-in-Ok : goal.returns-in-Ok
+returns-in-Ok c =
     let l =
     (areas c.args.image.now c.args.names.now c.args.table.now c.args.bytes.now c.args.words.now
     c.args.line.now) in
     let text = rule-text _ _ c.rule_length-end.ensures in
     let good = read_good _ _ _ _ _ c.told-image c.told-names
-    c.read_rules.ensures.answer c.in-Image.is in
+    c.read_rules.ensures.answer c.in-Ok.is in
     let image = c.read_rules.ensures.image in
     let made = c.make_ready.ensures in
     let p =

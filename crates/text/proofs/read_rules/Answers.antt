@@ -1,5 +1,6 @@
 -- `text::read_rules` meets its contract.
 use mathlib.Core.Path.{refl}
+use Rattle.std.proofs.lemmas.Result.{err_from_is_err_and}
 use Rattle.text.proofs.Writing.{small, refused_1, refused_image, refused_names, text_bad, text_good, good_outcome, good_names, parts}
 use Rattle.text.proofs.read_rules.Goals as goal
 
@@ -48,35 +49,36 @@ write_image-size-requires c =
     let image_room = c.if-image-lt-IMAGE_BYTES.false in
     let names_room = c.if-names-lt-NAMES_BYTES.false in
     let g = text_good a.text.now a.image.now a.names.now short image_room names_room _ _ _ _ _ _
-    c.in-Good.is c.read_tokens.ensures in record {
+    c.in_ok-reader.was c.read_tokens.ensures in record {
       small = small g.sound g.complete g.keeps a.image.now image_room;
       contents = g.keeps.contents_size_lem;
       bodies = g.keeps.bodies_size_lem;
       room = image_room;
     }
 
-pub returns-in-Bad : goal.returns-in-Bad
-returns-in-Bad c =
+pub returns-in_err-reader : goal.returns-in_err-reader
+returns-in_err-reader c =
     let a = c.args in
     let short = c.if-text-gt-TEXT_BYTES.false in
     let image_room = c.if-image-lt-IMAGE_BYTES.false in
     let names_room = c.if-names-lt-NAMES_BYTES.false in
+    let back = err_from_is_err_and c.from_residual.result c.from_residual.ensures.1 in
     let p = parts _ _ _ _
-    (text_bad a.text.now a.image.now a.names.now short image_room names_room _ _ _ _ _ _ _ c.in-Bad.is
+    (text_bad a.text.now a.image.now a.names.now short image_room names_room _ _ _ _ _ _ c.in_err-reader.was
     c.read_tokens.ensures) in record {
-      answer = p.0;
+      answer = rw (back.1, back.2) p.0;
       image = p.1.0;
       names = p.1.1;
     }
 
-pub returns-in-Good : goal.returns-in-Good
-returns-in-Good c =
+pub returns : goal.returns
+returns c =
     let a = c.args in
     let short = c.if-text-gt-TEXT_BYTES.false in
     let image_room = c.if-image-lt-IMAGE_BYTES.false in
     let names_room = c.if-names-lt-NAMES_BYTES.false in
     let g = text_good a.text.now a.image.now a.names.now short image_room names_room _ _ _ _ _ _
-    c.in-Good.is c.read_tokens.ensures in
+    c.in_ok-reader.was c.read_tokens.ensures in
     let w = c.write_image-size.ensures _ _ g.reading g.sound g.complete g.keeps in
     let p = parts _ _ _ _ (good_outcome a.text.now a.image.now a.names.now short image_room names_room g) in
     rw (
