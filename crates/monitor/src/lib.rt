@@ -4,13 +4,12 @@
 
 ghost use Rattle.std.specs.Prelude.{◌≡◌, None, Some, Err, MatchResult};
 ghost use Rattle.layout.specs.Refusals.{refusal, number};
-ghost use Rattle.machine.specs.State as State;
-ghost use Rattle.machine.specs.Areas.{document_capacity, head_of};
+ghost use Rattle.machine.specs.Areas.{document_capacity};
 ghost use Rattle.machine.specs.Run.{no_counts};
 ghost use Rattle.machine.specs.Calls.{fresh_of, lent_checks, offer_of, go_on_of};
 ghost use Rattle.machine.specs.Lent.{Passed};
 ghost use Rattle.machine.specs.Batch.{batch_of};
-ghost use Rattle.monitor.specs.Lent.{head_in, lent, fresh_from, outcome_from, batch_from};
+ghost use Rattle.monitor.specs.Lent.{lent, fresh_from, outcome_from, batch_from};
 
 use areas::rules::{Rules, Table};
 use areas::{described, held};
@@ -57,13 +56,6 @@ pub struct BatchReturned {
     pub counts: Counts,
 }
 
-// The head of a monitor that holds nothing.
-fn empty() -> Head
-    ensures { head_in result ≡ head_of State.empty }
-{
-    Head::EMPTY
-}
-
 // Sets both areas to 0.
 pub fn fresh(bytes: &mut [u8], words: &mut [u16]) -> Begun
     ensures { fresh_from result bytes.new words.new
@@ -71,13 +63,13 @@ pub fn fresh(bytes: &mut [u8], words: &mut [u16]) -> Begun
 {
     if bytes.len() != CAPACITY || words.len() != CAPACITY {
         return Begun {
-            head: empty(),
+            head: Head::EMPTY,
             answer: Err(Refusal::AreaLength),
         };
     }
     held::clear(bytes, words, 0, CAPACITY);
     Begun {
-        head: empty(),
+        head: Head::EMPTY,
         answer: Ok(()),
     }
 }
