@@ -14,7 +14,8 @@ use image::Rooted;
 use trie::{Node, failure_of};
 
 // How many words of the rows of q and f differ. Where a row begins is worked out once, before the loop. The loop counts to the
-// end, so that it compares many words at once.
+// end, so that it compares many words at once. This and the next by index: over the items of the rows the check of a table takes
+// up to a tenth longer, and with `filter` and `count` four times as long.
 fn differences(rows: &[u16], s: usize, q: usize, f: usize) -> u16
     requires few { s ≤ 32 }
     requires own { q * s + s ≤ length rows.now }
