@@ -1,3 +1,4 @@
--- What a rewrite gives back, and what gathers bits.
+-- What is lent, what a rewrite gives back, and what gathers bits.
 pub mod Bits
+pub mod Lent
 pub mod Rewritten

@@ -1,17 +1,16 @@
 // The check behind refusal 11: whether head and areas are as document 01 describes them. What it asks, the checks of 7, 9 and 10 have
 // shown.
 ghost use Rattle.std.specs.Prelude.{◌*◌, ◌≤◌, ◌≡◌, true, length, replicate};
-ghost use Rattle.rewriting.specs.Lists.{prefix};
 ghost use Rattle.layout.specs.ImageCheck.{Decides};
-ghost use Rattle.layout.specs.Image.{read, valid};
-ghost use Rattle.layout.specs.Table.{table_of};
 ghost use Rattle.machine.specs.Areas.{stands_by, described};
 ghost use Rattle.machine.specs.Lent.{monitor_with, Settled};
+ghost use Rattle.image.specs.Sets.{set_of};
 ghost use Rattle.areas.specs.Bits.{Gathers, or_gathers};
 ghost use lib.Bits.{bit_or};
 
 use crate::held;
-use image::wide;
+use crate::rules::Table;
+use image::Image;
 use layout::RightSide;
 
 // Unsigned numbers, whose bits `or` gathers: it is 0 where both numbers are, and nowhere else.
@@ -118,15 +117,14 @@ fn all_zero<T: Bits>(items: &[T]) -> bool
 }
 
 // Whether the verdict is that of its rule; with none the rule is 0.
-fn stands_by(image: &[u8], verdict: Option<u64>, rule: usize) -> bool
-    requires { valid image.now ≡ true }
-    ensures { result ≡ stands_by (read image.now).rules verdict rule }
+fn stands_by(image: Image<'_>, verdict: Option<u64>, rule: usize) -> bool
+    ensures { result ≡ stands_by (set_of image.entry).rules verdict rule }
 {
     match verdict {
         None => rule == 0,
         Some(v) => {
-            rule < image::rules(image)
-                && match image::right_side(image, rule) {
+            rule < image.rules()
+                && match image.right_side(rule) {
                     RightSide::Put(_) => false,
                     RightSide::Close(u) => v == u,
                 }
@@ -137,45 +135,39 @@ fn stands_by(image: &[u8], verdict: Option<u64>, rule: usize) -> bool
 // Whether these are settled symbols and their words: each symbol below S, each word the state after its symbol, and none
 // of the states has a match. Symbols come first, in a loop that becomes vector code. Each word is tested against the one lent before
 // it, so that no turn waits for the one before. A loop over symbols and words side by side takes up to a fifth longer.
-fn settled_right(image: &[u8], table: &[u16], symbols: &[u8], words: &[u16]) -> bool
-    requires image { valid image.now ≡ true }
-    requires table { prefix (table_of (read image.now)) table.now ≡ true }
-    requires size { length words.now ≡ length symbols.now }
-    ensures { Decides result (Settled (read image.now) symbols.now words.now) }
+fn settled_right(table: Table<'_>, symbols: &[u8], words: &[u16]) -> bool
+    requires { length words.now ≡ length symbols.now }
+    ensures { Decides result (Settled (set_of table.entry.image) symbols.now words.now) }
 {
-    if !validity::all_below(symbols, image[0]) {
+    if !validity::all_below(symbols, table.image.bytes[0]) {
         return false;
     }
-    let rows = 2 + wide::word(table[0]);
-    let width = wide::word(table[1]);
     for (i, &symbol) in symbols.iter().enumerate() {
         let q = held::word_before(words, i);
-        let next = held::next_at(table, rows, width, q, wide::byte(symbol));
-        if wide::word(words[i]) != next {
+        let next = table.next(q, usize::from(symbol));
+        if usize::from(words[i]) != next {
             return false;
         }
-        if held::match_word(table, next) != 0 {
+        if table.match_word(next) != 0 {
             return false;
         }
     }
     true
 }
 
-// Whether head and areas are as described, with areas of one length.
+// Whether head and areas are as described, with areas of one length. The head comes as its four numbers: its struct has methods, so
+// it stands with them in the crate monitor, above this one.
 pub fn as_described(
     settled: usize,
     waiting: usize,
     verdict: Option<u64>,
     rule: usize,
-    image: &[u8],
-    table: &[u16],
+    table: Table<'_>,
     bytes: &[u8],
     words: &[u16],
 ) -> bool
-    requires image { valid image.now ≡ true }
-    requires table { prefix (table_of (read image.now)) table.now ≡ true }
-    requires size { length words.now ≡ length bytes.now }
-    ensures { result ≡ described (read image.now) (length bytes.now)
+    requires { length words.now ≡ length bytes.now }
+    ensures { result ≡ described (set_of table.entry.image) (length bytes.now)
         (monitor_with settled waiting verdict rule bytes.now words.now) }
 {
     let capacity = bytes.len();
@@ -186,16 +178,16 @@ pub fn as_described(
         return false;
     }
     let first = capacity - waiting;
-    if !stands_by(image, verdict, rule) {
+    if !stands_by(table.image, verdict, rule) {
         return false;
     }
-    if !settled_right(image, table, &bytes[..settled], &words[..settled]) {
+    if !settled_right(table, &bytes[..settled], &words[..settled]) {
         return false;
     }
     if !all_zero(&bytes[settled..first]) {
         return false;
     }
-    if !validity::all_below(&bytes[first..], image[0]) {
+    if !validity::all_below(&bytes[first..], table.image.bytes[0]) {
         return false;
     }
     all_zero(&words[settled..])

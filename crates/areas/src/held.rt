@@ -1,27 +1,11 @@
-// Writes into the two areas, and the looks into a table that a step needs. They ask that their places are inside, which the checks of
-// a call have shown: a test in each would cost at every step.
+// Writes into the two areas. They ask that their places are inside, which the checks of a call have shown: a test in each would
+// cost at every step.
 ghost use Rattle.std.specs.Prelude.{◌+◌, ◌*◌, ◌-◌, ◌≤◌, ◌<◌, ◌≡◌, true, length, get_or, set, drop, replicate};
 ghost use Rattle.std.proofs.Math.Seq.{paste};
-ghost use Rattle.layout.specs.Image.{read, valid};
-ghost use Rattle.machine.specs.Lent.{match_in, word_before, Starts};
+ghost use Rattle.machine.specs.Lent.{word_before, Starts};
+ghost use Rattle.image.specs.Sets.{set_of};
 
-use image::wide;
-
-// The next state of q on symbol a, where the rows begin at `rows` and have `width` words each: a step does not look them up again.
-pub fn next_at(table: &[u16], rows: usize, width: usize, q: usize, a: usize) -> usize
-    requires { rows + q * width + a < length table.now }
-    ensures { result ≡ get_or table.now (rows + q * width + a) 0 }
-{
-    wide::word(table[rows + q * width + a])
-}
-
-// The match word of state q.
-pub fn match_word(table: &[u16], q: usize) -> usize
-    requires { 2 + q < length table.now }
-    ensures { result ≡ match_in table.now q }
-{
-    wide::word(table[2 + q])
-}
+use image::Image;
 
 // The word before the next one, where n words are in use: 0 at the start.
 pub fn word_before(words: &[u16], n: usize) -> usize
@@ -31,7 +15,7 @@ pub fn word_before(words: &[u16], n: usize) -> usize
     if n == 0 {
         return 0;
     }
-    wide::word(words[n - 1])
+    usize::from(words[n - 1])
 }
 
 // Sets bytes and words from .. to to 0.
@@ -83,18 +67,18 @@ pub(crate) fn take_off(
 // that this number comes from the loop's tests too, as in take_off: where the next symbol stands does not wait for n, as it would with
 // `copy_from_slice`.
 pub(crate) fn put_back(
-    image: &[u8],
+    image: Image<'_>,
     start: usize,
     n: usize,
     bytes: &mut [u8],
     waiting: usize,
 ) -> usize
     requires few { n ≤ 8 }
-    requires source { start + n ≤ length image.now }
+    requires source { start + n ≤ length image.bytes.now }
     requires target { waiting + n ≤ length bytes.old }
     ensures waiting { result ≡ waiting + n }
     ensures bytes { bytes.new
-        ≡ paste bytes.old (length bytes.old - (waiting + n)) (drop start image.now) n }
+        ≡ paste bytes.old (length bytes.old - (waiting + n)) (drop start image.entry.bytes.now) n }
 {
     let capacity = bytes.len();
     let end = start + n;
@@ -104,7 +88,7 @@ pub(crate) fn put_back(
             break;
         }
         held += 1;
-        bytes[capacity - held] = image[end - 1 - k];
+        bytes[capacity - held] = image.bytes[end - 1 - k];
     }
     held
 }
@@ -124,16 +108,15 @@ pub fn move_left(bytes: &mut [u8], from: usize)
 
 // Where each rule's right symbols begin, so that a step need not go through the rules before its own. Rules are counted, since a proof
 // knows nothing of what a loop over `iter_mut().enumerate()` has written.
-pub fn index(image: &[u8], starts: &mut [u16])
-    requires image { valid image.now ≡ true }
-    requires room { length (read image.now).rules ≤ length starts.old }
-    ensures { Starts image.now starts.new }
+pub fn index(image: Image<'_>, starts: &mut [u16])
+    requires { length (set_of image).rules ≤ length starts.old }
+    ensures { Starts image.entry.bytes.now starts.new }
 {
-    let rules = image::rules(image);
+    let rules = image.rules();
     let mut at = 4 + 4 * rules;
     for i in 0..rules {
-        let left = image::left_length(image, i);
+        let left = image.left_length(i);
         starts[i] = (at + left) as u16;
-        at += image::body_length(image, i);
+        at += image.body_length(i);
     }
 }

@@ -4,16 +4,17 @@
 #![tactic(auto)]
 
 ghost use Rattle.std.specs.Prelude.{ℕ, ◌<◌, ◌≡◌, IfSome, length, Some, None};
-ghost use Rattle.layout.specs.Image.{read};
 ghost use Rattle.machine.specs.Areas.{state_of};
-ghost use Rattle.machine.specs.Lent.{monitor_with, Passed, Starts, Matches, step_of, tried};
+ghost use Rattle.machine.specs.Lent.{monitor_with, Matches, step_of, tried};
+ghost use Rattle.areas.specs.Lent.{set_by, PassedWith};
 ghost use Rattle.areas.specs.Rewritten.{rewritten_from};
 
-use image::wide;
 use layout::RightSide;
+use rules::Rules;
 
 pub mod described;
 pub mod held;
+pub mod rules;
 
 // A rewrite that was made: the head's numbers after it, and the symbols that it put back.
 #[derive(Clone, Copy)]
@@ -30,33 +31,31 @@ pub struct Rewritten {
 pub fn rewrite(
     settled: usize,
     waiting: usize,
-    image: &[u8],
-    table: &[u16],
-    starts: &[u16],
+    rules: Rules<'_>,
     bytes: &mut [u8],
     words: &mut [u16],
     i: usize,
 ) -> Option<Rewritten>
-    requires lent { Passed (length bytes.old) image.now table.now (monitor_with settled waiting None 0 bytes.old words.old) }
-    requires starts { Starts image.now starts.now }
-    requires next { Matches (read image.now).rules (state_of (monitor_with settled waiting None 0 bytes.old words.old)) (Some i) }
+    requires lent { PassedWith rules (monitor_with settled waiting None 0 bytes.old words.old) }
+    requires next { Matches (set_by rules).rules (state_of (monitor_with settled waiting None 0 bytes.old words.old)) (Some i) }
     ensures tried { rewritten_from settled waiting result bytes.new words.new
-        ≡ tried (read image.now).rules (length bytes.old)
+        ≡ tried (set_by rules.entry).rules (length bytes.old)
         (monitor_with settled waiting None 0 bytes.old words.old)
-        (step_of (read image.now).rules (state_of (monitor_with settled waiting None 0 bytes.old words.old))) }
+        (step_of (set_by rules.entry).rules (state_of (monitor_with settled waiting None 0 bytes.old words.old))) }
     ensures verdict { IfSome result (λ r. (v : ℕ) → r.verdict ≡ Some v → v < 16) }
 {
+    let image = rules.table.image;
     let first = bytes.len() - waiting;
-    let size = image::left_length(image, i);
+    let size = image.left_length(i);
     let behind = first + 1;
     let rest = waiting - 1;
-    match image::right_side(image, i) {
+    match image.right_side(i) {
         RightSide::Put(n) => {
             if behind + size < settled + 1 + n {
                 return None;
             }
             let kept = held::take_off(bytes, words, first, settled, size);
-            let held = held::put_back(image, wide::word(starts[i]), n, bytes, rest);
+            let held = held::put_back(image, rules.start(i), n, bytes, rest);
             Some(Rewritten {
                 settled: kept,
                 waiting: held,

@@ -1,14 +1,15 @@
 -- The calls of a list one by one: what is so where the numbers before place k have been played.
 -- Assumes nothing.
-use Prim.Native.Nat.{ℕ, zero, suc, ◌+◌, ◌*◌, ◌≤◌, ◌<◌}
+use Prim.Native.Nat.{ℕ, ◌+◌, ◌*◌, ◌≤◌, ◌<◌}
 use mathlib.Core.Path.{◌≡◌, refl, sym, ap, subst, ◌∙◌}
-use mathlib.Core.Bool.{true}
+use mathlib.Core.Bool.{Bool, true, false}
 use Rattle.std.specs.Prelude.{Option, None, Some}
 use mathlib.Core.List.{List, ◌∷◌, ◌++◌}
 use native.Mathlib.Omega.{arith}
 use native.Mathlib.Nat.{mul-le-mul, add-mul}
+use lib.Dec.{ltb}
 use lib.ListN.{length, get_or, drop, length-append}
-use borrow.Author.Tests.{leb-true}
+use borrow.Author.Tests.{leb-true, ltb-true, ltb-false}
 use Rattle.rewriting.specs.Rules.{RuleSet}
 use Rattle.layout.specs.Image.{read}
 use Rattle.layout.specs.Refusals.{Check, refusal, refused_by}
@@ -24,6 +25,7 @@ use Rattle.machine.proofs.CallTheorem.{call_theorem}
 use Rattle.calls.specs.Encoding.{decoded_call, decoded_calls, pairs, encodes}
 use Rattle.calls.proofs.Numbers.{few, paired, CallAt, call_at, calls_end}
 use Rattle.calls.specs.Played as Played
+use Rattle.calls.specs.Played.{Within}
 
 -- the fuel of an accepted call
 fuel_taken : (set : RuleSet) (capacity : ℕ) (head : Head) (c : Call) → refusal (call_checks set capacity head c) ≡ None
@@ -54,14 +56,7 @@ call_steps capacity image table m c = go (refusal checks) refl
         in
         omega arith
 
--- the number of events does not depend on the fuel, and is 0 or 1
-pub events_number : (o : Option ℕ) (first fuel : ℕ)
-    → length (events_of o (decoded_call first fuel)) ≡ length (events_of o (decoded_call first 0))
-unfolding events_of decoded_call
-events_number (Some n) first fuel = refl
-events_number None zero fuel = refl
-events_number None (suc event) fuel = refl
-
+-- the number of events of a call is 0 or 1
 events_few : (o : Option ℕ) (c : Call) → length (events_of o c) ≤ 1
 unfolding events_of
 events_few (Some n) c = omega arith
@@ -110,44 +105,39 @@ playing_first capacity image table m numbers e =
       put = omega arith;
     }
 
--- the sums with those of one call more
-pub record Within (a e : ℕ) (c d : Counts) : Type 0 where
-  pub accepted : a + e ≤ 8589934591
-  pub steps : c.steps + d.steps ≤ 8589934591 * 65535
-  pub rewrites : c.rewrites + d.rewrites ≤ 8589934591 * 65535
-  pub put : c.put + d.put ≤ 8 * 8589934591 * 65535
-
 module _ {capacity : ℕ} {image table : List ℕ} {m : Monitor} {numbers : List ℕ} {n : Monitor} {a : ℕ} {c : Counts} {k : ℕ}
     (now : Playing capacity image table m numbers n a c k) where
-  -- All calls have been made.
-  pub playing_all : length numbers ≤ k
+  -- No pair is left: all calls have been made.
+  none-left : length numbers ≤ k + 1 → length numbers ≤ k
+  none-left h = go (ltb k (length numbers)) refl
+    where
+      go : (b : Bool) → ltb k (length numbers) ≡ b → length numbers ≤ k
+      go true p = absurd (omega (arith, h, (call_at numbers k (ltb-true _ _ p) now.left).inside))
+      go false p = ltb-false _ _ p
+
+  pub playing_all : length numbers ≤ k + 1
       → record { refused = None; monitor = n; accepted = a; counts = c }
       ≡ Played.logged (play capacity image table (no_calls m) (decoded_calls numbers))
   unfolding Played.logged play
-  playing_all h = rw (now.whole, calls_end numbers k h, now.monitor, now.events, now.counts)
+  playing_all h = rw (now.whole, calls_end numbers k (none-left h), now.monitor, now.events, now.counts)
 
   -- The next call is made.
   module _ (more : k < length numbers) where
     pub playing_call : CallAt numbers k
     playing_call = call_at numbers k more now.left
 
-    module _ {o : Outcome} (is : o ≡ call_of capacity image table n (decoded_call (get_or numbers k 0) (get_or numbers (k + 1) 0))) where
-      abbrev next : Call
-      next = decoded_call (get_or numbers k 0) (get_or numbers (k + 1) 0)
-
-      done : Ended (read image).rules capacity n next o
-      done = subst (λ (p : Outcome). Ended (read image).rules capacity n next p) (sym is) (call_theorem capacity image table n next)
+    module _ {call : Call} (reads : call ≡ decoded_call (get_or numbers k 0) (get_or numbers (k + 1) 0))
+        {o : Outcome} (is : o ≡ call_of capacity image table n call) where
+      done : Ended (read image).rules capacity n call o
+      done = subst (λ (p : Outcome). Ended (read image).rules capacity n call p) (sym is) (call_theorem capacity image table n call)
 
       few_steps : o.counts.steps ≤ 65535
-      few_steps = rw is (call_steps capacity image table n next)
+      few_steps = rw is (call_steps capacity image table n call)
 
-      abbrev added : ℕ
-      added = length (events_of (refused_by o.answer) (decoded_call (get_or numbers k 0) 0))
+      few_added : length (events_of (refused_by o.answer) call) ≤ 1
+      few_added = events_few (refused_by o.answer) call
 
-      few_added : added ≤ 1
-      few_added = events_few (refused_by o.answer) (decoded_call (get_or numbers k 0) 0)
-
-      pub playing_sums : Within a (length (events_of (refused_by o.answer) (decoded_call (get_or numbers k 0) 0))) c o.counts
+      pub playing_sums : Within a (length (events_of (refused_by o.answer) call)) c o.counts
       playing_sums =
           let product : k * 65535 ≤ 8589934590 * 65535 =
           mul-le-mul {n₂ = 8589934590} {m₂ = 65535} (omega (arith, now.within, now.short)) (omega arith)
@@ -160,24 +150,24 @@ module _ {capacity : ℕ} {image table : List ℕ} {m : Monitor} {numbers : List
           }
 
       pub playing_next : Playing capacity image table m numbers o.monitor
-          (a + length (events_of (refused_by o.answer) (decoded_call (get_or numbers k 0) 0))) (plus c o.counts) (k + 2)
+          (a + length (events_of (refused_by o.answer) call)) (plus c o.counts) (k + 2)
       unfolding logged plus
       playing_next =
           record {
             short = now.short;
             left = playing_call.rest;
             within = omega (arith, playing_call.inside);
-            log = logged now.log next o;
+            log = logged now.log call o;
             monitor = refl;
-            events = length-append now.log.events (events_of (refused_by o.answer) next)
-                ∙ rw (now.events, events_number (refused_by o.answer) (get_or numbers k 0) (get_or numbers (k + 1) 0));
+            events = length-append now.log.events (events_of (refused_by o.answer) call) ∙ rw now.events;
             counts = rw now.counts;
             whole =
                 now.whole
-                ∙ ap (λ (calls : List Call). play capacity image table now.log calls) playing_call.calls
-                ∙ play_call capacity image table now.log next (decoded_calls (drop (k + 2) numbers))
-                ∙ ap (λ (p : Outcome). play capacity image table (logged now.log next p) (decoded_calls (drop (k + 2) numbers)))
-                (ap (λ (p : Monitor). call_of capacity image table p next) now.monitor ∙ sym is);
+                ∙ ap (λ (calls : List Call). play capacity image table now.log calls)
+                (playing_call.calls ∙ ap (λ (x : Call). x ∷ decoded_calls (drop (k + 2) numbers)) (sym reads))
+                ∙ play_call capacity image table now.log call (decoded_calls (drop (k + 2) numbers))
+                ∙ ap (λ (p : Outcome). play capacity image table (logged now.log call p) (decoded_calls (drop (k + 2) numbers)))
+                (ap (λ (p : Monitor). call_of capacity image table p call) now.monitor ∙ sym is);
             accepted = omega (arith, now.accepted, few_added);
             steps = rw add-mul (omega (arith, now.steps, few_steps));
             rewrites = omega (arith, now.rewrites, done.rewrites);

@@ -1,5 +1,5 @@
 -- What play gives back, for everything that may be lent to it, and demand 3 of the code's own values.
-use Rattle.std.specs.Prelude.{ℕ, ◌≡◌, true, List, [], ◌∷◌, length, Option, None, Some}
+use Rattle.std.specs.Prelude.{ℕ, ◌+◌, ◌<◌, ◌≡◌, true, List, [], ◌∷◌, length, Option, None, Some}
 use Rattle.rewriting.specs.Lists.{prefix}
 use Rattle.layout.specs.Image.{read, valid}
 use Rattle.layout.specs.Refusals.{Check, refusal, refused_by, numbered}
@@ -74,3 +74,10 @@ pub record DemandThreeOf (capacity : ℕ) (image table bytes words : List ℕ) (
   -- And all else that is promised of the list and of each of its calls.
   pub promise : Promise (valid image) (prefix (table_of (read image)) table) capacity image table
       (fresh_of capacity bytes words).monitor calls
+
+-- the accepted events and the sums, with those of one call more, fit 64 bits
+pub record Within (a e : ℕ) (c d : Counts) : Type 0 where
+  pub accepted : a + e < 18446744073709551616
+  pub steps : c.steps + d.steps < 18446744073709551616
+  pub rewrites : c.rewrites + d.rewrites < 18446744073709551616
+  pub put : c.put + d.put < 18446744073709551616

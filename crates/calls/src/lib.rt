@@ -2,16 +2,16 @@
 // monitor. Two numbers a call: the first is 0 for a go-on and 1 + e for an offer of event e; the second is the fuel.
 #![tactic(auto)]
 
-ghost use Rattle.std.specs.Prelude.{◌≤◌, ◌≡◌, true, length, None, Err};
+ghost use Rattle.std.specs.Prelude.{◌+◌, ◌≡◌, true, length, None, Err};
 ghost use Rattle.machine.specs.State as State;
 ghost use Rattle.machine.specs.Areas.{document_capacity, head_of};
-ghost use Rattle.machine.specs.Run.{no_counts};
+ghost use Rattle.machine.specs.Run.{no_counts, plus};
 ghost use Rattle.machine.specs.Calls.{call_of};
 ghost use Rattle.machine.specs.Play.{events_of, no_calls, play};
 ghost use Rattle.monitor.specs.Lent.{head_out, lent, outcome_from};
 ghost use Rattle.layout.specs.Refusals.{refused_by, numbered};
-ghost use Rattle.calls.specs.Encoding.{decoded_call, encodes, decoded_calls};
-ghost use Rattle.calls.specs.Played.{logged, played_from, play_of, DemandThreeOf};
+ghost use Rattle.calls.specs.Encoding.{call_in, Decodes, encodes, decoded_calls};
+ghost use Rattle.calls.specs.Played.{logged, played_from, play_of, DemandThreeOf, Within};
 
 use layout::Refusal;
 use machine::{Answer, Counts};
@@ -27,82 +27,116 @@ pub struct Played {
     pub counts: Counts,
 }
 
-// A refusal of the list, beside the empty head.
-fn refused(refusal: Refusal) -> Played
-    ensures { result ≡ record { head = head_out (head_of State.empty); answer = Err refusal; accepted = 0; counts = no_counts } }
-{
-    Played {
-        head: Head {
-            settled: 0,
-            waiting: 0,
-            verdict: None,
-            rule: 0,
-        },
-        answer: Err(refusal),
-        accepted: 0,
-        counts: Counts {
-            steps: 0,
-            rewrites: 0,
-            put: 0,
-        },
+// A call, read once from its two numbers.
+#[derive(Clone, Copy)]
+enum Call {
+    Offer { event: u8, fuel: u32 },
+    GoOn { fuel: u32 },
+}
+
+impl TryFrom<[u32; 2]> for Call {
+    type Error = Refusal;
+
+    ghost try_from_gives = { Decodes };
+
+    fn try_from([first, fuel]: [u32; 2]) -> Result<Call, Refusal> {
+        match first {
+            0 => Ok(Call::GoOn { fuel }),
+            1..=256 => Ok(Call::Offer {
+                event: (first - 1) as u8,
+                fuel,
+            }),
+            _ => Err(Refusal::NoCalls),
+        }
     }
 }
 
-// Whether the numbers are a list of calls.
+impl Call {
+    // The monitor's operation that the call is.
+    fn made(
+        self,
+        head: Head,
+        image: &[u8],
+        table: &[u16],
+        bytes: &mut [u8],
+        words: &mut [u16],
+    ) -> Returned
+        ensures { outcome_from result bytes.new words.new
+            ≡ call_of document_capacity image.now table.now (lent head bytes.old words.old) (call_in self) }
+    {
+        match self {
+            Call::Offer { event, fuel } => head.offer(image, table, bytes, words, event, fuel),
+            Call::GoOn { fuel } => head.go_on(image, table, bytes, words, fuel),
+        }
+    }
+
+    // How many events the call with this answer adds to the accepted ones.
+    fn events(self, answer: Result<Answer, Refusal>) -> u64
+        ensures { result ≡ length (events_of (refused_by (numbered answer)) (call_in self)) }
+    {
+        match (self, answer) {
+            (Call::Offer { .. }, Ok(_)) => 1,
+            (Call::Offer { .. }, Err(_)) => 0,
+            (Call::GoOn { .. }, _) => 0,
+        }
+    }
+}
+
+// Whether the numbers are a list of calls, of at most 4,294,967,295, so that the sums fit 64 bits.
 fn is_list(numbers: &[u32]) -> bool
     ensures { result ≡ encodes numbers.now }
 {
-    let n = numbers.len();
-    if 8589934590 < n {
-        return false;
-    }
-    let mut k = 0;
-    while k < n {
-        if n - k < 2 {
-            return false;
+    let (pairs, alone) = numbers.as_chunks::<2>();
+    numbers.len() <= 8589934590
+        && alone.is_empty()
+        && pairs.iter().all(|&pair| Call::try_from(pair).is_ok())
+}
+
+impl Played {
+    // A refusal of the list, beside the empty head.
+    fn refused(refusal: Refusal) -> Played
+        ensures { result
+            ≡ record {
+              head = head_out (head_of State.empty);
+              answer = Err refusal;
+              accepted = 0;
+              counts = no_counts;
+            } }
+    {
+        Played {
+            head: Head::EMPTY,
+            answer: Err(refusal),
+            accepted: 0,
+            counts: Counts::NONE,
         }
-        if 256 < numbers[k] {
-            return false;
+    }
+
+    // One call more, and what it gave back.
+    fn with(self, call: Call, called: Returned) -> Played
+        requires { Within self.accepted (length (events_of (refused_by (numbered called.answer)) (call_in call)))
+            self.counts called.counts }
+        ensures { result
+            ≡ record {
+              head = called.head;
+              answer = self.answer;
+              accepted = self.accepted + length (events_of (refused_by (numbered called.answer)) (call_in call));
+              counts = plus self.counts called.counts;
+            } }
+    {
+        Played {
+            head: called.head,
+            answer: self.answer,
+            accepted: self.accepted + call.events(called.answer),
+            counts: Counts {
+                steps: self.counts.steps + called.counts.steps,
+                rewrites: self.counts.rewrites + called.counts.rewrites,
+                put: self.counts.put + called.counts.put,
+            },
         }
-        k += 2;
-    }
-    true
-}
-
-// One call.
-fn made(
-    head: Head,
-    image: &[u8],
-    table: &[u16],
-    bytes: &mut [u8],
-    words: &mut [u16],
-    first: u32,
-    fuel: u32,
-) -> Returned
-    requires { first ≤ 256 }
-    ensures { outcome_from result bytes.new words.new
-        ≡ call_of document_capacity image.now table.now (lent head bytes.old words.old) (decoded_call first fuel) }
-{
-    if first == 0 {
-        return head.go_on(image, table, bytes, words, fuel);
-    }
-    head.offer(image, table, bytes, words, (first - 1) as u8, fuel)
-}
-
-// How many events a call with this answer adds to the accepted ones.
-fn events_of(answer: Result<Answer, Refusal>, first: u32) -> u64
-    ensures { result ≡ length (events_of (refused_by (numbered answer)) (decoded_call first 0)) }
-{
-    if first == 0 {
-        return 0;
-    }
-    match answer {
-        Ok(_) => 1,
-        Err(_) => 0,
     }
 }
 
-// All calls, one after another.
+// All calls, one after another. That each pair is one has been asked.
 fn made_all(
     begun: Head,
     image: &[u8],
@@ -116,33 +150,21 @@ fn made_all(
         ≡ logged (play document_capacity image.now table.now (no_calls (lent begun bytes.old words.old))
         (decoded_calls numbers.now)) }
 {
-    let mut head = begun;
-    let mut accepted: u64 = 0;
-    let mut steps: u64 = 0;
-    let mut rewrites: u64 = 0;
-    let mut put: u64 = 0;
-    let mut k = 0;
-    while k < numbers.len() {
-        let first = numbers[k];
-        let called = made(head, image, table, bytes, words, first, numbers[k + 1]);
-        head = called.head;
-        let answer = called.answer;
-        accepted += events_of(answer, first);
-        steps += called.counts.steps;
-        rewrites += called.counts.rewrites;
-        put += called.counts.put;
-        k += 2;
-    }
-    Played {
-        head: head,
+    let (pairs, _) = numbers.as_chunks::<2>();
+    let mut played = Played {
+        head: begun,
         answer: Ok(()),
-        accepted: accepted,
-        counts: Counts {
-            steps: steps,
-            rewrites: rewrites,
-            put: put,
-        },
+        accepted: 0,
+        counts: Counts::NONE,
+    };
+    for &pair in pairs {
+        let Ok(call) = Call::try_from(pair) else {
+            unreachable!()
+        };
+        let called = call.made(played.head, image, table, bytes, words);
+        played = played.with(call, called);
     }
+    played
 }
 
 // The calls that the numbers are, from a fresh monitor. Refused are, in order: 30, the numbers are no list of calls; 10.
@@ -161,11 +183,11 @@ pub fn play(
         result bytes.new words.new }
 {
     if !is_list(numbers) {
-        return refused(Refusal::NoCalls);
+        return Played::refused(Refusal::NoCalls);
     }
     let begun = monitor::fresh(bytes, words);
     match begun.answer {
-        Err(refusal) => refused(refusal),
+        Err(refusal) => Played::refused(refusal),
         Ok(()) => made_all(begun.head, image, table, bytes, words, numbers),
     }
 }

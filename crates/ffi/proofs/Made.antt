@@ -1,29 +1,22 @@
 -- Heads and answers as words: the words of a head that a call or a batch gives back fit, and what the functions of the
 -- interface return and leave is what their definitions say.
 -- Assumes nothing.
-use Prim.Native.Nat.{ℕ, zero, suc, ◌-◌, ◌≤◌, ◌<◌}
+use Prim.Native.Nat.{ℕ, ◌≤◌, ◌<◌}
 use mathlib.Core.Path.{◌≡◌, refl, ap, ◌∙◌}
-use Rattle.std.specs.Prelude.{Option, None, Some}
+use Rattle.std.specs.Prelude.{Option, None, Some, Result, Ok, Err}
+use Rattle.std.specs.Result.{result_err}
 use mathlib.Core.List.{List, [], ◌∷◌}
 use native.Mathlib.Omega.{arith}
-use Rattle.layout.specs.Refusals.{refusal, refusal_number, refused_by}
+use Rattle.layout.specs.declared.Refusal.{Refusal}
+use Rattle.layout.specs.Refusals.{refusal, refusal_number, refused_by, numbered}
 use Rattle.machine.specs.State.{empty, active}
 use Rattle.machine.specs.Areas.{Monitor, head_of}
 use Rattle.machine.specs.Calls.{Call, Fresh, Outcome, fresh_of, freshened, sized, call_of, answer_number}
 use Rattle.machine.specs.Batch.{Batched, batch_of}
 use Rattle.machine.proofs.AnswerNumbers.{answer_number-below, accepted_verdict, batch_verdict}
-use Rattle.ffi.specs.Heads.{standing_from, standing_word, head_words, head_after, fresh_made, call_words, call_made, batch_made}
-
--- the verdict that a word is
-pub standing_none : (w : ℕ) → w ≡ 0 → None ≡ standing_from w
-unfolding standing_from
-standing_none zero e = refl
-standing_none (suc v) e = absurd (omega (arith, e))
-
-pub standing_verdict : (w : ℕ) → (w ≡ 0 → ⊥) → Some (w - 1) ≡ standing_from w
-unfolding standing_from
-standing_verdict zero h = absurd (h refl)
-standing_verdict (suc v) h = let e : suc v - 1 ≡ v = omega arith in rw e
+use Rattle.monitor.specs.Lent.{stop_number}
+use Rattle.ffi.specs.Numbers.{refused_number}
+use Rattle.ffi.specs.Heads.{standing_word, head_words, head_after, fresh_made, call_words, call_made, batch_made}
 
 -- a verdict below 16 as a word
 word_below : (s : Option ℕ) → ((v : ℕ) → s ≡ Some v → v < 16) → standing_word s ≤ 16
@@ -95,3 +88,9 @@ batch_made_lem w {b = b} e r head x y =
       out = b.stop ∷ b.accepted ∷ b.counts.steps ∷ b.counts.rewrites ∷ b.counts.put ∷ [];
     })
     ∙ ap (batch_made w) e
+
+-- the number of an answer's refusal
+pub err_number : {A : Type 0} (r : Result A Refusal) → stop_number (result_err r) ≡ refused_number (numbered r)
+unfolding refused_number refused_by refusal_number
+err_number (Ok a) = refl
+err_number (Err e) = refl

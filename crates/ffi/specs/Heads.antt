@@ -26,7 +26,7 @@ unfoldable pub head_words : Areas.Head → List ℕ
 head_words h = h.settled ∷ h.waiting ∷ standing_word h.verdict ∷ h.rule ∷ []
 
 -- the head's words behind a call: as they were beside a refusal, else those of the new head
-unfoldable pub head_after : Option ℕ → List ℕ → Areas.Head → List ℕ
+abbrev pub head_after : Option ℕ → List ℕ → Areas.Head → List ℕ
 head_after (Some n) w h = w
 head_after None w h = head_words h
 

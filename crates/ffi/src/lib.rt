@@ -48,10 +48,7 @@ pub extern "C" fn watcher_read_rules(
 pub extern "C" fn watcher_symbol(names: &[u8], name: &[u8]) -> u32
     ensures { result ≡ number_or 32 (symbol_named names.now name.now) }
 {
-    match tokens::symbol(names, name) {
-        Some(i) => i as u32,
-        None => 32,
-    }
+    tokens::symbol(names, name).map_or(32, |i| i as u32)
 }
 
 // compile: 0, or the refusal's number; in `out` the number of words written, 0 beside a refusal.
@@ -78,104 +75,78 @@ pub extern "C" fn watcher_compile(image: &[u8], table: &mut [u16], out: &mut [u6
 pub extern "C" fn watcher_check_table(image: &[u8], table: &[u16]) -> u32
     ensures { result ≡ refused_number (check_of image.now table.now) }
 {
-    refusal_of(table::check(image, table))
+    refusal_of(table::check(image, table).err())
 }
 
 // A refusal's number, and 0 where there is none.
-fn refusal_of<A: Copy>(answer: Result<A, Refusal>) -> u32
-    ensures { result ≡ refused_number (numbered answer) }
+#[tactic(auto, unfolding(layout::specs::Refusals::refusal_number))]
+fn refusal_of(refusal: Option<Refusal>) -> u32
+    ensures { result ≡ stop_number refusal }
 {
-    match answer {
-        Ok(_) => 0,
-        Err(refusal) => refusal.number(),
-    }
+    refusal.map_or(0, |refusal| refusal.number())
 }
 
-// The head that four words are.
+// The head that four words are, and the four words that a head is. Both types are other crates', so these are no `From`.
+#[tactic(auto, unfolding(crate::specs::Heads::head_from, crate::specs::Heads::standing_from))]
 fn head_from(words: &[u64; 4]) -> Head
     ensures { result ≡ head_from words.now }
 {
-    let settled = words[0] as usize;
-    let waiting = words[1] as usize;
-    let rule = words[3] as usize;
-    if words[2] == 0 {
-        return Head {
-            settled: settled,
-            waiting: waiting,
-            verdict: None,
-            rule: rule,
-        };
-    }
+    let [settled, waiting, verdict, rule] = *words;
     Head {
-        settled: settled,
-        waiting: waiting,
-        verdict: Some(words[2] - 1),
-        rule: rule,
+        settled: settled as usize,
+        waiting: waiting as usize,
+        verdict: verdict.checked_sub(1),
+        rule: rule as usize,
     }
 }
 
-// A verdict as a word.
-fn standing_word(verdict: Option<u64>) -> u64
-    requires { standing_word verdict ≤ 16 }
-    ensures { result ≡ standing_word verdict }
-{
-    match verdict {
-        None => 0,
-        Some(v) => v + 1,
-    }
-}
-
-// Writes a head as four words.
-fn set_head(words: &mut [u64; 4], head: Head)
+#[tactic(auto, unfolding(crate::specs::Heads::head_words, crate::specs::Heads::standing_word))]
+fn head_words(head: Head) -> [u64; 4]
     requires { standing_word head.verdict ≤ 16 }
-    ensures { words.new ≡ head_words (head_in head) }
+    ensures { result ≡ head_words (head_in head) }
 {
-    let verdict = head.verdict;
-    let word = standing_word(verdict);
-    *words = [
+    [
         head.settled as u64,
         head.waiting as u64,
-        word,
+        head.verdict.map_or(0, |v| v + 1),
         head.rule as u64,
-    ];
+    ]
 }
 
-// The answer of a call that was not refused as a word.
-fn code_of(answer: Answer) -> u64
-    requires { answer_number (Ok answer) < 256 }
-    ensures { result ≡ answer_number (Ok answer) }
-{
-    match answer {
-        Answer::Quiet => 0,
-        Answer::Spent => 1,
-        Answer::Full => 2,
-        Answer::Verdict(v) => 16 + v,
-    }
-}
-
-// An answer as a word, 0 beside a refusal.
+// An answer as a word, 0 beside a refusal. Answers are numbers here, and heads are words, since the interface is C's.
+#[tactic(auto, unfolding(machine::specs::Calls::answer_number))]
 fn answer_word(answer: Result<Answer, Refusal>) -> u64
     requires { answer_number (numbered answer) < 256 }
     ensures { result ≡ answer_number (numbered answer) }
 {
     match answer {
-        Ok(accepted) => code_of(accepted),
+        Ok(Answer::Quiet) => 0,
+        Ok(Answer::Spent) => 1,
+        Ok(Answer::Full) => 2,
+        Ok(Answer::Verdict(v)) => 16 + v,
         Err(_) => 0,
     }
 }
 
-// What stopped a batch, as a word: 0 where nothing did.
-fn stop_word(stop: Option<Refusal>) -> u64
-    ensures { result ≡ stop_number stop }
+// What an answer leaves behind: the new head, unless it is a refusal; the refusal's number or 0.
+#[tactic(auto, unfolding(layout::specs::Refusals::refused_by, layout::specs::Refusals::refusal_number))]
+fn told<A: Copy>(answer: Result<A, Refusal>, new: Head, head: &mut [u64; 4]) -> u32
+    requires { refused_by (numbered answer) ≡ None → standing_word new.verdict ≤ 16 }
+    ensures refusal { result ≡ refusal_number (refused_by (numbered answer)) }
+    ensures head { head.new ≡ head_after (refused_by (numbered answer)) head.old (head_in new) }
 {
-    match stop {
-        None => 0,
-        Some(refusal) => refusal.number() as u64,
+    match answer {
+        Err(refusal) => refusal.number(),
+        Ok(_) => {
+            *head = head_words(new);
+            0
+        }
     }
 }
 
-// What a call gave back: the new head, unless the call is refused; the answer and the counts; the refusal's number or 0.
-fn told(called: Returned, head: &mut [u64; 4], out: &mut [u64; 4]) -> u32
+// What a call gave back: beside its head and refusal, the answer and the counts.
+#[tactic(auto, unfolding(crate::specs::Heads::call_words))]
+fn call_told(called: Returned, head: &mut [u64; 4], out: &mut [u64; 4]) -> u32
     requires answer { answer_number (numbered called.answer) < 256 }
     requires verdict { refused_by (numbered called.answer) ≡ None → standing_word called.head.verdict ≤ 16 }
     ensures refusal { result ≡ refusal_number (refused_by (numbered called.answer)) }
@@ -188,13 +159,7 @@ fn told(called: Returned, head: &mut [u64; 4], out: &mut [u64; 4]) -> u32
         called.counts.rewrites,
         called.counts.put,
     ];
-    match called.answer {
-        Err(refused) => refused.number(),
-        Ok(_) => {
-            set_head(head, called.head);
-            0
-        }
-    }
+    told(called.answer, called.head, head)
 }
 
 // fresh: 0 or 10. The head is the empty one beside both.
@@ -204,8 +169,8 @@ pub extern "C" fn watcher_fresh(head: &mut [u64; 4], bytes: &mut [u8], words: &m
         ≡ fresh_made (fresh_of document_capacity bytes.old words.old) }
 {
     let begun = monitor::fresh(bytes, words);
-    set_head(head, begun.head);
-    refusal_of(begun.answer)
+    *head = head_words(begun.head);
+    refusal_of(begun.answer.err())
 }
 
 // offer: 0 or the refusal's number; in `out` the answer and the counts.
@@ -225,7 +190,7 @@ pub extern "C" fn watcher_offer(
         (lent (head_from head.old) bytes.old words.old) event fuel) }
 {
     let called = head_from(head).offer(image, table, bytes, words, event, fuel);
-    told(called, head, out)
+    call_told(called, head, out)
 }
 
 // go on: as offer, without an event.
@@ -244,7 +209,7 @@ pub extern "C" fn watcher_go_on(
         (lent (head_from head.old) bytes.old words.old) fuel) }
 {
     let called = head_from(head).go_on(image, table, bytes, words, fuel);
-    told(called, head, out)
+    call_told(called, head, out)
 }
 
 // batch: 0 or the refusal's number; in `out` the stop, the number of accepted events and the summed counts.
@@ -273,15 +238,11 @@ pub extern "C" fn watcher_batch(
 {
     let batched = head_from(head).batch(image, table, bytes, words, events, fuel, answers);
     *out = [
-        stop_word(batched.stop),
+        u64::from(refusal_of(batched.stop)),
         batched.accepted as u64,
         batched.counts.steps,
         batched.counts.rewrites,
         batched.counts.put,
     ];
-    if let Err(refusal) = batched.answer {
-        return refusal.number();
-    }
-    set_head(head, batched.head);
-    0
+    told(batched.answer, batched.head, head)
 }

@@ -1,5 +1,5 @@
-// What stands where in a rule image that `validity` has passed. Each look asks its callers for that: the check costs more than a
-// look, and is made once.
+// A rule image that has passed the check, and what stands where in it. The check costs more than a look, and is made once
+// (`validity`): that it has passed is in the type.
 #![tactic(auto)]
 
 ghost use Rattle.std.specs.Prelude.{◌<◌, ◌≡◌, true, length};
@@ -7,84 +7,95 @@ ghost use mathlib.Core.List.{flat_map};
 ghost use Rattle.rewriting.specs.Rules.{rule};
 ghost use Rattle.layout.specs.Image.{mark_byte, body, read, valid};
 ghost use Rattle.layout.specs.Places.{right_side_of};
+ghost use Rattle.layout.specs.Words as Words;
 
 use layout::RightSide;
 
-pub mod wide;
-
-// S, the number of symbols.
-pub fn symbols(image: &[u8]) -> usize
-    requires { valid image.now ≡ true }
-    ensures { result ≡ (read image.now).symbols }
-{
-    wide::byte(image[0])
+// Bytes that are a rule image.
+#[derive(Clone, Copy)]
+pub struct Image<'a> {
+    pub bytes: &'a [u8],
+    ghost valid: { valid bytes.now ≡ true },
 }
 
-// R, the number of rules.
-pub fn rules(image: &[u8]) -> usize
-    requires { valid image.now ≡ true }
-    ensures { result ≡ length (read image.now).rules }
-{
-    wide::byte(image[1])
+// A rule image, and the number of the empty string's state.
+#[derive(Clone, Copy)]
+pub struct Rooted<'a> {
+    pub image: Image<'a>,
+    pub root: usize,
+    ghost rooted: { root ≡ Words.root (read image.bytes.now).rules },
 }
 
-// E, the number of events.
-pub fn events(image: &[u8]) -> usize
-    requires { valid image.now ≡ true }
-    ensures { result ≡ (read image.now).events }
-{
-    wide::byte(image[3])
-}
+#[tactic(auto, using(crate::proofs::Places::places))]
+impl Image<'_> {
+    ghost use Rattle.image.specs.Sets.{set_of};
 
-// The number of symbols of rule i's left side.
-pub fn left_length(image: &[u8], i: usize) -> usize
-    requires image_value { valid image.now ≡ true }
-    requires i_in_bounds { i < length (read image.now).rules }
-    ensures { result ≡ length (rule (read image.now).rules i).left }
-{
-    wide::byte(image[4 + 4 * i])
-}
-
-// The mark of rule i: 1, or 0 where it has none.
-pub fn mark(image: &[u8], i: usize) -> usize
-    requires image_value { valid image.now ≡ true }
-    requires i_in_bounds { i < length (read image.now).rules }
-    ensures { result ≡ mark_byte (rule (read image.now).rules i).marked }
-{
-    wide::byte(image[7 + 4 * i])
-}
-
-// The right side of rule i.
-pub fn right_side(image: &[u8], i: usize) -> RightSide
-    requires image_value { valid image.now ≡ true }
-    requires i_in_bounds { i < length (read image.now).rules }
-    ensures { result ≡ right_side_of (rule (read image.now).rules i).right }
-{
-    let n = image[6 + 4 * i];
-    if image[5 + 4 * i] == 1 {
-        RightSide::Close(n as u64)
-    } else {
-        RightSide::Put(wide::byte(n))
+    // S, the number of symbols.
+    pub fn symbols(self) -> usize
+        ensures { result ≡ (set_of self.entry).symbols }
+    {
+        usize::from(self.bytes[0])
     }
-}
 
-// The number of symbols of rule i's body: its left symbols and, where its right side is a string, its right symbols.
-pub fn body_length(image: &[u8], i: usize) -> usize
-    requires image_value { valid image.now ≡ true }
-    requires i_in_bounds { i < length (read image.now).rules }
-    ensures { result ≡ length (body (rule (read image.now).rules i)) }
-{
-    let left = left_length(image, i);
-    match right_side(image, i) {
-        RightSide::Put(n) => left + n,
-        RightSide::Close(_) => left,
+    // R, the number of rules.
+    pub fn rules(self) -> usize
+        ensures { result ≡ length (set_of self.entry).rules }
+    {
+        usize::from(self.bytes[1])
     }
-}
 
-// How many symbols all bodies have.
-pub fn bodies_length(image: &[u8]) -> usize
-    requires { valid image.now ≡ true }
-    ensures { result ≡ length (flat_map body (read image.now).rules) }
-{
-    image.len() - (4 + 4 * rules(image))
+    // E, the number of events.
+    pub fn events(self) -> usize
+        ensures { result ≡ (set_of self.entry).events }
+    {
+        usize::from(self.bytes[3])
+    }
+
+    // The number of symbols of rule i's left side.
+    pub fn left_length(self, i: usize) -> usize
+        requires { i < length (set_of self).rules }
+        ensures { result ≡ length (rule (set_of self.entry).rules i).left }
+    {
+        usize::from(self.bytes[4 + 4 * i])
+    }
+
+    // The mark of rule i: 1, or 0 where it has none.
+    pub fn mark(self, i: usize) -> usize
+        requires { i < length (set_of self).rules }
+        ensures { result ≡ mark_byte (rule (set_of self.entry).rules i).marked }
+    {
+        usize::from(self.bytes[7 + 4 * i])
+    }
+
+    // The right side of rule i.
+    pub fn right_side(self, i: usize) -> RightSide
+        requires { i < length (set_of self).rules }
+        ensures { result ≡ right_side_of (rule (set_of self.entry).rules i).right }
+    {
+        let n = self.bytes[6 + 4 * i];
+        if self.bytes[5 + 4 * i] == 1 {
+            RightSide::Close(u64::from(n))
+        } else {
+            RightSide::Put(usize::from(n))
+        }
+    }
+
+    // The number of symbols of rule i's body: its left symbols and, where its right side is a string, its right symbols.
+    pub fn body_length(self, i: usize) -> usize
+        requires { i < length (set_of self).rules }
+        ensures { result ≡ length (body (rule (set_of self.entry).rules i)) }
+    {
+        let left = self.left_length(i);
+        match self.right_side(i) {
+            RightSide::Put(n) => left + n,
+            RightSide::Close(_) => left,
+        }
+    }
+
+    // How many symbols all bodies have.
+    pub fn bodies_length(self) -> usize
+        ensures { result ≡ length (flat_map body (set_of self.entry).rules) }
+    {
+        self.bytes.len() - (4 + 4 * self.rules())
+    }
 }

@@ -1,6 +1,6 @@
 -- The code's checks together are `valid`: an image is valid exactly when its header is in range, its contents are within
--- it and in range, they announce as many symbols as follow them, and these are all below S. The pass over the contents
--- also finds the mark, and so the number that the code's check answers, `validity`.
+-- it and in range, they announce as many symbols as follow them, and these are all below S. The rules have a mark where the contents
+-- have one.
 -- Assumes nothing.
 use Prim.Native.Nat.{ℕ, zero, suc, ◌+◌, ◌*◌, ◌-◌, ◌≤◌, ◌<◌}
 use mathlib.Core.Path.{◌≡◌, refl, sym, ap, ◌∙◌}
@@ -11,7 +11,7 @@ use native.Mathlib.Numerals.{add-one}
 use native.Mathlib.Omega.{arith}
 use lib.Dec.{eqb, leb, ltb}
 use lib.ListN.{length, get_or, take, drop, length-append, length-drop, take-append-drop}
-use lib.Seq.{take_all, take-add, take-suc, drop-drop, get_or-drop, length-take-le}
+use lib.Seq.{take_all, take-add, take-suc, drop-drop, length-take-le}
 use borrow.Author.Tests.{eqb-true, leb-true, ltb-true, lt-ltb, le-ltb, le-leb, lt-leb, eq-eqb, ne_eqb}
 use Rattle.rewriting.specs.Lists.{all, below, between}
 use Rattle.rewriting.specs.Rules.{Right, Put, Close, symbols_of, Rule, RuleSet, right_in_range, rule_in_range, in_range}
@@ -40,9 +40,8 @@ use Rattle.layout.specs.Image.{
   read,
   valid,
 }
-use Rattle.layout.specs.ImageCheck.{Decides, Header, body_size, first_size, announces, announced, marks_in, mark_found, found_in}
+use Rattle.layout.specs.ImageCheck.{Decides, Header, body_size, first_size, announces, announced, marks_in}
 use Rattle.layout.specs.States.{has_mark}
-use Rattle.layout.specs.Words.{root, validity}
 use Rattle.layout.proofs.Image.{
   mark_small,
   mark_back,
@@ -128,83 +127,6 @@ module _ (v n : ℕ) (c : List ℕ) (m : ℕ) where
 pub announces_end : (v : ℕ) (c : List ℕ) (m : ℕ) → announces v 0 c m ≡ eqb m 0
 unfolding announces
 announces_end v c m = refl
-
--- A turn of the loop over the contents: rule i of n, in the bytes b, with m symbols left.
-module _ (v n : ℕ) (b : List ℕ) (m i : ℕ) (more : i < n) where
-  turns : n - i ≡ suc (n - (i + 1))
-  turns = omega arith
-
-  pub turn_out : first_size v (drop (4 + 4 * i) b) < 1 → announces v (n - i) (drop (4 + 4 * i) b) m ≡ false
-  turn_out h = rw turns (announces_out v (n - (i + 1)) (drop (4 + 4 * i) b) m h)
-
-  pub turn_more : m < first_size v (drop (4 + 4 * i) b) → announces v (n - i) (drop (4 + 4 * i) b) m ≡ false
-  turn_more h = rw turns (announces_more v (n - (i + 1)) (drop (4 + 4 * i) b) m h)
-
-  pub turn_on :
-      1 ≤ first_size v (drop (4 + 4 * i) b) → first_size v (drop (4 + 4 * i) b) ≤ m
-      → announces v (n - (i + 1)) (drop (4 + 4 * (i + 1)) b) (m - first_size v (drop (4 + 4 * i) b))
-      ≡ announces v (n - i) (drop (4 + 4 * i) b) m
-  turn_on some fits =
-      let behind : 4 + 4 * (i + 1) ≡ 4 + 4 * i + 4 = omega arith in
-      let next : drop (4 + 4 * (i + 1)) b ≡ drop 4 (drop (4 + 4 * i) b) = rw behind (sym (drop-drop 4 (4 + 4 * i) b)) in
-      rw (turns, next) (sym (announces_on v (n - (i + 1)) (drop (4 + 4 * i) b) m some fits))
-
--- One rule of the contents more, from the end: it has the mark, or it does not.
-marks-next :
-    (i : ℕ) (c : List ℕ) → marks_in (suc i) c ≡ (marks_in i c || eqb (get_or c (3 + 4 * i) 0) 1)
-unfolding marks_in
-marks-next zero c = go (eqb (get_or c 3 0) 1)
-  where
-    go : (t : Bool) → (t || false) ≡ t
-    go true = refl
-    go false = refl
-marks-next (suc i) c =
-    let behind : 3 + 4 * suc i ≡ 4 + (3 + 4 * i) = omega arith in
-    let there : get_or (drop 4 c) (3 + 4 * i) 0 ≡ get_or c (3 + 4 * suc i) 0 = rw (get_or-drop 4 c (3 + 4 * i), behind) in
-    go (eqb (get_or c 3 0) 1) (rw there at (marks-next i (drop 4 c)))
-  where
-    go :
-        (t : Bool)
-        → marks_in (suc i) (drop 4 c) ≡ (marks_in i (drop 4 c) || eqb (get_or c (3 + 4 * suc i) 0) 1)
-        → (t || marks_in (suc i) (drop 4 c)) ≡ ((t || marks_in i (drop 4 c)) || eqb (get_or c (3 + 4 * suc i) 0) 1)
-    go true e = refl
-    go false e = e
-
--- What the loop has found before any rule, and after rule i of the bytes b.
-pub found_first : (c : List ℕ) → 1 ≡ mark_found 0 c
-unfolding marks_in
-found_first c = refl
-
-module _ (b : List ℕ) (i : ℕ) where
-  marks_turn : marks_in (i + 1) (drop 4 b) ≡ (marks_in i (drop 4 b) || eqb (get_or b (7 + 4 * i) 0) 1)
-  marks_turn =
-      let behind : 4 + (3 + 4 * i) ≡ 7 + 4 * i = omega arith in
-      let there : get_or (drop 4 b) (3 + 4 * i) 0 ≡ get_or b (7 + 4 * i) 0 = rw (get_or-drop 4 b (3 + 4 * i), behind) in
-      rw add-one (rw there at (marks-next i (drop 4 b)))
-
-  pub found_mark : get_or b (7 + 4 * i) 0 ≡ 1 → 2 ≡ mark_found (i + 1) (drop 4 b)
-  found_mark e = rw (marks_turn, eq-eqb (get_or b (7 + 4 * i) 0) 1 e) (go (marks_in i (drop 4 b)))
-    where
-      go : (t : Bool) → ◌≡◌ {A = ℕ} 2 (cond (t || true) 2 1)
-      go true = refl
-      go false = refl
-
-  pub found_same :
-      (get_or b (7 + 4 * i) 0 ≡ 1 → ⊥) → mark_found i (drop 4 b) ≡ mark_found (i + 1) (drop 4 b)
-  found_same e = rw (marks_turn, ne_eqb (get_or b (7 + 4 * i) 0) 1 e) (go (marks_in i (drop 4 b)))
-    where
-      go : (t : Bool) → ◌≡◌ {A = ℕ} (cond t 2 1) (cond (t || false) 2 1)
-      go true = refl
-      go false = refl
-
--- the contents of a rule that begin at a place
-pub size_at :
-    (v : ℕ) (b : List ℕ) (i : ℕ)
-    → body_size v (get_or b i 0) (get_or b (i + 1) 0) (get_or b (i + 2) 0) (get_or b (i + 3) 0) ≡ first_size v (drop i b)
-unfolding first_size
-size_at v b i =
-    let here : i + 0 ≡ i = omega arith in
-    rw (get_or-drop i b 0, get_or-drop i b 1, get_or-drop i b 2, get_or-drop i b 3, here)
 
 no_right : (t : Bool) → (t && false) ≡ false
 no_right true = refl
@@ -581,73 +503,8 @@ checked b n e h room told =
     (checked_valid b h (omega arith) (rw e at told)) (valid_symbols b))
 
 -- The rules that are read have a mark where the contents have one.
-marks-read : (n : ℕ) (c b : List ℕ) → has_mark (read_rules n c b) ≡ marks_in n c
+pub marks-read : (n : ℕ) (c b : List ℕ) → has_mark (read_rules n c b) ≡ marks_in n c
 unfolding has_mark read_rules read_rule marks_in
 marks-read zero c b = refl
 marks-read (suc n) c b =
     ap (λ (t : Bool). eqb (get_or c 3 0) 1 || t) (marks-read n (drop 4 c) (drop (length (body (read_rule c b))) b))
-
--- The number that the code's check answers.
-module _ (b : List ℕ) where
-  pub validity-none : false ≡ valid b → 0 ≡ validity b
-  unfolding validity
-  validity-none e = rw (← e)
-
-  validity-some : valid b ≡ true → validity b ≡ suc (root (read b).rules)
-  unfolding validity
-  validity-some e = rw e
-
-  -- with n rules, as many as the image says: what the pass over the contents finds, where the bytes are an image
-  pub found_validity : (n : ℕ) → n ≡ get_or b 1 0 → valid b ≡ true → found_in b n ≡ validity b
-  unfolding read root
-  found_validity n e v =
-      let marks = marks-read (get_or b 1 0) (drop 4 b) (drop (4 + 4 * get_or b 1 0) b) in
-      rw (e, valid-announces b v, validity-some v, marks) (go (marks_in (get_or b 1 0) (drop 4 b)))
-    where
-      go : (t : Bool) → ◌≡◌ {A = ℕ} (cond t 2 1) (suc (cond t 1 0))
-      go true = refl
-      go false = refl
-
--- What the pass over the contents finds: 0 where they do not announce what follows them, and only there.
-module _ (b : List ℕ) (n : ℕ) where
-  pub found_not : announced b n ≡ false → 0 ≡ found_in b n
-  found_not e = rw e
-
-  pub found_all : announced b n ≡ true → mark_found n (drop 4 b) ≡ found_in b n
-  found_all e = rw e
-
-  pub found_some : 0 < found_in b n → announced b n ≡ true
-  found_some h = go (announced b n) h
-    where
-      go : (t : Bool) → 0 < cond t (mark_found n (drop 4 b)) 0 → t ≡ true
-      go true h = refl
-      go false h = absurd (omega arith)
-
-  pub found_none : found_in b n ≤ 0 → announced b n ≡ false
-  found_none h = go (announced b n) (marks_in n (drop 4 b)) h
-    where
-      go : (t m : Bool) → cond t (cond m 2 1) 0 ≤ 0 → t ≡ false
-      go true true h = absurd (omega arith)
-      go true false h = absurd (omega arith)
-      go false m h = refl
-
--- What a number r says that is an image's validity, and the root's number k below it.
-module _ (b : List ℕ) (r : ℕ) (e : r ≡ validity b) where
-  pub validity_refused : r ≤ 0 → valid b ≡ false
-  unfolding validity
-  validity_refused h = go (valid b) (omega arith)
-    where
-      go : (t : Bool) → cond t (suc (root (read b).rules)) 0 ≤ 0 → t ≡ false
-      go true h = absurd (omega arith)
-      go false h = refl
-
-  pub validity-valid : 0 < r → valid b ≡ true
-  unfolding validity
-  validity-valid h = go (valid b) (omega arith)
-    where
-      go : (t : Bool) → 0 < cond t (suc (root (read b).rules)) 0 → t ≡ true
-      go true h = refl
-      go false h = absurd (omega arith)
-
-  pub validity-root : 0 < r → (k : ℕ) → k ≡ r - 1 → k ≡ root (read b).rules
-  validity-root h k below = omega (arith, validity-some b (validity-valid h))

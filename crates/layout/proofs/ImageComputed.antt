@@ -5,7 +5,6 @@ use mathlib.Core.Path.{◌≡◌, refl}
 use mathlib.Core.Bool.{true, false}
 use mathlib.Core.List.{[], ◌∷◌, ◌++◌, flat_map}
 use Rattle.std.specs.Prelude.{Some}
-use Rattle.std.specs.Option.{option_or}
 use lib.ListN.{length, take, set, replicate}
 use Rattle.rewriting.specs.Rules.{Put, ◌⇒◌, symbols_of, RuleSet, right_in_range, rule_in_range, in_range}
 use Rattle.rewriting.specs.Sample.{sample}

@@ -3,7 +3,6 @@
 use Prim.Native.Nat.{ℕ}
 use mathlib.Core.Path.{◌≡◌, refl}
 use Rattle.std.specs.Prelude.{Some, Ok, Err}
-use Rattle.std.specs.Option.{option_or}
 use mathlib.Core.List.{List, [], ◌∷◌, ◌++◌, flat_map}
 use lib.ListN.{length, replicate}
 use Rattle.rewriting.specs.Lists.{over}

@@ -1,6 +1,6 @@
 -- What the code checks of an image: the header, then the contents, which announce how many symbols follow them.
 -- The contracts of the code's parts cite these; that together with the symbols' range they are `valid` is proved
--- (`checked`, proofs/ImageCheck.antt). The pass over the contents also looks for the mark (`found_validity`, there).
+-- (`checked`, proofs/ImageCheck.antt). The pass over the contents also looks for the mark (`marks-read`, there).
 use Rattle.std.specs.Prelude.{ℕ, zero, suc, ◌+◌, ◌*◌, ◌-◌, ◌≤◌, Bool, true, false, cond, ◌&&◌, ◌||◌, List, eqb, leb, ltb, length, get_or, drop}
 use Rattle.rewriting.specs.Lists.{between}
 
@@ -43,11 +43,3 @@ announced b n = announces (get_or b 2 0) n (drop 4 b) (length b - (4 + 4 * n))
 unfoldable pub marks_in : ℕ → List ℕ → Bool
 marks_in zero c = false
 marks_in (suc n) c = eqb (get_or c 3 0) 1 || marks_in n (drop 4 c)
-
--- that as a number: 1 without a mark, and 2 with one
-abbrev pub mark_found : ℕ → List ℕ → ℕ
-mark_found n c = cond (marks_in n c) 2 1
-
--- what the pass over the contents of the n rules of the image b finds: 0 where `announced` is not so, else 1, and 2 with a mark
-abbrev pub found_in : List ℕ → ℕ → ℕ
-found_in b n = cond (announced b n) (mark_found n (drop 4 b)) 0

@@ -1,17 +1,12 @@
 -- States by their numbers, and the words of rows and match words, as the code meets them.
-use Rattle.std.specs.Prelude.{ℕ, suc, ◌+◌, ◌*◌, ◌≤◌, ◌<◌, cond, List, [], eqb, length, get_or, drop, Option}
+use Rattle.std.specs.Prelude.{ℕ, ◌+◌, ◌*◌, ◌≤◌, ◌<◌, cond, List, [], eqb, length, get_or, drop, Option}
 use Rattle.rewriting.specs.Rules.{Rule, rule}
 use Rattle.rewriting.specs.Occurrences.{lowest}
-use Rattle.layout.specs.Image.{read, valid}
 use Rattle.layout.specs.States.{state, starts, symbols_in, has_mark, states}
 
 -- the number of the empty string, the root of the trie: "state 1 the empty string", or "State 0"
 unfoldable pub root : List Rule → ℕ
 root rules = cond (has_mark rules) 1 0
-
--- 0 where the bytes b are no image, else 1 more than the root's number
-unfoldable pub validity : List ℕ → ℕ
-validity b = cond (valid b) (suc (root (read b).rules)) 0
 
 -- the string of state c
 abbrev pub text : List Rule → ℕ → List ℕ

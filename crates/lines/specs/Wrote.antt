@@ -1,19 +1,32 @@
 -- How the functions that write a line speak of it, and what they ask of an outcome.
-use Rattle.std.specs.Prelude.{ℕ, ◌+◌, ◌≤◌, ◌<◌, ◌≡◌, true, List, ◌++◌, length}
-use Rattle.rewriting.specs.Lists.{below, over}
+use Rattle.std.specs.Prelude.{ℕ, ◌+◌, ◌≤◌, ◌<◌, ◌≡◌, true, List, [], ◌++◌, length, drop}
+use Rattle.rewriting.specs.Lists.{below}
 use Rattle.machine.specs.declared.Answer.{Answer}
 use Rattle.machine.specs.Calls.{Outcome}
 use Rattle.machine.specs.Play.{string_of}
 use Rattle.machine.specs.Areas.{document_capacity}
 
--- the area begins with v, which ends at the place `at`, and is behind it as it was
-pub record Wrote (area v line : List ℕ) (at : ℕ) : Type 0 where
-  pub begins : line ≡ over v area
-  pub ends : at ≡ length v
+-- a line that is being written: its bytes so far, and the rest of its area, as it was
+pub record Written : Type 0 where
+  pub bytes : List ℕ
+  pub behind : List ℕ
 
--- Whatever was written before, x is written behind it.
-abbrev pub Writes : List ℕ → List ℕ → ℕ → List ℕ → ℕ → Type 0
-Writes x line at line' at' = (area v : List ℕ) → Wrote area v line at → Wrote area (v ++ x) line' at'
+-- the area: the bytes that are written, and those behind them
+abbrev pub area : Written → List ℕ
+area l = l.bytes ++ l.behind
+
+-- nothing is written, whatever the area holds
+abbrev pub empty : List ℕ → Written
+empty l = record { bytes = []; behind = l }
+
+-- x is written behind what was there, and what is behind x stays as it was
+abbrev pub with : List ℕ → Written → Written
+with x l = record { bytes = l.bytes ++ x; behind = drop (length x) l.behind }
+
+-- that, and there was room for it
+pub record Writes (x : List ℕ) (old new : Written) : Type 0 where
+  pub line : new ≡ with x old
+  pub room : length x ≤ length old.behind
 
 -- a verdict has a slot
 abbrev pub HasSlot : Answer → Type 0

@@ -2,11 +2,11 @@
 -- Assumes nothing.
 use Prim.Native.Nat.{ℕ, ◌+◌, ◌-◌, ◌≤◌, ◌<◌}
 use mathlib.Core.Path.{◌≡◌, refl, sym, ap, ◌∙◌, subst}
-use mathlib.Core.Bool.{Bool, true, false, not, cond, ◌||◌}
-use Rattle.std.specs.Prelude.{None, Some, Option, is_none}
+use mathlib.Core.Bool.{true, false}
+use Rattle.std.specs.Prelude.{None, Some, Option, is_none, IfSome}
 use mathlib.Core.List.{List, [], ◌∷◌, ◌++◌, append-nil}
 use native.Mathlib.Omega.{arith}
-use lib.Dec.{eqb, ltb}
+use lib.Dec.{eqb}
 use lib.ListN.{length, replicate, length-append, length-replicate}
 use lib.Seq.{paste, take_all, drop-length}
 use borrow.Author.Tests.{le-leb, lt-leb, eq-eqb, ne_eqb, eqb-false, not-true}
@@ -40,7 +40,17 @@ use Rattle.machine.specs.Calls.{
   decided,
 }
 use Rattle.machine.specs.Play.{events_of}
-use Rattle.machine.specs.Lent.{monitor_in, Passed, appended, taken, upon, offer_or_go_on}
+use Rattle.machine.specs.Lent.{
+  monitor_in,
+  Passed,
+  appended,
+  taken,
+  bytes_with,
+  upon,
+  offer_or_go_on,
+  event_allowed,
+  event_fits,
+}
 use Rattle.machine.proofs.Legal.{legal_more}
 use Rattle.machine.proofs.Areas.{state_back}
 use Rattle.machine.proofs.AreaWrites.{area_append}
@@ -54,59 +64,59 @@ unfolding decided outcome
 is_refused set capacity m c checks n e = rw e
 
 -- An offer refuses 12, 13, 14 and 15, in this order, and a go-on 13 and 14.
-module _ (set : RuleSet) (capacity : ℕ) (head : Head) (event fuel : ℕ) where
-  pub refuses_event : (offering : Bool) → (not offering || ltb event set.events) ≡ false
-      → refusal (call_checks set capacity head (offer_or_go_on offering event fuel)) ≡ Some 12
+module _ (set : RuleSet) (capacity : ℕ) (head : Head) (fuel : ℕ) where
+  pub refuses_event : (offered : Option ℕ) → event_allowed offered set.events ≡ false
+      → refusal (call_checks set capacity head (offer_or_go_on offered fuel)) ≡ Some 12
   unfolding call_checks refusal offer_or_go_on
-  refuses_event true h = rw h
-  refuses_event false h = let z : ◌≡◌ {A = ℕ} 0 1 = cc in absurd (omega arith)
+  refuses_event (Some event) h = rw h
+  refuses_event None h = let z : ◌≡◌ {A = ℕ} 0 1 = cc in absurd (omega arith)
 
-  pub refuses_fuel : (offering : Bool) → (not offering || ltb event set.events) ≡ true → 65535 < fuel
-      → refusal (call_checks set capacity head (offer_or_go_on offering event fuel)) ≡ Some 13
+  pub refuses_fuel : (offered : Option ℕ) → event_allowed offered set.events ≡ true → 65535 < fuel
+      → refusal (call_checks set capacity head (offer_or_go_on offered fuel)) ≡ Some 13
   unfolding call_checks refusal fuel_check offer_or_go_on
-  refuses_fuel true h f = rw (h, lt-leb fuel 65535 f)
-  refuses_fuel false h f = rw (lt-leb fuel 65535 f)
+  refuses_fuel (Some event) h f = rw (h, lt-leb fuel 65535 f)
+  refuses_fuel None h f = rw (lt-leb fuel 65535 f)
 
   module _ (taken : fuel ≤ 65535) where
-    pub refuses_verdict : (offering : Bool) → (not offering || ltb event set.events) ≡ true → (v : ℕ) → head.verdict ≡ Some v
-        → refusal (call_checks set capacity head (offer_or_go_on offering event fuel)) ≡ Some 14
+    pub refuses_verdict : (offered : Option ℕ) → event_allowed offered set.events ≡ true → (v : ℕ) → head.verdict ≡ Some v
+        → refusal (call_checks set capacity head (offer_or_go_on offered fuel)) ≡ Some 14
     unfolding call_checks refusal fuel_check verdict_check offer_or_go_on
-    refuses_verdict true h v e = rw (h, le-leb fuel 65535 taken, e)
-    refuses_verdict false h v e = rw (le-leb fuel 65535 taken, e)
+    refuses_verdict (Some event) h v e = rw (h, le-leb fuel 65535 taken, e)
+    refuses_verdict None h v e = rw (le-leb fuel 65535 taken, e)
 
-    pub refuses_room : (offering : Bool) → (not offering || ltb event set.events) ≡ true → head.verdict ≡ None
-        → (not offering || not (eqb (head.settled + head.waiting) capacity)) ≡ false
-        → refusal (call_checks set capacity head (offer_or_go_on offering event fuel)) ≡ Some 15
+    pub refuses_room : (offered : Option ℕ) → event_allowed offered set.events ≡ true → head.verdict ≡ None
+        → event_fits offered capacity (head.settled + head.waiting) ≡ false
+        → refusal (call_checks set capacity head (offer_or_go_on offered fuel)) ≡ Some 15
     unfolding call_checks refusal fuel_check verdict_check offer_or_go_on
-    refuses_room true h v r = rw (h, le-leb fuel 65535 taken, v, r)
-    refuses_room false h v r = let z : ◌≡◌ {A = ℕ} 0 1 = cc in absurd (omega arith)
+    refuses_room (Some event) h v r = rw (h, le-leb fuel 65535 taken, v, r)
+    refuses_room None h v r = let z : ◌≡◌ {A = ℕ} 0 1 = cc in absurd (omega arith)
 
-    pub refuses_none : (offering : Bool) → (not offering || ltb event set.events) ≡ true → head.verdict ≡ None
-        → (not offering || not (eqb (head.settled + head.waiting) capacity)) ≡ true
-        → refusal (call_checks set capacity head (offer_or_go_on offering event fuel)) ≡ None
+    pub refuses_none : (offered : Option ℕ) → event_allowed offered set.events ≡ true → head.verdict ≡ None
+        → event_fits offered capacity (head.settled + head.waiting) ≡ true
+        → refusal (call_checks set capacity head (offer_or_go_on offered fuel)) ≡ None
     unfolding call_checks refusal fuel_check verdict_check offer_or_go_on
-    refuses_none true h v r = rw (h, le-leb fuel 65535 taken, v, r)
-    refuses_none false h v r = rw (le-leb fuel 65535 taken, v)
+    refuses_none (Some event) h v r = rw (h, le-leb fuel 65535 taken, v, r)
+    refuses_none None h v r = rw (le-leb fuel 65535 taken, v)
 
 -- What a call that its checks do not refuse tells: no verdict stands, and there is room for the event of an offer.
 is-none : (v : Option ℕ) → is_none v ≡ true → v ≡ None
 is-none None e = refl
 is-none (Some v) e = let z : ◌≡◌ {A = ℕ} 0 1 = cc in absurd (omega arith)
 
-module _ (set : RuleSet) (capacity : ℕ) (head : Head) (event fuel : ℕ) where
-  pub accepted_none : (offering : Bool) → refusal (call_checks set capacity head (offer_or_go_on offering event fuel)) ≡ None → head.verdict ≡ None
+module _ (set : RuleSet) (capacity : ℕ) (head : Head) (fuel : ℕ) where
+  pub accepted_none : (offered : Option ℕ) → refusal (call_checks set capacity head (offer_or_go_on offered fuel)) ≡ None → head.verdict ≡ None
   unfolding call_checks fuel_check verdict_check offer_or_go_on
-  accepted_none true e = is-none head.verdict (refusal_passed _ _ _ (refusal_rest _ _ _ (refusal_rest _ _ _ e)))
-  accepted_none false e = is-none head.verdict (refusal_passed _ _ _ (refusal_rest _ _ _ e))
+  accepted_none (Some event) e = is-none head.verdict (refusal_passed _ _ _ (refusal_rest _ _ _ (refusal_rest _ _ _ e)))
+  accepted_none None e = is-none head.verdict (refusal_passed _ _ _ (refusal_rest _ _ _ e))
 
-  pub accepted_room : (offering : Bool) → refusal (call_checks set capacity head (offer_or_go_on offering event fuel)) ≡ None
-      → offering ≡ true → head.settled + head.waiting ≡ capacity → ⊥
+  pub accepted_room : (offered : Option ℕ) → refusal (call_checks set capacity head (offer_or_go_on offered fuel)) ≡ None
+      → IfSome offered (λ event. head.settled + head.waiting ≡ capacity → ⊥)
   unfolding call_checks fuel_check verdict_check offer_or_go_on
-  accepted_room true e t =
+  accepted_room (Some event) e =
       eqb-false (head.settled + head.waiting) capacity
       (not-true (eqb (head.settled + head.waiting) capacity)
       (refusal_passed _ _ _ (refusal_rest _ _ _ (refusal_rest _ _ _ (refusal_rest _ _ _ e)))))
-  accepted_room false e t = let z : ◌≡◌ {A = ℕ} 0 1 = cc in absurd (omega arith)
+  accepted_room None e = tt
 
 -- the call runs, behind others with the counts before
 pub is-run : (set : RuleSet) (capacity : ℕ) (m m' : Monitor) (c : Call) (checks : List Check) (s : State) (before : Counts) (o : Outcome)
@@ -122,7 +132,7 @@ module _ (capacity : ℕ) (image table : List ℕ) (m : Monitor) (ok : Passed ca
   facts = held capacity image table m ok
 
   -- the areas then hold the offered state, ..
-  is-offered : monitor_in (taken true m.head) (appended capacity event from m.bytes) m.words
+  is-offered : monitor_in (taken (Some event) m.head) (appended capacity event from m.bytes) m.words
       ≡ monitor_of (read image).rules capacity (offered (state_of m) (Offer event fuel))
   unfolding offered state_of
   is-offered =
@@ -137,13 +147,13 @@ module _ (capacity : ℕ) (image table : List ℕ) (m : Monitor) (ok : Passed ca
       ∙ (λ i. monitor_of (read image).rules capacity
       (record { settled = s.settled; waiting = s.waiting ++ event ∷ []; verdict = sym v i; rule = sym (zero-rule capacity image table m ok v) i }))
 
-  pub offered-state : state_of (monitor_in (taken true m.head) (appended capacity event from m.bytes) m.words)
+  pub offered-state : state_of (monitor_in (taken (Some event) m.head) (appended capacity event from m.bytes) m.words)
       ≡ offered (state_of m) (Offer event fuel)
   offered-state = rw is-offered (state_back (read image).rules capacity (offered (state_of m) (Offer event fuel)))
 
   -- .. and pass their checks
   pub offered_passes : refusal (call_checks (read image) capacity m.head (Offer event fuel)) ≡ None
-      → Passed capacity image table (monitor_in (taken true m.head) (appended capacity event from m.bytes) m.words)
+      → Passed capacity image table (monitor_in (taken (Some event) m.head) (appended capacity event from m.bytes) m.words)
   unfolding monitor_of fits
   offered_passes e =
       holding_passes capacity image table good (passed_table capacity image table m ok) _
@@ -167,13 +177,13 @@ module _ (capacity : ℕ) (image table : List ℕ) (m : Monitor) (ok : Passed ca
 
 -- The same of a call that is an offer or a go-on.
 module _ (capacity : ℕ) (image table : List ℕ) (head : Head) (bytes words : List ℕ) (ok : Passed capacity image table (monitor_in head bytes words))
-    (event fuel : ℕ) (offering : Bool)
-    (accepted : refusal (call_checks (read image) capacity head (offer_or_go_on offering event fuel)) ≡ None) where
+    (fuel : ℕ) (offered_event : Option ℕ)
+    (accepted : refusal (call_checks (read image) capacity head (offer_or_go_on offered_event fuel)) ≡ None) where
   none_stands : head.verdict ≡ None
-  none_stands = accepted_none (read image) capacity head event fuel offering accepted
+  none_stands = accepted_none (read image) capacity head fuel offered_event accepted
 
   -- a go-on takes the head as it is
-  as_is : taken false head ≡ head
+  as_is : taken None head ≡ head
   as_is =
       λ i.
       record {
@@ -184,28 +194,28 @@ module _ (capacity : ℕ) (image table : List ℕ) (head : Head) (bytes words : 
       }
 
   pub call_state : state_of
-      (monitor_in (taken offering head) (cond offering (appended capacity event (capacity - head.waiting) bytes) bytes) words)
-      ≡ offered (state_of (monitor_in head bytes words)) (offer_or_go_on offering event fuel)
+      (monitor_in (taken offered_event head) (bytes_with offered_event capacity head.waiting bytes) words)
+      ≡ offered (state_of (monitor_in head bytes words)) (offer_or_go_on offered_event fuel)
   unfolding offer_or_go_on offered
-  call_state = go offering (accepted_room (read image) capacity head event fuel offering accepted)
+  call_state = go offered_event (accepted_room (read image) capacity head fuel offered_event accepted)
     where
-      go : (o : Bool) → (o ≡ true → head.settled + head.waiting ≡ capacity → ⊥)
-          → state_of (monitor_in (taken o head) (cond o (appended capacity event (capacity - head.waiting) bytes) bytes) words)
-          ≡ offered (state_of (monitor_in head bytes words)) (offer_or_go_on o event fuel)
-      go true room = offered-state capacity image table (monitor_in head bytes words) ok event fuel (capacity - head.waiting) none_stands (room refl) refl
-      go false room = ap (λ (h : Head). state_of (monitor_in h bytes words)) as_is
+      go : (o : Option ℕ) → IfSome o (λ event. head.settled + head.waiting ≡ capacity → ⊥)
+          → state_of (monitor_in (taken o head) (bytes_with o capacity head.waiting bytes) words)
+          ≡ offered (state_of (monitor_in head bytes words)) (offer_or_go_on o fuel)
+      go (Some event) room = offered-state capacity image table (monitor_in head bytes words) ok event fuel (capacity - head.waiting) none_stands room refl
+      go None room = ap (λ (h : Head). state_of (monitor_in h bytes words)) as_is
 
   pub call_passes : Passed capacity image table
-      (monitor_in (taken offering head) (cond offering (appended capacity event (capacity - head.waiting) bytes) bytes) words)
+      (monitor_in (taken offered_event head) (bytes_with offered_event capacity head.waiting bytes) words)
   unfolding offer_or_go_on
-  call_passes = go offering (accepted_room (read image) capacity head event fuel offering accepted) accepted
+  call_passes = go offered_event (accepted_room (read image) capacity head fuel offered_event accepted) accepted
     where
-      go : (o : Bool) → (o ≡ true → head.settled + head.waiting ≡ capacity → ⊥)
-          → refusal (call_checks (read image) capacity head (offer_or_go_on o event fuel)) ≡ None
-          → Passed capacity image table (monitor_in (taken o head) (cond o (appended capacity event (capacity - head.waiting) bytes) bytes) words)
-      go true room e =
-          offered_passes capacity image table (monitor_in head bytes words) ok event fuel (capacity - head.waiting) none_stands (room refl) refl e
-      go false room e = subst (λ (h : Head). Passed capacity image table (monitor_in h bytes words)) (sym as_is) ok
+      go : (o : Option ℕ) → IfSome o (λ event. head.settled + head.waiting ≡ capacity → ⊥)
+          → refusal (call_checks (read image) capacity head (offer_or_go_on o fuel)) ≡ None
+          → Passed capacity image table (monitor_in (taken o head) (bytes_with o capacity head.waiting bytes) words)
+      go (Some event) room e =
+          offered_passes capacity image table (monitor_in head bytes words) ok event fuel (capacity - head.waiting) none_stands room refl e
+      go None room e = subst (λ (h : Head). Passed capacity image table (monitor_in h bytes words)) (sym as_is) ok
 
 -- A call that what is lent refuses.
 pub lent_refused : (capacity : ℕ) (image table : List ℕ) (m : Monitor) (c : Call) (n : ℕ) → refusal (lent_checks capacity image table m) ≡ Some n

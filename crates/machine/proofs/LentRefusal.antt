@@ -39,15 +39,15 @@ unfolding answered
 answered_refused None n e = let z : ◌≡◌ {A = ℕ} 0 1 = cc in absurd (omega arith)
 answered_refused (Some k) n e = let same : k ≡ n = cc in rw same
 
--- The code's answers, where image and table are refused, and where they pass.
+-- What the check of image and table answers: they are refused, or the other checks decide.
 module _ (capacity : ℕ) (image table : List ℕ) {r : Result (Unit {0}) Refusal} (check : numbered r ≡ check_of image table) where
-  pub table_refused : (m : Monitor) (x : Refusal) → r ≡ Err x → Err (number x) ≡ answered (refusal (lent_checks capacity image table m))
-  unfolding check_of lent_checks answered
+  pub table_refused : (m : Monitor) (x : Refusal) → r ≡ Err x → refusal (lent_checks capacity image table m) ≡ Some (number x)
+  unfolding check_of lent_checks
   table_refused m x e =
       let first : refusal (table_checks image table) ≡ Some (number x) =
       answered_refused (refusal (table_checks image table)) (number x) (sym check ∙ ap numbered e)
       in
-      sym (ap answered (refusal_append_some (table_checks image table) _ (number x) first))
+      refusal_append_some (table_checks image table) _ (number x) first
 
   module _ (e : r ≡ Ok tt) where
     first_pass : refusal (table_checks image table) ≡ None
@@ -67,15 +67,14 @@ module _ (capacity : ℕ) (image table : List ℕ) {r : Result (Unit {0}) Refusa
       unfolding lent_checks
       others = refusal_append_none (table_checks image table) _ first_pass
 
-      other_size : sized capacity m.bytes m.words ≡ false → Err 10 ≡ answered (refusal (lent_checks capacity image table m))
-      unfolding answered
-      other_size s = sym (ap answered (others ∙ refusal_head (sized capacity m.bytes m.words) 10 _ s))
+      other_size : sized capacity m.bytes m.words ≡ false → refusal (lent_checks capacity image table m) ≡ Some 10
+      other_size s = others ∙ refusal_head (sized capacity m.bytes m.words) 10 _ s
 
-      pub other_bytes : (length m.bytes ≡ capacity → ⊥) → Err 10 ≡ answered (refusal (lent_checks capacity image table m))
+      pub other_bytes : (length m.bytes ≡ capacity → ⊥) → refusal (lent_checks capacity image table m) ≡ Some 10
       unfolding sized
       other_bytes ne = other_size (rw (ne_eqb (length m.bytes) capacity ne))
 
-      pub other_words : (length m.words ≡ capacity → ⊥) → Err 10 ≡ answered (refusal (lent_checks capacity image table m))
+      pub other_words : (length m.words ≡ capacity → ⊥) → refusal (lent_checks capacity image table m) ≡ Some 10
       unfolding sized
       other_words ne = other_size (rw (ne_eqb (length m.words) capacity ne, and-false))
 
@@ -92,20 +91,9 @@ module _ (capacity : ℕ) (image table : List ℕ) {r : Result (Unit {0}) Refusa
           ∙ ap (λ (k : ℕ). refusal ((described (read image) k (monitor_in head bytes words), 11) ∷ [])) (sym b)
 
       pub all_right : {a : Bool} → a ≡ described (read image) (length bytes) (monitor_in head bytes words) → a ≡ true
-          → Ok tt ≡ answered (refusal (lent_checks capacity image table (monitor_in head bytes words)))
-      unfolding answered
-      all_right d t = sym (ap answered (last_check ∙ refusal_pass _ 11 [] (sym d ∙ t) ∙ refusal_nil))
+          → Passed capacity image table (monitor_in head bytes words)
+      all_right d t = last_check ∙ refusal_pass _ 11 [] (sym d ∙ t) ∙ refusal_nil
 
       pub not_as_described : {a : Bool} → a ≡ described (read image) (length bytes) (monitor_in head bytes words) → a ≡ false
-          → Err 11 ≡ answered (refusal (lent_checks capacity image table (monitor_in head bytes words)))
-      unfolding answered
-      not_as_described d f = sym (ap answered (last_check ∙ refusal_head _ 11 [] (sym d ∙ f)))
-
--- What the answer says.
-module _ (capacity : ℕ) (image table : List ℕ) (m : Monitor) {r : Result (Unit {0}) Refusal}
-    (e : numbered r ≡ answered (refusal (lent_checks capacity image table m))) where
-  pub lent_none : r ≡ Ok tt → Passed capacity image table m
-  lent_none p = answered_passed (refusal (lent_checks capacity image table m)) (sym e ∙ ap numbered p)
-
-  pub lent-some : {x : Refusal} → r ≡ Err x → refusal (lent_checks capacity image table m) ≡ Some (number x)
-  lent-some {x} p = answered_refused (refusal (lent_checks capacity image table m)) (number x) (sym e ∙ ap numbered p)
+          → refusal (lent_checks capacity image table (monitor_in head bytes words)) ≡ Some 11
+      not_as_described d f = last_check ∙ refusal_head _ 11 [] (sym d ∙ f)

@@ -21,7 +21,6 @@ use Rattle.layout.specs.Refusals.{refusal, refused_by}
 use Rattle.layout.proofs.Image.{valid-in_range}
 use Rattle.layout.proofs.Refusals.{refusal_append_some}
 use Rattle.layout.specs.Table.{table_of}
-use Rattle.machine.specs.declared.Answer.{Answer}
 use Rattle.machine.specs.State.{empty, active}
 use Rattle.machine.specs.Run.{no_counts, plus, fits}
 use Rattle.machine.specs.Areas.{Monitor, head_of, monitor_of}

@@ -2,8 +2,8 @@
 -- Assumes nothing.
 use Prim.Native.Nat.{ℕ, suc, ◌+◌, ◌*◌, ◌≤◌, ◌<◌}
 use mathlib.Core.Path.{◌≡◌, refl, sym, ap, ◌∙◌, subst}
-use mathlib.Core.Bool.{Bool, true, false}
-use Rattle.std.specs.Prelude.{None, Some}
+use mathlib.Core.Bool.{Bool}
+use Rattle.std.specs.Prelude.{Option, None, Some}
 use mathlib.Core.List.{List, [], ◌∷◌, ◌++◌, append-nil}
 use native.Mathlib.Omega.{arith}
 use native.Mathlib.Nat.{suc-mul, mul-le-mul}
@@ -21,7 +21,7 @@ use Rattle.machine.specs.Run.{no_counts, plus}
 use Rattle.machine.specs.Areas.{Monitor}
 use Rattle.machine.specs.Calls.{Call, GoOn, Outcome, sized, call_checks, decided, fuel_of, call_of, refusal_of, answer_number}
 use Rattle.machine.specs.Batch.{Offers, stopped, and_then, in_turn, batched}
-use Rattle.machine.specs.Lent.{Passed, upon, offer_or_go_on, offers_or_goes_on}
+use Rattle.machine.specs.Lent.{Passed, upon, offer_or_go_on, offers_or_goes_on, where_offering}
 use Rattle.machine.specs.Promise.{Ended}
 use Rattle.machine.proofs.Stepping.{passed_sized}
 use Rattle.machine.proofs.Sums.{none-plus, plus_none, plus_assoc}
@@ -226,13 +226,13 @@ written_last b k a h j e =
 
 -- The call of event k, among those of all events.
 pub call_at : (offering : Bool) (events : List ℕ) (fuel k : ℕ) → k < length events
-    → get_or (offers_or_goes_on offering events fuel) k (GoOn 0) ≡ offer_or_go_on offering (get_or events k 0) fuel
-call_at offering events fuel k h = get_d_map (λ event. offer_or_go_on offering event fuel) events k 0 (GoOn 0) h
+    → get_or (offers_or_goes_on offering events fuel) k (GoOn 0) ≡ offer_or_go_on (where_offering offering (get_or events k 0)) fuel
+call_at offering events fuel k h = get_d_map (λ event. offer_or_go_on (where_offering offering event) fuel) events k 0 (GoOn 0) h
 
-pub fuel_with : (offering : Bool) (event fuel : ℕ) → fuel_of (offer_or_go_on offering event fuel) ≡ fuel
+pub fuel_with : (offered : Option ℕ) (fuel : ℕ) → fuel_of (offer_or_go_on offered fuel) ≡ fuel
 unfolding offer_or_go_on fuel_of
-fuel_with true event fuel = refl
-fuel_with false event fuel = refl
+fuel_with (Some event) fuel = refl
+fuel_with None fuel = refl
 
 pub calls_length : (offering : Bool) (events : List ℕ) (fuel : ℕ) → length (offers_or_goes_on offering events fuel) ≡ length events
-calls_length offering events fuel = length-map events (λ event. offer_or_go_on offering event fuel)
+calls_length offering events fuel = length-map events (λ event. offer_or_go_on (where_offering offering event) fuel)

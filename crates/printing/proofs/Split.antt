@@ -6,11 +6,8 @@ use mathlib.Core.Bool.{Bool, true, false}
 use mathlib.Core.List.{List, [], ◌∷◌}
 use native.Mathlib.Omega.{arith}
 use native.Mathlib.Nat.{not-suc-le-zero}
-use native.Mathlib.Numerals.{add-one}
 use lib.Dec.{eqb}
-use lib.ListN.{length, get_or, take, drop, drop_of_length-le}
-use lib.Seq.{drop-cons}
-use borrow.Author.Tests.{eq-eqb, ne_eqb}
+use lib.ListN.{length, take, drop}
 use Rattle.printing.specs.Watch.{percent, rule_part, event_part}
 use Rattle.printing.specs.Turns.{events_at}
 
@@ -97,29 +94,6 @@ drop_events (b ∷ t) = go (eqb b percent) refl (drop_events t)
         omega (arith, event_part_le t)
         in
         rw (e, on) ih
-
--- The bytes of the rule text are counted up to byte i.
-module _ (t : List ℕ) (i : ℕ) (counted : length (rule_part t) ≡ i + length (rule_part (drop i t))) where
-  pub rule_stops : i < length t → get_or t i 0 ≡ percent → i ≡ length (rule_part t)
-  unfolding rule_part
-  rule_stops h e =
-      let here : length (rule_part (drop i t)) ≡ 0 = rw (drop-cons t i 0 h, eq-eqb (get_or t i 0) percent e) in
-      omega arith
-
-  pub rule_passes :
-      i < length t → (get_or t i 0 ≡ percent → ⊥) → length (rule_part t) ≡ i + 1 + length (rule_part (drop (i + 1) t))
-  unfolding rule_part
-  rule_passes h e =
-      let next : length (rule_part (drop i t)) ≡ suc (length (rule_part (drop (i + 1) t))) =
-      rw (add-one, drop-cons t i 0 h, ne_eqb (get_or t i 0) percent e)
-      in
-      omega arith
-
-  pub rule-ends : length t ≤ i → i ≡ length (rule_part t)
-  unfolding rule_part
-  rule-ends h =
-      let here : length (rule_part (drop i t)) ≡ 0 = rw (drop_of_length-le t h) in
-      omega arith
 
 -- the rule text, as the code takes it from the input
 pub rule-text : (input : List ℕ) (end : ℕ) → end ≡ length (rule_part input) → take end input ≡ rule_part input

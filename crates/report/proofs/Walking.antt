@@ -3,9 +3,9 @@
 use Prim.Native.Nat.{ℕ, zero, suc, ◌+◌, ◌-◌, ◌≤◌, ◌<◌, min}
 use mathlib.Core.Path.{◌≡◌, refl, sym, ap, ◌∙◌}
 use mathlib.Core.Bool.{Bool, true, false, cond}
-use mathlib.Core.List.{List, [], ◌∷◌}
+use mathlib.Core.List.{List, [], ◌∷◌, ◌++◌}
 use native.Mathlib.Omega.{arith}
-use lib.Dec.{leb, ltb}
+use lib.Dec.{eqb, leb, ltb}
 use lib.ListN.{length, take, drop, length-append, length-drop, drop_of_length-le}
 use lib.Seq.{take_all, drop-drop}
 use borrow.Author.Tests.{le-leb, lt-leb, ltb-true, ltb-false}
@@ -17,11 +17,44 @@ use Rattle.std.specs.declared.ops.Range.{Range}
 use Rattle.grammar.specs.Tokens.{unbroken}
 use Rattle.grammar.specs.FirstRun.{gap, first_run}
 use Rattle.grammar.proofs.Runs.{unbroken-take, run_end}
-use Rattle.report.specs.declared.Line.{Line}
+use Rattle.std.specs.Prelude.{Some}
+use Rattle.std.specs.List.{position, position_or_len}
+use Rattle.std.specs.Option.{unwrap_or}
+use Rattle.std.proofs.lemmas.List.Recursion.{is_position_or_len}
+use Rattle.printing.proofs.Split.{rule_part_le}
+use Rattle.machine.specs.Calls.{Outcome}
+use Rattle.lines.specs.Wrote.{Written, Writes, area, empty}
+use Rattle.printing.specs.Lines.{space, newline, answer_word, told, event_line}
+use Rattle.printing.specs.Watch.{percent, rule_part, Watch, offered_name, line_for}
+use Rattle.printing.specs.Turns.{Next, nothing, offering, named, first_named, next_of, Turn, turn_of}
+use Rattle.report.specs.declared.Memory.{Memory}
 use Rattle.report.specs.declared.Walk.{Walk}
-use Rattle.printing.specs.Watch.{Watch}
-use Rattle.printing.specs.Turns.{Next, nothing, offering, named, first_named, next_of, Turn, turn_of, line_most}
-use Rattle.report.specs.Lent.{walk_in, turn_from}
+use Rattle.report.specs.Lent.{walk_in, watched, turn_from}
+
+-- the rule text ends where the first `%` is found
+rule_none : length (rule_part []) ≡ 0
+unfolding rule_part
+rule_none = refl
+
+rule_next : (b : ℕ) (l : List ℕ) → length (rule_part (b ∷ l)) ≡ cond (eqb b percent) 0 (1 + length (rule_part l))
+unfolding rule_part
+rule_next b l = step (eqb b percent)
+  where
+    step : (p : Bool) → length (cond p [] (b ∷ rule_part l)) ≡ cond p 0 (1 + length (rule_part l))
+    step true = refl
+    step false = omega arith
+
+pub rule_position : (t : List ℕ) → unwrap_or (position (λ b. eqb b percent) t) (length t) ≡ length (rule_part t)
+rule_position t = go (ltb (position_or_len (λ b. eqb b percent) t) (length t)) refl
+  where
+    first : length (rule_part t) ≡ position_or_len (λ b. eqb b percent) t
+    first = is_position_or_len (λ l. length (rule_part l)) (λ b. eqb b percent) rule_none rule_next t
+
+    go :
+        (p : Bool) → ltb (position_or_len (λ b. eqb b percent) t) (length t) ≡ p
+        → unwrap_or (position (λ b. eqb b percent) t) (length t) ≡ length (rule_part t)
+    go true e = rw e (sym first)
+    go false e = rw e (omega (arith, first, ltb-false _ _ e, rule_part_le t))
 
 -- an input that is too long, or at its end, has no further name
 pub next_long : (w : Watch) (input : List ℕ) (at : ℕ) → 20480 < length input → next_of w input at ≡ nothing w at
@@ -94,49 +127,66 @@ module _ (input : List ℕ) (at : ℕ) (r : Range ℕ) (found : r ≡ first_run 
       go [] z = absurd (z refl)
       go (b ∷ x) z = refl
 
--- What the code gave back, by its parts. A line that was written is no longer than its buffer.
-pub turn_is :
-    (n : Next) (walk : Walk) (buffer : List ℕ) (r : Line) (head : Head) (bytes words buffer' : List ℕ)
-    → r.length ≡ length n.line → r.walk ≡ record { head = head; at = n.at; image = walk.image; table = walk.table }
-    → lent head bytes words ≡ n.monitor → buffer' ≡ over n.line buffer → length buffer' ≡ length buffer
-    → length buffer ≡ line_most → (turn_from r bytes words buffer' ≡ turn_of (walk_in walk) n buffer) × (r.length ≤ line_most)
-unfolding turn_of over
-turn_is n walk buffer r head bytes words buffer' size place monitor line kept most = (
-  rw place
-      (λ i.
-      record {
-        walk = record { head = (monitor i).head; at = n.at; image = walk.image; table = walk.table };
-        length = size i;
-        bytes = (monitor i).bytes;
-        words = (monitor i).words;
-        buffer = line i;
-      }),
-  omega (arith, size, kept, most, ap length line, length-append n.line (drop (length n.line) buffer)),
-)
+-- A line that is written from its beginning.
+module _ {x : List ℕ} {l l' : Written} (begins : l.bytes ≡ []) (w : Writes x l l') where
+  pub line_bytes : l'.bytes ≡ x
+  line_bytes = rw (w.line, begins) refl
 
--- nothing is left to offer
-pub turn_nothing :
-    (n : Next) (w : Watch) (walk : Walk) (r : Line) (bytes words buffer : List ℕ) → n ≡ nothing w walk.at
-    → r ≡ record { walk = walk; length = 0 } → lent walk.head bytes words ≡ w.monitor
-    → turn_from r bytes words buffer ≡ turn_of (walk_in walk) n buffer
-unfolding turn_of over nothing
-turn_nothing n w walk r bytes words buffer e p monitor =
-    rw (e, p)
-    (λ i.
+  pub line_area : area l' ≡ over x (area l)
+  unfolding over
+  line_area = rw (w.line, begins) refl
+
+  pub line_kept : length (area l') ≡ length (area l)
+  unfolding over
+  line_kept =
+      let room : length x ≤ length (area l) = rw begins w.room in
+      rw line_area (omega (arith, length-append x (drop (length x) (area l)), length-drop (length x) (area l), room))
+
+-- What the code gave back, by its parts: a line ..
+pub turn_is :
+    (n : Next) (walk : Walk) (head : Head) (bytes words a : List ℕ) (line : Written) → line.bytes ≡ n.line
+    → area line ≡ over n.line a → lent head bytes words ≡ n.monitor
+    → (record {
+      walk = walk_in (record { head = head; at = n.at; image = walk.image; table = walk.table });
+      length = length line.bytes;
+      bytes = bytes;
+      words = words;
+      buffer = area line;
+    })
+    ≡ turn_of (walk_in walk) n a
+unfolding turn_of
+turn_is n walk head bytes words a line is there monitor i =
     record {
-      walk = record { head = (monitor i).head; at = walk.at; image = walk.image; table = walk.table };
-      length = 0;
+      walk = record { head = (monitor i).head; at = n.at; image = walk.image; table = walk.table };
+      length = length (is i);
       bytes = (monitor i).bytes;
       words = (monitor i).words;
-      buffer = buffer;
-    })
+      buffer = there i;
+    }
 
--- the walk goes on where the name ends
+-- .. or nothing, where no name is left
+pub turn_nothing :
+    (n : Next) (walk : Walk) (m : Memory) (line : Written) → n ≡ nothing (watched walk m) walk.at → line ≡ empty (area m.line)
+    → (record { walk = walk_in walk; length = length line.bytes; bytes = m.bytes; words = m.words; buffer = area line })
+    ≡ turn_of (walk_in walk) n (area m.line)
+unfolding turn_of over nothing
+turn_nothing n walk m line e cleared = rw (e, cleared) refl
+
+-- the walk goes on where the name ends, and the line has a byte
 pub turn_place :
-    (w : Watch) (walk : Walk) (end : ℕ) (x buffer : List ℕ) (r : Line) (bytes words buffer' : List ℕ)
-    → turn_from r bytes words buffer' ≡ turn_of (walk_in walk) (offering w end x) buffer → r.walk.at ≡ end
+    (w : Watch) (walk next : Walk) (end : ℕ) (x a : List ℕ) (m : Memory)
+    → turn_from walk (Some next) m ≡ turn_of (walk_in walk) (offering w end x) a → next.at ≡ end
 unfolding turn_of offering
-turn_place w walk end x buffer r bytes words buffer' e = ap (λ (t : Turn). t.walk.at) e
+turn_place w walk next end x a m e = ap (λ (t : Turn). t.walk.at) e
+
+pub turn_some :
+    (w : Watch) (walk next : Walk) (end : ℕ) (x a : List ℕ) (m : Memory)
+    → turn_from walk (Some next) m ≡ turn_of (walk_in walk) (offering w end x) a → 0 < length m.line.bytes
+unfolding turn_of offering line_for event_line
+turn_some w walk next end x a m e =
+    let o : Outcome = offered_name w x in
+    let behind : List ℕ = answer_word w.names o.answer ++ space ∷ (told w.names o o.answer ++ newline ∷ []) in
+    omega (arith, ap (λ (t : Turn). t.length) e, length-append x (space ∷ behind))
 
 -- the first part of an area, as the code takes it
 pub first_part : (n most : ℕ) (area : List ℕ) → length area ≡ most → take (min n most) area ≡ take n area

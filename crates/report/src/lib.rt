@@ -1,16 +1,18 @@
-// What `watch` prints: lines, written one at a time into a lent buffer.
+// What `watch` prints: lines, written one at a time into the line of its memory.
 #![tactic(auto)]
 
-ghost use Rattle.std.specs.Prelude.{◌≤◌, ◌<◌, min, ◌≡◌, true, length};
+ghost use Rattle.std.specs.Prelude.{◌+◌, ◌≤◌, ◌<◌, ◌≡◌, true, [], length, take, Some, MatchOption};
 ghost use Rattle.rewriting.specs.Lists.{over};
 ghost use Rattle.layout.specs.Image.{read, valid};
 ghost use Rattle.layout.specs.Table.{table_of};
 ghost use Rattle.printing.specs.Watch.{input_most, rule_part, fresh_monitor};
-ghost use Rattle.printing.specs.Turns.{line_most, Events, offering, next_of, turn_of, watch_with, watch_in, events_at, areas, begin_of, begins_from, Inside};
-ghost use Rattle.report.specs.Lent.{walk_in, begun_in, turn_from};
+ghost use Rattle.printing.specs.Turns.{line_most, Events, offering, next_of, turn_of, events_at, begin_of, begins_from, Inside};
+ghost use Rattle.lines.specs.Wrote.{area};
+ghost use Rattle.report.specs.Lent.{areas_in, walk_in, begun_in, watched, turn_from, SameRules};
 
 use grammar::NAMES_BYTES;
-use layout::{IMAGE_BYTES, TABLE_WORDS};
+use layout::{IMAGE_BYTES, Refusal, TABLE_WORDS};
+use lines::Line;
 use machine::CAPACITY;
 use monitor::Head;
 
@@ -19,8 +21,17 @@ pub const INPUT_BYTES: usize = 20480;
 
 const FUEL: u32 = 1000;
 
-// The most bytes that a line has: `line_most`, printing/specs/Turns.antt.
-pub const LINE_BYTES: usize = 51261;
+// All that `watch` works with: image and table of the rules, the names' slots, the monitor's areas, a line. `begin` takes it
+// whatever it holds.
+#[derive(Drop)]
+pub struct Memory {
+    pub image: [u8; IMAGE_BYTES],
+    pub names: [u8; NAMES_BYTES],
+    pub table: [u16; TABLE_WORDS],
+    pub bytes: [u8; CAPACITY],
+    pub words: [u16; CAPACITY],
+    pub line: Line,
+}
 
 // The walk over the event names: the monitor's head, where in the input the next name is looked for, and how long the image and
 // the table are.
@@ -32,32 +43,11 @@ pub struct Walk {
     pub table: usize,
 }
 
-// How an input begins: with a message of so many bytes and nothing else, or with events to offer.
-#[derive(Clone, Copy)]
-pub enum Begun {
-    Message(usize),
-    Events(Walk),
-}
-
-// A line of so many bytes, 0 where no name is left, and the walk behind it.
-#[derive(Clone, Copy)]
-pub struct Line {
-    pub walk: Walk,
-    pub length: usize,
-}
-
 // How long the rule text is: up to the first `%`, or the whole input.
 fn rule_length(input: &[u8]) -> usize
     ensures { result ≡ length (rule_part input.now) }
 {
-    let mut i: usize = 0;
-    while i < input.len() {
-        if input[i] == b'%' {
-            return i;
-        }
-        i += 1;
-    }
-    i
+    input.iter().position(|b| *b == b'%').unwrap_or(input.len())
 }
 
 // Where the event names begin: behind the `%` at the end of the rule text, or at the end of the input.
@@ -71,219 +61,120 @@ fn events_start(input: &[u8], end: usize) -> usize
     end
 }
 
-// The lesser of the two.
-fn within(n: usize, most: usize) -> usize
-    ensures { result ≡ min n most }
-{
-    if n < most {
-        return n;
+impl Memory {
+    // Compiles the image of so many bytes and makes the monitor fresh: the events that begin at `at` are to be offered.
+    fn make_ready(&mut self, at: usize, size: usize) -> Option<Walk>
+        requires inside { size ≤ length self.old.image }
+        requires rules { valid (take size self.old.image) ≡ true }
+        ensures answer { begun_in result self.new
+            ≡ Events (record {
+              head = fresh_monitor.head;
+              at = at;
+              image = size;
+              table = length (table_of (read (take size self.old.image)));
+            }) }
+        ensures image { self.new.image ≡ self.old.image }
+        ensures names { self.new.names ≡ self.old.names }
+        ensures table { self.new.table ≡ over (table_of (read (take size self.old.image))) self.old.table }
+        ensures bytes { self.new.bytes ≡ fresh_monitor.bytes }
+        ensures words { self.new.words ≡ fresh_monitor.words }
+        ensures line { self.new.line ≡ self.old.line }
+    {
+        // A valid image is never refused.
+        let table = table::compile(&self.image[..size], &mut self.table).ok()?;
+        let begun = monitor::fresh(&mut self.bytes, &mut self.words);
+        Some(Walk {
+            head: begun.head,
+            at,
+            image: size,
+            table,
+        })
     }
-    most
-}
 
-// Compiles the image and makes the monitor fresh: the events that begin at `at` are to be offered.
-fn make_ready(
-    at: usize,
-    image: &[u8],
-    table: &mut [u16; TABLE_WORDS],
-    bytes: &mut [u8; CAPACITY],
-    words: &mut [u16; CAPACITY],
-) -> Begun
-    requires { valid image.now ≡ true }
-    ensures answer { begun_in result
-        ≡ Events (record { head = fresh_monitor.head; at = at; image = length image.now; table = length (table_of (read image.now)) }) }
-    ensures table { table.new ≡ over (table_of (read image.now)) table.old }
-    ensures bytes { bytes.new ≡ fresh_monitor.bytes }
-    ensures words { words.new ≡ fresh_monitor.words }
-{
-    match table::compile(image, table) {
-        Err(_) => Begun::Message(0),
-        Ok(size) => {
-            let begun = monitor::fresh(bytes, words);
-            let head = begun.head;
-            Begun::Events(Walk {
-                head: head,
-                at: at,
-                image: image.len(),
-                table: size,
-            })
+    // Begins with an input: the rules go into their areas, and the events are to be offered one by one, by `next`. Where the
+    // input or its rule text is wrong, there are none, and what is wrong is the line.
+    pub fn begin(&mut self, input: &[u8]) -> Option<Walk>
+        ensures outcome { begins_from (begun_in result self.new) (areas_in self.new) ≡ begin_of input.now (areas_in self.old) }
+        ensures inside { Inside (begun_in result self.new) }
+    {
+        self.line.clear();
+        if INPUT_BYTES < input.len() {
+            self.line.put(b"input too long\n");
+            return None;
         }
-    }
-}
-
-// Begins with an input: what is wrong with it or its rule text goes into the line; else the rules go into their areas, and the
-// events are to be offered one by one, by `next`.
-pub fn begin(
-    input: &[u8],
-    image: &mut [u8; IMAGE_BYTES],
-    names: &mut [u8; NAMES_BYTES],
-    table: &mut [u16; TABLE_WORDS],
-    bytes: &mut [u8; CAPACITY],
-    words: &mut [u16; CAPACITY],
-    line: &mut [u8; LINE_BYTES],
-) -> Begun
-    ensures outcome { begins_from (begun_in result)
-        (areas image.new names.new table.new bytes.new words.new line.new)
-        ≡ begin_of input.now (areas image.old names.old table.old bytes.old
-        words.old line.old) }
-    ensures inside { Inside (begun_in result) }
-{
-    if INPUT_BYTES < input.len() {
-        return Begun::Message(lines::put(line, 0, b"input too long\n"));
-    }
-    let end = rule_length(input);
-    match text::read_rules(&input[..end], image, names) {
-        Err(error) => Begun::Message(lines::put_rules_refused(
-            line,
-            error.refusal.number(),
-            error.place,
-        )),
-        Ok(size) => {
-            let at = events_start(input, end);
-            let area: &[u8] = image;
-            make_ready(at, &area[..size], table, bytes, words)
+        let end = rule_length(input);
+        match text::read_rules(&input[..end], &mut self.image, &mut self.names) {
+            Err(error) => {
+                self.line.put_rules_refused(error.refusal.number(), error.place);
+                None
+            }
+            Ok(size) => self.make_ready(events_start(input, end), size),
         }
     }
 }
 
 impl Walk {
-    // The walk with this head, from this place on.
-    fn onward(self, head: Head, at: usize) -> Walk
-        ensures { result ≡ record { head = head; at = at; image = self.image; table = self.table } }
-    {
-        Walk {
-            head: head,
-            at: at,
-            image: self.image,
-            table: self.table,
-        }
-    }
-
-    // No name is left.
-    fn over(self) -> Line
-        ensures { result ≡ record { walk = self; length = 0 } }
-    {
-        Line {
-            walk: self,
-            length: 0,
-        }
-    }
-
     // Offers the name x, which ends at `end`, and writes its line.
-    fn named(
-        self,
-        end: usize,
-        x: &[u8],
-        image: &[u8],
-        table: &[u16],
-        names: &[u8; NAMES_BYTES],
-        bytes: &mut [u8; CAPACITY],
-        words: &mut [u16; CAPACITY],
-        line: &mut [u8; LINE_BYTES],
-    ) -> Line
-        requires { length x.now ≤ input_most }
-        ensures line_after { turn_from result bytes.new words.new line.new
-            ≡ turn_of (walk_in self) (offering (watch_with (walk_in self) image.now table.now names.now
-            bytes.old words.old)
-            end x.now) line.old }
-        ensures length_le_line_most { result.length ≤ line_most }
+    fn named(self, end: usize, x: &[u8], memory: &mut Memory) -> Walk
+        requires short { length x.now ≤ input_most }
+        requires line { memory.old.line.bytes ≡ [] }
+        requires room { length memory.old.line.behind ≡ line_most }
+        ensures turn { turn_from self (Some result) memory.new
+            ≡ turn_of (walk_in self) (offering (watched self memory.old) end x.now) (area memory.old.line) }
+        ensures rules { SameRules memory.old memory.new }
+        ensures fits { length memory.new.line.bytes ≤ line_most }
     {
-        let mut at = lines::put(line, 0, x);
-        at = lines::put_byte(line, at, b' ');
-        let head = self.head;
-        match tokens::symbol(names, x) {
+        memory.line.put(x);
+        memory.line.put_byte(b' ');
+        match tokens::symbol(&memory.names, x) {
             None => {
-                let length = lines::put_refused(line, at, 12);
-                Line {
-                    walk: self.onward(head, end),
-                    length: length,
-                }
+                memory.line.put_refused(Refusal::NoEvent.number());
+                Walk { at: end, ..self }
             }
             Some(a) => {
-                let called = head.offer(image, table, bytes, words, a as u8, FUEL);
-                let length = lines::put_told(line, at, names, called, bytes);
-                let left = called.head;
-                Line {
-                    walk: self.onward(left, end),
-                    length: length,
+                let image = &memory.image[..usize::min(self.image, IMAGE_BYTES)];
+                let table = &memory.table[..usize::min(self.table, TABLE_WORDS)];
+                let called = self.head.offer(
+                    image,
+                    table,
+                    &mut memory.bytes,
+                    &mut memory.words,
+                    a as u8,
+                    FUEL,
+                );
+                memory.line.put_told(&memory.names, called, &memory.bytes);
+                Walk {
+                    head: called.head,
+                    at: end,
+                    ..self
                 }
             }
         }
     }
 
-    // The next line, with the image and the table themselves.
-    fn turn(
-        self,
-        input: &[u8],
-        image: &[u8],
-        table: &[u16],
-        names: &[u8; NAMES_BYTES],
-        bytes: &mut [u8; CAPACITY],
-        words: &mut [u16; CAPACITY],
-        line: &mut [u8; LINE_BYTES],
-    ) -> Line
-        ensures turn { turn_from result bytes.new words.new line.new
-            ≡ turn_of (walk_in self) (next_of (watch_with (walk_in self) image.now table.now names.now
-            bytes.old words.old)
-            input.now self.at) line.old }
-        ensures fits { result.length ≤ line_most }
-        ensures onward { (result.length ≡ 0 → ⊥) → (self.at < result.walk.at) × (result.walk.at ≤ length input.now) }
+    // The next line: the first name from here on is offered. Where no name is left, the line is empty.
+    pub fn next(self, input: &[u8], memory: &mut Memory) -> Option<Walk>
+        ensures turn { turn_from self result memory.new
+            ≡ turn_of (walk_in self) (next_of (watched self memory.old) input.now self.at) (area memory.old.line) }
+        ensures rules { SameRules memory.old memory.new }
+        ensures fits { length memory.new.line.bytes ≤ line_most }
+        ensures onward { MatchOption result (length memory.new.line.bytes ≡ 0)
+            (λ next. (0 < length memory.new.line.bytes) × ((self.at < next.at) × (next.at ≤ length input.now))) }
     {
+        memory.line.clear();
         if INPUT_BYTES < input.len() {
-            return self.over();
+            return None;
         }
         let at = self.at;
         if input.len() <= at {
-            return self.over();
+            return None;
         }
         let run = tokens::first_run(&input[at..]);
         let from = at + run.start;
         let to = at + run.end;
         if from == to {
-            return self.over();
+            return None;
         }
-        self.named(
-            to,
-            &input[from..to],
-            image,
-            table,
-            names,
-            bytes,
-            words,
-            line,
-        )
-    }
-
-    // The next line: the first name from here on is offered. Its length is 0 where no name is left.
-    pub fn next(
-        self,
-        input: &[u8],
-        image: &[u8; IMAGE_BYTES],
-        table: &[u16; TABLE_WORDS],
-        names: &[u8; NAMES_BYTES],
-        bytes: &mut [u8; CAPACITY],
-        words: &mut [u16; CAPACITY],
-        line: &mut [u8; LINE_BYTES],
-    ) -> Line
-        ensures turn { turn_from result bytes.new words.new line.new
-            ≡ turn_of (walk_in self) (next_of (watch_in (walk_in self) image.now table.now names.now
-            bytes.old words.old)
-            input.now self.at) line.old }
-        ensures fits { result.length ≤ line_most }
-        ensures onward { (result.length ≡ 0 → ⊥) → (self.at < result.walk.at) × (result.walk.at ≤ length input.now) }
-    {
-        let image_end = within(self.image, IMAGE_BYTES);
-        let table_end = within(self.table, TABLE_WORDS);
-        let images: &[u8] = image;
-        let tables: &[u16] = table;
-        self.turn(
-            input,
-            &images[..image_end],
-            &tables[..table_end],
-            names,
-            bytes,
-            words,
-            line,
-        )
+        Some(self.named(to, &input[from..to], memory))
     }
 }

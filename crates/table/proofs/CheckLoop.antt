@@ -8,65 +8,58 @@ use mathlib.Core.Logic.{◌≢◌, ⊎_elim}
 use mathlib.Core.List.{List}
 use native.Mathlib.Omega.{arith}
 use lib.Dec.{ltb}
-use lib.ListN.{length, get_or, length-set, set as store}
+use lib.ListN.{length, length-set}
 use borrow.Author.Tests.{ltb-true, ltb-false, not-true, not-false}
 use Rattle.rewriting.specs.Rules.{RuleSet, in_range}
 use Rattle.rewriting.proofs.Ranges.{ranges}
 use Rattle.layout.specs.ImageCheck.{Decides}
 use Rattle.layout.proofs.ImageCheck.{decided, denied}
 use Rattle.layout.specs.States.{states}
-use Rattle.layout.specs.Words.{root, transition, own_or}
-use Rattle.trie.specs.Nodes.{parent, symbol, children, matched, failure, TrieOf, Owned, failure_by}
-use Rattle.table.specs.Consistent.{differing, Passes, Passed, RootPassed, MarkPassed, RightTable}
+use Rattle.layout.specs.Words.{root, transition}
+use Rattle.trie.specs.declared.Node.{Node}
+use Rattle.trie.specs.Nodes.{parent, symbol, failure, TrieOf, Owned, failure_by}
+use Rattle.table.specs.Consistent.{Passes, Passed, RootPassed, MarkPassed, RightTable}
 use Rattle.layout.proofs.States.{few_states}
 use Rattle.layout.proofs.RowPlaces.{row_end, word_within}
 use Rattle.trie.proofs.Growth.{node_cases}
-use Rattle.trie.proofs.Kept.{parent_kept, symbol_kept, children_kept, failure_set, failure_other, matched_same, failure_kept, trie_kept}
+use Rattle.trie.proofs.Kept.{with_failure, parent_kept, symbol_kept, children_kept, failure_set, failure_other, matched_same, failure_kept, trie_kept}
 use Rattle.table.proofs.PassesRight.{consistent_right}
 use Rattle.table.proofs.RightPasses.{right_passes, right_inside, right_root, right_mark}
 
--- state q passes, by what the code of its tests read and counted
-pub passes : (t matches rows : List ℕ) (symbols q : ℕ) {word f n : ℕ}
-    → transition rows symbols (parent t q) (symbol t q) ≡ q
-    → word ≡ own_or (matched t q) (get_or matches (failure t q) 0) → word ≡ get_or matches q 0
-    → f ≡ failure t q → n ≡ differing rows symbols q f → n ≡ children t q → Passes t matches rows symbols q
-passes t matches rows symbols q led inherits same fails differs count =
-    record { led = led; inherits = sym same ∙ inherits; differs = rw (← fails) (sym differs ∙ count) }
-
 -- A check keeps node q's failure state, and what was tested before stays.
-module _ (t : List ℕ) (q f : ℕ) where
+module _ (t : List Node) (q f : ℕ) (inside : q < length t) where
   module _ (set : RuleSet) (trie : TrieOf set t) (far : root set.rules < q) (lt : q < length (states set.rules)) where
     -- the trie stays the trie: q is not the mark's node
-    pub trie_checked : TrieOf set (store t (8 * q + 7) f)
-    trie_checked = trie_kept (failure_kept t q f lt) (failure_other t q f 0 (λ e. omega arith) ∙ trie.mark_failure) trie
+    pub trie_checked : TrieOf set (with_failure t q f)
+    trie_checked = trie_kept (failure_kept t q f inside lt) (failure_other t q f inside 0 (λ e. omega arith) ∙ trie.mark_failure) trie
 
     -- the way to a failure state leads by nodes before
     pub failure_by_kept : (rows : List ℕ) (c : ℕ) → root set.rules < c → c ≤ q
-        → failure_by (store t (8 * q + 7) f) rows set.symbols (root set.rules) c ≡ failure_by t rows set.symbols (root set.rules) c
+        → failure_by (with_failure t q f) rows set.symbols (root set.rules) c ≡ failure_by t rows set.symbols (root set.rules) c
     unfolding failure_by
     failure_by_kept rows c behind less =
         let up = trie.linked.up c behind (omega arith) in
-        let same = failure_kept t q f lt in
-        rw (parent_kept same c, symbol_kept same c, failure_other t q f (parent t c) (λ e. omega arith))
+        let same = failure_kept t q f inside lt in
+        rw (parent_kept same c, symbol_kept same c, failure_other t q f inside (parent t c) (λ e. omega arith))
 
     passed_kept : {matches rows : List ℕ} {n c : ℕ} → root set.rules < c → c < q
         → Passed t matches rows set.symbols (root set.rules) n c
-        → Passed (store t (8 * q + 7) f) matches rows set.symbols (root set.rules) n c
+        → Passed (with_failure t q f) matches rows set.symbols (root set.rules) n c
     passed_kept {rows = rows} {c = c} behind less p =
-        let same = failure_kept t q f lt in
-        let other : failure (store t (8 * q + 7) f) c ≡ failure t c = failure_other t q f c (λ e. omega arith) in
+        let same = failure_kept t q f inside lt in
+        let other : failure (with_failure t q f) c ≡ failure t c = failure_other t q f inside c (λ e. omega arith) in
         record {
           failing = other ∙ p.failing ∙ sym (failure_by_kept rows c behind (omega arith));
           inside = rw other p.inside;
           passing = record {
             led = rw (parent_kept same c, symbol_kept same c) p.passing.led;
-            inherits = rw (matched_same t q f c, other) p.passing.inherits;
+            inherits = rw (matched_same t q f inside c, other) p.passing.inherits;
             differs = rw (other, children_kept same c) p.passing.differs;
           };
         }
 
 -- What is known when the check reaches node q, behind the root: the nodes before it have passed.
-pub record Checked (set : RuleSet) (t matches rows : List ℕ) (q : ℕ) : Type 0 where
+pub record Checked (set : RuleSet) (t : List Node) (matches rows : List ℕ) (q : ℕ) : Type 0 where
   pub trie : TrieOf set t
   pub owned : Owned set.rules (states set.rules) t
   pub top : RootPassed t matches rows set.symbols (root set.rules)
@@ -75,14 +68,14 @@ pub record Checked (set : RuleSet) (t matches rows : List ℕ) (q : ℕ) : Type 
   pub passed : (c : ℕ) → root set.rules < c → c < q
       → Passed t matches rows set.symbols (root set.rules) (length (states set.rules)) c
 
-module _ {set : RuleSet} (in_range_lem : in_range set ≡ true) {t matches rows : List ℕ} where
+module _ {set : RuleSet} (in_range_lem : in_range set ≡ true) {t : List Node} {matches rows : List ℕ} where
   -- where all have, the table is right
   checked_all : {q : ℕ} → length (states set.rules) ≤ q → Checked set t matches rows q → RightTable set.rules set.symbols matches rows
   checked_all done k =
       consistent_right set in_range_lem t matches rows k.trie k.owned k.top k.first (λ c behind lt. k.passed c behind (omega arith))
 
   module _ {q : ℕ} (k : Checked set t matches rows q) (lt : q < length (states set.rules)) where
-    room : 8 * q + 7 < length t
+    room : q < length t
     room = omega (arith, k.trie.linked.size)
 
     -- a failure state that is no state is found in no right table
@@ -92,31 +85,31 @@ module _ {set : RuleSet} (in_range_lem : in_range set ≡ true) {t matches rows 
         outside (right_inside set t matches rows k.trie right q k.started lt (λ c behind less. (k.passed c behind less).failing))
 
     module _ {f : ℕ} (found : f ≡ failure_by t rows set.symbols (root set.rules) q) where
-      found_kept : failure (store t (8 * q + 7) f) q ≡ failure_by (store t (8 * q + 7) f) rows set.symbols (root set.rules) q
+      found_kept : failure (with_failure t q f) q ≡ failure_by (with_failure t q f) rows set.symbols (root set.rules) q
       found_kept =
-          failure_set t q f room ∙ found ∙ sym (failure_by_kept t q f set k.trie k.started lt rows q k.started (omega arith))
+          failure_set t q f room ∙ found ∙ sym (failure_by_kept t q f room set k.trie k.started lt rows q k.started (omega arith))
 
       -- nor does a right table fail the tests of q
-      wrong_state : (Passes (store t (8 * q + 7) f) matches rows set.symbols q → ⊥) → RightTable set.rules set.symbols matches rows → ⊥
+      wrong_state : (Passes (with_failure t q f) matches rows set.symbols q → ⊥) → RightTable set.rules set.symbols matches rows → ⊥
       wrong_state fails right =
           fails
-          (right_passes set (store t (8 * q + 7) f) matches rows (trie_checked t q f set k.trie k.started lt) right in_range_lem
-          (λ c h. matched_same t q f c ∙ k.owned c h) q k.started lt (λ c behind less. failing c behind less (ltb c q) refl))
+          (right_passes set (with_failure t q f) matches rows (trie_checked t q f room set k.trie k.started lt) right in_range_lem
+          (λ c h. matched_same t q f room c ∙ k.owned c h) q k.started lt (λ c behind less. failing c behind less (ltb c q) refl))
         where
           failing : (c : ℕ) → root set.rules < c → c ≤ q → (b : Bool) → ltb c q ≡ b
-              → failure (store t (8 * q + 7) f) c ≡ failure_by (store t (8 * q + 7) f) rows set.symbols (root set.rules) c
+              → failure (with_failure t q f) c ≡ failure_by (with_failure t q f) rows set.symbols (root set.rules) c
           failing c behind less true l =
-              (passed_kept t q f set k.trie k.started lt behind (ltb-true c q l) (k.passed c behind (ltb-true c q l))).failing
+              (passed_kept t q f room set k.trie k.started lt behind (ltb-true c q l) (k.passed c behind (ltb-true c q l))).failing
           failing c behind less false l = let here : c ≡ q = omega (arith, ltb-false c q l) in rw here found_kept
 
       -- where q passes too, the check goes on behind it
-      checked_more : f < length (states set.rules) → Passes (store t (8 * q + 7) f) matches rows set.symbols q
-          → Checked set (store t (8 * q + 7) f) matches rows (q + 1)
+      checked_more : f < length (states set.rules) → Passes (with_failure t q f) matches rows set.symbols q
+          → Checked set (with_failure t q f) matches rows (q + 1)
       checked_more inside passing =
-          let same = failure_kept t q f lt in
+          let same = failure_kept t q f room lt in
           record {
-            trie = trie_checked t q f set k.trie k.started lt;
-            owned = λ c h. matched_same t q f c ∙ k.owned c h;
+            trie = trie_checked t q f room set k.trie k.started lt;
+            owned = λ c h. matched_same t q f room c ∙ k.owned c h;
             top = record { no_match_lem = k.top.no_match_lem; leads = k.top.leads ∙ sym (children_kept same (root set.rules)) };
             first = λ pos. record { no_match_lem = (k.first pos).no_match_lem; differs = (k.first pos).differs ∙ sym (children_kept same 0) };
             started = omega (arith, k.started);
@@ -124,16 +117,16 @@ module _ {set : RuleSet} (in_range_lem : in_range set ≡ true) {t matches rows 
           }
         where
           turn : (c : ℕ) → root set.rules < c → c < q + 1 → (b : Bool) → ltb c q ≡ b
-              → Passed (store t (8 * q + 7) f) matches rows set.symbols (root set.rules) (length (states set.rules)) c
+              → Passed (with_failure t q f) matches rows set.symbols (root set.rules) (length (states set.rules)) c
           turn c behind less true l =
-              passed_kept t q f set k.trie k.started lt behind (ltb-true c q l) (k.passed c behind (ltb-true c q l))
+              passed_kept t q f room set k.trie k.started lt behind (ltb-true c q l) (k.passed c behind (ltb-true c q l))
           turn c behind less false l =
               let here : c ≡ q = omega (arith, ltb-false c q l) in
               rw here
               (record { failing = found_kept; inside = rw (failure_set t q f room) inside; passing = passing })
 
 -- What the check of a table of n states and s symbols, whose root is `top`, is lent.
-pub record Lent (set : RuleSet) (t matches rows : List ℕ) (n s top : ℕ) : Type 0 where
+pub record Lent (set : RuleSet) (t : List Node) (matches rows : List ℕ) (n s top : ℕ) : Type 0 where
   pub in_range_lem : in_range set ≡ true
   pub all : n ≡ length (states set.rules)
   pub width : s ≡ set.symbols
@@ -143,14 +136,14 @@ pub record Lent (set : RuleSet) (t matches rows : List ℕ) (n s top : ℕ) : Ty
   pub words : n ≡ length matches
   pub lines : n * set.symbols ≡ length rows
 
-module _ {set : RuleSet} {t matches rows : List ℕ} {n s top : ℕ} (k : Lent set t matches rows n s top) where
+module _ {set : RuleSet} {t : List Node} {matches rows : List ℕ} {n s top : ℕ} (k : Lent set t matches rows n s top) where
   wide : n * s ≡ length rows
   wide = rw k.width k.lines
 
   top_below : top < n
   top_below = omega (arith, k.trie.some_node, k.all, k.is-root)
 
-  pub root_asks : (s ≤ 32) × ((top ≤ 1) × ((8 * top + 5 < length t) × ((top < length matches) × (top * s + s ≤ length rows))))
+  pub root_asks : (s ≤ 32) × ((top ≤ 1) × ((top < length t) × ((top < length matches) × (top * s + s ≤ length rows))))
   root_asks =
       let row : top * s + s ≤ n * s = row_end s top n top_below in (
         omega (arith, (ranges set k.in_range_lem).few_symbols, k.width),
@@ -163,7 +156,7 @@ module _ {set : RuleSet} {t matches rows : List ℕ} {n s top : ℕ} (k : Lent s
         ),
       )
 
-  pub mark_asks : (s ≤ 32) × ((5 < length t) × ((0 < length matches) × ((0 * s + s ≤ length rows) × (top * s + s ≤ length rows))))
+  pub mark_asks : (s ≤ 32) × ((0 < length t) × ((0 < length matches) × ((0 * s + s ≤ length rows) × (top * s + s ≤ length rows))))
   mark_asks =
       let first : 0 * s + s ≤ n * s = row_end s 0 n (omega (arith, top_below)) in
       let asks = root_asks in
@@ -186,7 +179,7 @@ module _ {set : RuleSet} {t matches rows : List ℕ} {n s top : ℕ} (k : Lent s
       denied b (not-true b e) (mark_passed b d) (right_mark set t matches rows k.trie right (omega (arith, k.is-root)))
 
 -- What the check holds to when it reaches node q.
-pub record Checking (set : RuleSet) (t matches rows : List ℕ) (n s top q : ℕ) : Type 0 where
+pub record Checking (set : RuleSet) (t : List Node) (matches rows : List ℕ) (n s top q : ℕ) : Type 0 where
   pub in_range_lem : in_range set ≡ true
   pub all : n ≡ length (states set.rules)
   pub few : n ≤ 514
@@ -198,7 +191,7 @@ pub record Checking (set : RuleSet) (t matches rows : List ℕ) (n s top q : ℕ
   pub checked : Checked set t matches rows q
 
 -- with the tests of the root and, where it is not state 0, of the mark passed, the check begins behind the root
-pub checking_first : {set : RuleSet} {t matches rows : List ℕ} {n s top : ℕ} → Lent set t matches rows n s top
+pub checking_first : {set : RuleSet} {t : List Node} {matches rows : List ℕ} {n s top : ℕ} → Lent set t matches rows n s top
     → (b : Bool) → not b ≡ false → Decides b (RootPassed t matches rows s top)
     → (0 < top → (d : Bool) × (not d ≡ false) × Decides d (MarkPassed t matches rows s top))
     → (q : ℕ) → q ≡ top + 1 → Checking set t matches rows n s top q
@@ -225,7 +218,7 @@ checking_first {set} {t} {matches} {rows} {n} {s} {top} k b e d first q is =
           };
     }
 
-module _ {set : RuleSet} {t matches rows : List ℕ} {n s top q : ℕ} (k : Checking set t matches rows n s top q) where
+module _ {set : RuleSet} {t : List Node} {matches rows : List ℕ} {n s top q : ℕ} (k : Checking set t matches rows n s top q) where
   pub checking_end : n ≤ q → RightTable set.rules set.symbols matches rows
   checking_end done = checked_all k.in_range_lem (omega (arith, k.all)) k.checked
 
@@ -233,7 +226,7 @@ module _ {set : RuleSet} {t matches rows : List ℕ} {n s top q : ℕ} (k : Chec
     listed_below : q < length (states set.rules)
     listed_below = omega (arith, k.all)
 
-    pub node_room : 8 * q + 7 < length t
+    pub node_room : q < length t
     node_room = omega (arith, k.checked.trie.linked.size, listed_below)
 
     parent_below : parent t q < q
@@ -251,13 +244,13 @@ module _ {set : RuleSet} {t matches rows : List ℕ} {n s top q : ℕ} (k : Chec
         rw (p.0, k.checked.trie.mark_failure) (omega (arith, k.all, k.checked.trie.some_node)))
         (node_cases (root set.rules) (states set.rules) set.symbols t k.checked.trie c other)
 
-    pub led_asks : (8 * q + 1 < length t) × (parent t q * s + symbol t q < length rows)
+    pub led_asks : (q < length t) × (parent t q * s + symbol t q < length rows)
     led_asks = (
       omega (arith, node_room),
       rw (← k.lines) (word_within s (parent t q) n (symbol t q) (omega (arith, parent_below)) symbol-below),
     )
 
-    pub failure_asks : (8 * q + 1 < length t) × ((8 * parent t q + 7 < length t)
+    pub failure_asks : (q < length t) × ((parent t q < length t)
         × (parent t q ≢ top → failure t (parent t q) * s + symbol t q < length rows))
     failure_asks = (omega (arith, node_room), (omega (arith, node_room, parent_below), row))
       where
@@ -279,24 +272,24 @@ module _ {set : RuleSet} {t matches rows : List ℕ} {n s top q : ℕ} (k : Chec
         → RightTable set.rules set.symbols matches rows → ⊥
     not_led {child} read elsewhere right =
         let f = failure_by t rows set.symbols (root set.rules) q in
-        let same = failure_kept t q f listed_below in
+        let same = failure_kept t q f node_room listed_below in
         wrong_state k.in_range_lem k.checked listed_below {f = f} refl
-        (λ p. elsewhere (read ∙ rw (k.width, ← parent_kept same q, ← symbol_kept same q) p.led)) right
+        (λ p. elsewhere (read ∙ rw k.width (rw (parent_kept same q, symbol_kept same q) at p.led))) right
 
     module _ {f : ℕ} (found : f ≡ failure_by t rows s top q) where
-      pub no_state : (b : Bool) → not b ≡ true → Decides b (Passes (store t (8 * q + 7) f) matches rows s q)
+      pub no_state : (b : Bool) → not b ≡ true → Decides b (Passes (with_failure t q f) matches rows s q)
           → RightTable set.rules set.symbols matches rows → ⊥
       no_state b e passes right =
           wrong_state k.in_range_lem k.checked listed_below (by_root found) (denied b (not-true b e) (rw (← k.width) passes)) right
 
       module _ (inside : f < n) where
         pub state_asks : transition rows s (parent t q) (symbol t q) ≡ q
-            → (s ≤ 32) × ((8 * q + 7 < length (store t (8 * q + 7) f))
-            × ((transition rows s (parent (store t (8 * q + 7) f) q) (symbol (store t (8 * q + 7) f) q) ≡ q)
-            × (((q < length matches) × (failure (store t (8 * q + 7) f) q < length matches))
-            × ((q * s + s ≤ length rows) × (failure (store t (8 * q + 7) f) q * s + s ≤ length rows)))))
+            → (s ≤ 32) × ((q < length (with_failure t q f))
+            × ((transition rows s (parent (with_failure t q f) q) (symbol (with_failure t q f) q) ≡ q)
+            × (((q < length matches) × (failure (with_failure t q f) q < length matches))
+            × ((q * s + s ≤ length rows) × (failure (with_failure t q f) q * s + s ≤ length rows)))))
         state_asks led =
-            let same = failure_kept t q f listed_below in (
+            let same = failure_kept t q f node_room listed_below in (
               omega (arith, k.width, (ranges set k.in_range_lem).few_symbols),
               (
                 rw length-set node_room,
@@ -310,8 +303,8 @@ module _ {set : RuleSet} {t matches rows : List ℕ} {n s top q : ℕ} (k : Chec
               ),
             )
 
-        pub checking_more : (b : Bool) → not b ≡ false → Decides b (Passes (store t (8 * q + 7) f) matches rows s q)
-            → Checking set (store t (8 * q + 7) f) matches rows n s top (q + 1)
+        pub checking_more : (b : Bool) → not b ≡ false → Decides b (Passes (with_failure t q f) matches rows s q)
+            → Checking set (with_failure t q f) matches rows n s top (q + 1)
         checking_more b e passes =
             record {
               in_range_lem = k.in_range_lem;

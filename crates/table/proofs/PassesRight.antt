@@ -17,6 +17,7 @@ use Rattle.rewriting.proofs.Redex.{non_empty}
 use Rattle.layout.specs.States.{starts, symbols_in, state, next, matching, known, states, number}
 use Rattle.layout.specs.Table.{match_word}
 use Rattle.layout.specs.Words.{root, text, transition}
+use Rattle.trie.specs.declared.Node.{Node}
 use Rattle.trie.specs.Nodes.{parent, symbol, failure, TrieOf, Owned, RightFailure}
 use Rattle.table.specs.Consistent.{differing, leaving, Passed, RootPassed, MarkPassed, RightTable}
 use Rattle.layout.proofs.Matching.{Plain}
@@ -34,11 +35,11 @@ plain_behind set in_range_lem c lt = go (text set.rules c) refl
     go (y ∷ p) e = state_plain set in_range_lem c y p lt e
 
 -- the failure state of the mark alone is the root
-pub mark_fails : (set : RuleSet) (t : List ℕ) → TrieOf set t → 0 < root set.rules → RightFailure set.rules t 0
+pub mark_fails : (set : RuleSet) (t : List Node) → TrieOf set t → 0 < root set.rules → RightFailure set.rules t 0
 unfolding state
 mark_fails set t trie pos = trie.mark_failure ∙ rw (trie.mark_alone pos) (sym (number-root set.rules))
 
-module _ (set : RuleSet) (in_range_lem : in_range set ≡ true) (t matches rows : List ℕ) (trie : TrieOf set t)
+module _ (set : RuleSet) (in_range_lem : in_range set ≡ true) (t : List Node) (matches rows : List ℕ) (trie : TrieOf set t)
     (owned : Owned set.rules (states set.rules) t) (top : RootPassed t matches rows set.symbols (root set.rules))
     (first : 0 < root set.rules → MarkPassed t matches rows set.symbols (root set.rules))
     (each : (c : ℕ) → root set.rules < c → c < length (states set.rules)

@@ -15,6 +15,7 @@ use Rattle.rewriting.proofs.Redex.{non_empty}
 use Rattle.layout.specs.States.{starts, symbols_in, state, next, matching, states, number}
 use Rattle.layout.specs.Table.{match_word}
 use Rattle.layout.specs.Words.{root, text, failure_state, transition}
+use Rattle.trie.specs.declared.Node.{Node}
 use Rattle.trie.specs.Nodes.{parent, symbol, failure, TrieOf, Owned, RightFailure, failure_by}
 use Rattle.table.specs.Consistent.{differing, leaving, Passes, RootPassed, MarkPassed, RightTable}
 use Rattle.layout.proofs.States.{known_at, next_listed, number-root, state_long}
@@ -23,7 +24,7 @@ use Rattle.trie.proofs.Failure.{FailsTo, fails_to, match_failure, failure_found}
 use Rattle.table.proofs.RowBeside.{inherits_failure, inherits_root, differs_child}
 use Rattle.table.proofs.PassesRight.{plain_behind, mark_fails}
 
-module _ (set : RuleSet) (t matches rows : List ℕ) (trie : TrieOf set t) (right : RightTable set.rules set.symbols matches rows) where
+module _ (set : RuleSet) (t : List Node) (matches rows : List ℕ) (trie : TrieOf set t) (right : RightTable set.rules set.symbols matches rows) where
   up : (c : ℕ) → root set.rules < c → c < length (states set.rules) → parent t c < length (states set.rules)
   up c behind lt = omega (arith, trie.linked.up c behind lt)
 

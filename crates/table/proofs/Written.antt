@@ -15,6 +15,7 @@ use Rattle.layout.specs.States.{states, matching}
 use Rattle.layout.specs.Table.{match_word, row, table_of}
 use Rattle.layout.proofs.Image.{valid-in_range}
 use Rattle.layout.proofs.Table.{length-row, length_table, table_length}
+use Rattle.trie.specs.declared.Node.{Node}
 use Rattle.trie.specs.Nodes.{Built}
 
 -- an area whose first two words are n and s
@@ -111,7 +112,7 @@ module _ (set : RuleSet) (table : List ℕ) {n s : ℕ} (all : n ≡ length (sta
           ∙ rw (all, width, filled, written)
 
 -- the number of words by the number of states that were built, within its bound
-pub words_built : (image : List ℕ) → valid image ≡ true → (n : ℕ) (t : List ℕ) → Built (read image) n t → (s : ℕ) → s ≡ (read image).symbols
+pub words_built : (image : List ℕ) → valid image ≡ true → (n : ℕ) (t : List Node) → Built (read image) n t → (s : ℕ) → s ≡ (read image).symbols
     → (2 + n + n * s ≡ length (table_of (read image))) × (2 + n + n * s ≤ 16964)
 words_built image e n t b s is =
     let w : 2 + n + n * s ≡ length (table_of (read image)) = rw (b.nodes, is) (sym (length_table (read image))) in

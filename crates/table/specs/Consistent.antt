@@ -6,6 +6,7 @@ use Rattle.rewriting.specs.Rules.{Rule}
 use Rattle.layout.specs.States.{states, number, next, matching}
 use Rattle.layout.specs.Table.{match_word}
 use Rattle.layout.specs.Words.{text, transition, own_or}
+use Rattle.trie.specs.declared.Node.{Node}
 use Rattle.trie.specs.Nodes.{parent, symbol, children, matched, failure, tally, failure_by}
 
 -- in how many words the rows of q and f differ
@@ -18,24 +19,24 @@ leaving rows symbols root = tally (λ a. not (eqb (transition rows symbols root 
 
 -- The tests of state q, behind the root, whose failure state its node holds: its parent leads to it; its match word
 -- is its own or its failure state's; its row differs from its failure state's in as many words as it has children.
-pub record Passes (t matches rows : List ℕ) (symbols q : ℕ) : Type 0 where
+pub record Passes (t : List Node) (matches rows : List ℕ) (symbols q : ℕ) : Type 0 where
   pub led : transition rows symbols (parent t q) (symbol t q) ≡ q
   pub inherits : get_or matches q 0 ≡ own_or (matched t q) (get_or matches (failure t q) 0)
   pub differs : differing rows symbols q (failure t q) ≡ children t q
 
 -- state q passes its tests, and its node holds a failure state that is a state, by its parent's
-pub record Passed (t matches rows : List ℕ) (symbols root n q : ℕ) : Type 0 where
+pub record Passed (t : List Node) (matches rows : List ℕ) (symbols root n q : ℕ) : Type 0 where
   pub failing : failure t q ≡ failure_by t rows symbols root q
   pub inside : failure t q < n
   pub passing : Passes t matches rows symbols q
 
 -- the tests of the root
-pub record RootPassed (t matches rows : List ℕ) (symbols root : ℕ) : Type 0 where
+pub record RootPassed (t : List Node) (matches rows : List ℕ) (symbols root : ℕ) : Type 0 where
   pub no_match_lem : get_or matches root 0 ≡ 0
   pub leads : leaving rows symbols root ≡ children t root
 
 -- the tests of the mark alone, where it is state 0: no state leads to it, and the root is its failure state
-pub record MarkPassed (t matches rows : List ℕ) (symbols root : ℕ) : Type 0 where
+pub record MarkPassed (t : List Node) (matches rows : List ℕ) (symbols root : ℕ) : Type 0 where
   pub no_match_lem : get_or matches 0 0 ≡ 0
   pub differs : differing rows symbols 0 root ≡ children t 0
 

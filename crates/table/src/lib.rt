@@ -1,54 +1,51 @@
 // The matching table: compile, and the check that a lent table is the one that compile gives.
 #![tactic(auto)]
 
-ghost use Rattle.std.specs.Prelude.{◌≡◌, true, length, replicate};
+ghost use Rattle.std.specs.Prelude.{◌≤◌, ◌≡◌, length};
 ghost use Rattle.rewriting.specs.Lists.{prefix};
-ghost use Rattle.layout.specs.Image.{read, valid};
 ghost use Rattle.layout.specs.Table.{table_of};
 ghost use Rattle.layout.specs.Refusals.{numbered};
 ghost use Rattle.layout.specs.Compile.{compile_of};
 ghost use Rattle.layout.specs.TableCheck.{check_of};
-ghost use Rattle.layout.specs.Words as Words;
+ghost use Rattle.image.specs.Sets.{set_of};
 ghost use Rattle.trie.specs.Nodes.{Roomy, Built};
 
-use image::wide;
+use image::Rooted;
 use layout::Refusal;
-use trie::{FEW_WORDS, WORDS, rows};
+use trie::{FEW_NODES, NODES, Node, rows};
 
 mod compare;
 
-// The table of the image, into an area of its length, from the trie of its n states.
-fn write(image: &[u8], root: usize, nodes: &mut [u16], n: usize, table: &mut [u16])
-    requires image { valid image.now ≡ true }
-    requires root { root ≡ Words.root (read image.now).rules }
-    requires trie { Built (read image.now) n nodes.old }
-    requires size { length table.old ≡ length (table_of (read image.now)) }
-    ensures { table.new ≡ table_of (read image.now) }
+// The table of the image, into an area of its length, from the trie of its states.
+fn write(rooted: Rooted<'_>, trie: &mut [Node], table: &mut [u16])
+    requires trie { Built (set_of rooted.image) (length trie.old) trie.old }
+    requires size { length table.old ≡ length (table_of (set_of rooted.image)) }
+    ensures { table.new ≡ table_of (set_of rooted.entry.image) }
 {
-    let s = image::symbols(image);
+    let n = trie.len();
+    let s = rooted.image.symbols();
     table[0] = n as u16;
     table[1] = s as u16;
     let rows = 2 + n;
-    rows::fill(image, root, nodes, n, &mut table[rows..]);
-    rows::write_matches(image, nodes, n, &mut table[2..rows]);
+    rows::fill(rooted, trie, &mut table[rows..]);
+    rows::write_matches(rooted.image.bytes, trie, &mut table[2..rows]);
 }
 
-// Compile for a valid image, with words for the trie. It is built first, since the number of states decides whether the
-// table fits.
-fn compile_with(image: &[u8], root: usize, nodes: &mut [u16], table: &mut [u16]) -> Result<usize, Refusal>
-    requires image { valid image.now ≡ true }
-    requires root { root ≡ Words.root (read image.now).rules }
-    requires words { (nodes.old ≡ replicate (length nodes.old) 0) × (Roomy (read image.now) (length nodes.old)) }
-    ensures answer { numbered result ≡ (compile_of image.now table.old).answer }
-    ensures area { table.new ≡ (compile_of image.now table.old).area }
+// Compile for an image, with N nodes for the trie. It is built first, since the number of states decides whether the table fits.
+fn compile_with<const N: usize>(rooted: Rooted<'_>, table: &mut [u16]) -> Result<usize, Refusal>
+    requires room { Roomy (set_of rooted.image) N }
+    requires bounded { N ≤ 514 }
+    ensures answer { numbered result ≡ (compile_of rooted.entry.image.bytes.now table.old).answer }
+    ensures area { table.new ≡ (compile_of rooted.entry.image.bytes.now table.old).area }
 {
-    trie::begin(image, root, nodes);
-    let n = trie::build(image, root, nodes);
-    let words = 2 + n + n * image::symbols(image);
+    let mut nodes = [Node::UNUSED; N];
+    trie::begin(rooted, &mut nodes);
+    let n = trie::build(rooted, &mut nodes);
+    let words = 2 + n + n * rooted.image.symbols();
     if table.len() < words {
         return Err(Refusal::ShortTable);
     }
-    write(image, root, nodes, n, &mut table[..words]);
+    write(rooted, &mut nodes[..n], &mut table[..words]);
     Ok(words)
 }
 
@@ -58,56 +55,46 @@ pub fn compile(image: &[u8], table: &mut [u16]) -> Result<usize, Refusal>
     ensures answer { numbered result ≡ (compile_of image.now table.old).answer }
     ensures area { table.new ≡ (compile_of image.now table.old).area }
 {
-    let validity = validity::validity(image);
-    if 0 < validity {
-        let root = wide::byte(validity - 1);
-        if image::bodies_length(image) < 63 {
-            let mut few = [0u16; FEW_WORDS];
-            return compile_with(image, root, &mut few, table);
-        }
-        let mut nodes = [0u16; WORDS];
-        return compile_with(image, root, &mut nodes, table);
+    let Some(rooted) = validity::validity(image) else {
+        return Err(Refusal::BadImage);
+    };
+    if rooted.image.bodies_length() < 63 {
+        compile_with::<FEW_NODES>(rooted, table)
+    } else {
+        compile_with::<NODES>(rooted, table)
     }
-    return Err(Refusal::BadImage);
 }
 
-// Whether the table begins with that of a valid image, with words for the trie.
-fn begins_by(image: &[u8], root: usize, nodes: &mut [u16], table: &[u16]) -> bool
-    requires image { valid image.now ≡ true }
-    requires root { root ≡ Words.root (read image.now).rules }
-    requires words { (nodes.old ≡ replicate (length nodes.old) 0) × (Roomy (read image.now) (length nodes.old)) }
-    ensures { result ≡ prefix (table_of (read image.now)) table.now }
+// Whether the table begins with that of the image, with N nodes for the trie.
+fn begins_by<const N: usize>(rooted: Rooted<'_>, table: &[u16]) -> bool
+    requires room { Roomy (set_of rooted.image) N }
+    requires bounded { N ≤ 514 }
+    ensures { result ≡ prefix (table_of (set_of rooted.entry.image)) table.now }
 {
-    trie::begin(image, root, nodes);
-    let n = trie::build(image, root, nodes);
-    compare::holds(image, root, nodes, n, table)
+    let mut nodes = [Node::UNUSED; N];
+    trie::begin(rooted, &mut nodes);
+    let n = trie::build(rooted, &mut nodes);
+    compare::holds(rooted, &mut nodes[..n], table)
 }
 
 // The same, with an array of the rule set's size.
-fn begins_with_table(image: &[u8], root: usize, table: &[u16]) -> bool
-    requires image { valid image.now ≡ true }
-    requires root { root ≡ Words.root (read image.now).rules }
-    ensures { result ≡ prefix (table_of (read image.now)) table.now }
+fn begins_with_table(rooted: Rooted<'_>, table: &[u16]) -> bool
+    ensures { result ≡ prefix (table_of (set_of rooted.entry.image)) table.now }
 {
-    if image::bodies_length(image) < 63 {
-        let mut few = [0u16; FEW_WORDS];
-        return begins_by(image, root, &mut few, table);
+    if rooted.image.bodies_length() < 63 {
+        begins_by::<FEW_NODES>(rooted, table)
+    } else {
+        begins_by::<NODES>(rooted, table)
     }
-    let mut nodes = [0u16; WORDS];
-    begins_by(image, root, &mut nodes, table)
 }
 
 // The check of a lent image and table: refusals 7 and 9.
 pub fn check(image: &[u8], table: &[u16]) -> Result<(), Refusal>
     ensures { numbered result ≡ check_of image.now table.now }
 {
-    let validity = validity::validity(image);
-    if 0 < validity {
-        let root = wide::byte(validity - 1);
-        if begins_with_table(image, root, table) {
-            return Ok(());
-        }
-        return Err(Refusal::OtherTable);
+    match validity::validity(image) {
+        None => Err(Refusal::BadImage),
+        Some(rooted) if begins_with_table(rooted, table) => Ok(()),
+        Some(_) => Err(Refusal::OtherTable),
     }
-    Err(Refusal::BadImage)
 }

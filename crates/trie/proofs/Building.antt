@@ -10,8 +10,8 @@ use mathlib.Core.List.{List, [], ◌∷◌, ◌++◌, flat_map}
 use native.Mathlib.Omega.{arith}
 use native.Mathlib.Numerals.{add-one}
 use lib.Dec.{eqb, ltb}
-use lib.ListN.{length, get_or, take, replicate, length-set, set as store}
-use lib.Seq.{take_all, length-take-le, set-get_or, get_or-set_same, get_or-set_other}
+use lib.ListN.{length, get_or, take, replicate, length-set}
+use lib.Seq.{take_all, length-take-le, set-get_or}
 use borrow.Author.Tests.{eqb-true, eqb-false, ne_eqb, ltb-true, ltb-false}
 use Rattle.rewriting.specs.Lists.{alike, same}
 use Rattle.rewriting.specs.Rules.{Rule, RuleSet, rule, in_range}
@@ -27,7 +27,10 @@ use Rattle.layout.specs.Table.{match_word}
 use Rattle.layout.specs.Words.{root, own}
 use Rattle.layout.proofs.Matching.{Plain, pattern-own, own-pattern}
 use Rattle.layout.proofs.States.{root_small, first_root, first_mark, first_once}
+use Rattle.trie.specs.declared.Node.{Node}
 use Rattle.trie.specs.Nodes.{
+  unused,
+  node,
   depth,
   youngest,
   matched,
@@ -43,7 +46,8 @@ use Rattle.trie.specs.Nodes.{
 }
 use Rattle.trie.proofs.Tally.{tally-none}
 use Rattle.trie.proofs.Growth.{node_once}
-use Rattle.trie.proofs.Kept.{trie_kept, claimed_other, claimed_kept}
+use Rattle.trie.proofs.Nodes.{node_same, node_other}
+use Rattle.trie.proofs.Kept.{trie_kept, taken_length, taken_node, trie_taken, claimed_other, claimed_failure, claimed_kept}
 use Rattle.trie.proofs.Walking.{take-rule, few_first, symbols_within, symbols_next}
 
 -- the rule has this mark and this left side
@@ -81,8 +85,8 @@ fits-pattern r v e =
     (same_eq r.left (symbols_in v) (and_right (alike (starts v) r.marked) (same r.left (symbols_in v)) e))
 
 -- Rule i claims the node that its left side ends in.
-module _ (set : RuleSet) (in_range_lem : in_range set ≡ true) (i : ℕ) (lt : i < length set.rules) (w : Walked) (t : List ℕ)
-    (f : FollowedRule set i w t) (room : 8 * w.nodes ≤ length t) where
+module _ (set : RuleSet) (in_range_lem : in_range set ≡ true) (i : ℕ) (lt : i < length set.rules) (w : Walked) (t : List Node)
+    (f : FollowedRule set i w t) (room : w.nodes ≤ length t) where
   own-next : (v : List ℕ)
       → own (take (suc i) set.rules) v
       ≡ option_or (own (take i set.rules) v) (cond (fits (starts v) (symbols_in v) (rule set.rules i)) (Some i) None)
@@ -98,7 +102,10 @@ module _ (set : RuleSet) (in_range_lem : in_range set ≡ true) (i : ℕ) (lt : 
   claimed-own = go (own (take i set.rules) (pattern (rule set.rules i))) (f.owned w.node (rw f.nodes at f.node) ∙ rw f.ends)
     where
       go : (o : Option ℕ) → matched t w.node ≡ match_word o → matched (claimed t w.node i) w.node ≡ match_word (option_or o (Some i))
-      go None e = rw e (get_or-set_same t (8 * w.node + 6) (i + 1) 0 (omega (arith, f.node)) ∙ add-one i)
+      go None e =
+          rw e
+          (ap (λ (x : Node). x.matched) (node_same t w.node (record (node t w.node) { matched = i + 1 }) (omega (arith, f.node)))
+          ∙ add-one i)
       go (Some k) e = rw (e, ne_eqb (suc k) 0 (λ z. omega arith)) e
 
   claimed_owned : Owned (take (suc i) set.rules) (states_of set (suc i)) (claimed t w.node i)
@@ -118,7 +125,7 @@ module _ (set : RuleSet) (in_range_lem : in_range set ≡ true) (i : ℕ) (lt : 
           rw (e, f.ends, own-next (pattern (rule set.rules i)), fits-own (rule set.rules i) plain) claimed-own
       go (inr other) =
           rw (own-next there, unlike (fits (starts there) (symbols_in there) (rule set.rules i)) refl)
-          (claimed_other t w.node i (8 * c + 6) (λ e. other (omega arith)) ∙ f.owned c h ∙ rw or_else-none)
+          (ap (λ (x : Node). x.matched) (claimed_other t w.node i c other) ∙ f.owned c h ∙ rw or_else-none)
         where
           unlike : (b : Bool) → fits (starts there) (symbols_in there) (rule set.rules i) ≡ b → b ≡ false
           unlike true e =
@@ -138,13 +145,13 @@ module _ (set : RuleSet) (in_range_lem : in_range set ≡ true) (i : ℕ) (lt : 
   grown_next =
       record {
         trie =
-            trie_kept (claimed_kept t w.node i (rw f.nodes at f.node))
-            (claimed_other t w.node i 7 (λ e. omega arith) ∙ f.trie.mark_failure) f.trie;
+            trie_kept (claimed_kept t w.node i (rw f.nodes at f.node) (omega (arith, f.node)))
+            (claimed_failure t w.node i (omega (arith, f.node)) 0 ∙ f.trie.mark_failure) f.trie;
         owned = claimed_owned;
       }
 
 -- The trie after i rules, the number of its nodes and where the next rule's left side begins.
-pub record Building (set : RuleSet) (words i n at : ℕ) (t : List ℕ) : Type 0 where
+pub record Building (set : RuleSet) (words i n at : ℕ) (t : List Node) : Type 0 where
   pub within : i ≤ length set.rules
   pub grown : Grown set i t
   pub nodes : n ≡ length (states_of set i)
@@ -160,45 +167,42 @@ first_count set = go (has_mark set.rules)
     go true = refl
     go false = refl
 
--- words that are all 0, with the first nodes planted, hold the trie of no rules
-module _ (set : RuleSet) (in_range_lem : in_range set ≡ true) (t : List ℕ) (zeros : t ≡ replicate (length t) 0) (roomy : Roomy set (length t)) where
-  zero_at : (k : ℕ) → get_or t k 0 ≡ 0
-  zero_at k = ap (λ (l : List ℕ). get_or l k 0) zeros ∙ go (length t) k
+-- nodes that are all unused, with the first nodes planted, hold the trie of no rules
+module _ (set : RuleSet) (in_range_lem : in_range set ≡ true) (t : List Node) (clear : t ≡ replicate (length t) unused) (roomy : Roomy set (length t)) where
+  unused_at : (c : ℕ) → node t c ≡ unused
+  unused_at c = ap (λ (l : List Node). node l c) clear ∙ go (length t) c
     where
-      go : (n k : ℕ) → get_or (replicate {A = ℕ} n 0) k 0 ≡ 0
-      go zero k = refl
+      go : (n c : ℕ) → node (replicate n unused) c ≡ unused
+      go zero c = refl
       go (suc n) zero = refl
-      go (suc n) (suc k) = go n k
+      go (suc n) (suc c) = go n c
 
   planted_size : length (planted (root set.rules) t) ≡ length t
   unfolding planted
   planted_size = simp length-set
 
-  -- three words of node 0, and zeros
-  planted-zero : (k : ℕ) → k ≢ 0 → k ≢ 2 → k ≢ 7 → get_or (planted (root set.rules) t) k 0 ≡ 0
+  -- node 0, and all others unused
+  planted_first : node (planted (root set.rules) t) 0
+      ≡ record unused { parent = root set.rules; depth = root set.rules; failure = root set.rules }
   unfolding planted
-  planted-zero k h0 h2 h7 = let z = zero_at k in simp get_or-set_other z
+  planted_first =
+      node_same t 0 (record unused { parent = root set.rules; depth = root set.rules; failure = root set.rules })
+      (omega (arith, roomy))
 
-  planted_parent : get_or (planted (root set.rules) t) 0 0 ≡ root set.rules
+  planted_other : (c : ℕ) → c ≢ 0 → node (planted (root set.rules) t) c ≡ unused
   unfolding planted
-  planted_parent =
-      let h2 : ◌≢◌ {A = ℕ} 0 2 = λ e. omega arith in
-      let h7 : ◌≢◌ {A = ℕ} 0 7 = λ e. omega arith in
-      let inside : 0 < length t = omega (arith, roomy) in
-      simp (get_or-set_other, get_or-set_same)
+  planted_other c other =
+      node_other t 0 c (record unused { parent = root set.rules; depth = root set.rules; failure = root set.rules }) other
+      ∙ unused_at c
 
-  planted_depth : get_or (planted (root set.rules) t) 2 0 ≡ root set.rules
-  unfolding planted
-  planted_depth =
-      let h7 : ◌≢◌ {A = ℕ} 2 7 = λ e. omega arith in
-      let inside : 2 < length (store t 0 (root set.rules)) = simp length-set (omega (arith, roomy)) in
-      simp (get_or-set_other, get_or-set_same)
-
-  planted_failure : get_or (planted (root set.rules) t) 7 0 ≡ root set.rules
-  unfolding planted
-  planted_failure =
-      let inside : 7 < length (store (store t 0 (root set.rules)) 2 (root set.rules)) = simp length-set (omega (arith, roomy)) in
-      simp get_or-set_same
+  -- no node has a child or a match word yet
+  planted_bare : (c : ℕ)
+      → record (node (planted (root set.rules) t) c) { parent = 0; depth = 0; failure = 0 } ≡ unused
+  planted_bare c = go (same_or 0 c)
+    where
+      go : (c ≡ 0) ⊎ (c ≢ 0) → record (node (planted (root set.rules) t) c) { parent = 0; depth = 0; failure = 0 } ≡ unused
+      go (inl e) = rw e (ap (λ (x : Node). record x { parent = 0; depth = 0; failure = 0 }) planted_first)
+      go (inr other) = ap (λ (x : Node). record x { parent = 0; depth = 0; failure = 0 }) (planted_other c other)
 
   -- no node is behind the root yet
   count : length (states_of set 0) ≡ root set.rules + 1
@@ -240,13 +244,13 @@ module _ (set : RuleSet) (in_range_lem : in_range set ≡ true) (t : List ℕ) (
   deep c h = go (eqb c 0) refl
     where
       go : (b : Bool) → eqb c 0 ≡ b → depth (planted (root set.rules) t) c ≡ length (get_or (first_states set.rules) c [])
-      go true e = rw (eqb-true c 0 e) (planted_depth ∙ first_depth)
+      go true e = rw (eqb-true c 0 e) (ap (λ (x : Node). x.depth) planted_first ∙ first_depth)
       go false e =
           let other = eqb-false c 0 e in
           let low = root_small set.rules in
           let top : c ≡ root set.rules = omega (arith, count, other) in
           rw top
-          (planted-zero (8 * root set.rules + 2) (λ e. omega arith) (λ e. omega (arith, top, other)) (λ e. omega arith)
+          (ap (λ (x : Node). x.depth) (planted_other (root set.rules) (λ e. omega (arith, top, other)))
           ∙ sym (ap length (first_root set.rules).1))
 
   trie_first : Trie (root set.rules) (states_of set 0) set.symbols (planted (root set.rules) t)
@@ -268,44 +272,37 @@ module _ (set : RuleSet) (in_range_lem : in_range set ≡ true) (t : List ℕ) (
         some_node = omega (arith, count);
         root-empty = (first_root set.rules).1;
         mark_alone = λ pos. (first_mark set.rules pos).1;
-        mark_parent = planted_parent;
-        mark_failure = planted_failure;
+        mark_parent = ap (λ (x : Node). x.parent) planted_first;
+        mark_failure = ap (λ (x : Node). x.failure) planted_first;
         few = (ranges set in_range_lem).few_symbols;
         once = first_once set.rules;
         made = λ c pos h. absurd (behind c pos h);
         small = λ c pos h. absurd (behind c pos h);
         deep = deep;
         counted = λ c h.
-            planted-zero (8 * c + 5) (λ e. omega arith) (λ e. omega arith) (λ e. omega arith)
+            ap (λ (x : Node). x.children) (planted_bare c)
             ∙ sym (tally-none (λ a. known (states_of set 0) (get_or (states_of set 0) c [] ++ a ∷ [])) set.symbols (no_child c));
-        clear = λ k far. planted-zero k (λ e. omega (arith, count)) (λ e. omega (arith, count)) (λ e. omega (arith, count));
+        clear = λ c far. planted_other c (λ e. omega (arith, count));
       }
     where
       young : (q : ℕ) → youngest (planted (root set.rules) t) q ≡ 0
-      young q = planted-zero (8 * q + 3) (λ e. omega arith) (λ e. omega arith) (λ e. omega arith)
+      young q = ap (λ (x : Node). x.youngest) (planted_bare q)
 
   pub grown_first : Grown set 0 (planted (root set.rules) t)
   unfolding match_word own lowest
   grown_first =
       record {
         trie = trie_first;
-        owned = λ c h. planted-zero (8 * c + 6) (λ e. omega arith) (λ e. omega arith) (λ e. omega arith);
+        owned = λ c h. ap (λ (x : Node). x.matched) (planted_bare c);
       }
 
-  -- Without a mark nothing needs to be planted: the words are 0 already.
+  -- Without a mark nothing needs to be planted: node 0 is as unused as the others.
   pub planted-none : root set.rules ≡ 0 → planted (root set.rules) t ≡ t
   unfolding planted
-  planted-none e =
-      rw e
-      (ap (λ (l : List ℕ). store (store l 2 0) 7 0) (unchanged 0 (omega (arith, roomy)))
-      ∙ ap (λ (l : List ℕ). store l 7 0) (unchanged 2 (omega (arith, roomy)))
-      ∙ unchanged 7 (omega (arith, roomy)))
-    where
-      unchanged : (k : ℕ) → k < length t → store t k 0 ≡ t
-      unchanged k inside = ap (store t k) (sym (zero_at k)) ∙ set-get_or t k 0
+  planted-none e = rw (e, ← unused_at 0) (set-get_or t 0 unused)
 
 -- how many nodes there are before any rule, and where the first rule's left side begins
-pub build_first : (set : RuleSet) (t : List ℕ) → Grown set 0 t → (at : ℕ) → at ≡ 4 + 4 * length set.rules → (n : ℕ) → n ≡ root set.rules + 1
+pub build_first : (set : RuleSet) (t : List Node) → Grown set 0 t → (at : ℕ) → at ≡ 4 + 4 * length set.rules → (n : ℕ) → n ≡ root set.rules + 1
     → Building set (length t) 0 n at t
 build_first set t grown at here n many =
     record {
@@ -317,9 +314,9 @@ build_first set t grown at here n many =
     }
 
 -- a rule more
-pub build_next : (set : RuleSet) → in_range set ≡ true → (words i n at : ℕ) (t : List ℕ) → Building set words i n at t → i < length set.rules
-    → (w : Walked) (t' : List ℕ) → FollowedRule set i w t' → 8 * w.nodes ≤ length t'
-    → (t'' : List ℕ) → t'' ≡ claimed t' w.node i → length t'' ≡ words
+pub build_next : (set : RuleSet) → in_range set ≡ true → (words i n at : ℕ) (t : List Node) → Building set words i n at t → i < length set.rules
+    → (w : Walked) (t' : List Node) → FollowedRule set i w t' → w.nodes ≤ length t'
+    → (t'' : List Node) → t'' ≡ claimed t' w.node i → length t'' ≡ words
     → (n' : ℕ) → n' ≡ length (body (rule set.rules i)) → Building set words (suc i) w.nodes (at + n') t''
 build_next set in_range_lem words i n at t b lt w t' f room t'' e size'' n' long =
     record {
@@ -332,7 +329,7 @@ build_next set in_range_lem words i n at t b lt w t' f room t'' e size'' n' long
 
 -- the states of a rule more still fit
 pub followed_room : (set : RuleSet) → in_range set ≡ true → (words : ℕ) → Roomy set words → (i : ℕ) → i < length set.rules
-    → (w : Walked) (t : List ℕ) → FollowedRule set i w t → (8 * w.nodes ≤ words) × (i < 64) × (8 * w.node + 7 < words)
+    → (w : Walked) (t : List Node) → FollowedRule set i w t → (w.nodes ≤ words) × (i < 64) × (w.node < words)
 followed_room set e words roomy i lt w t f =
     let rest = symbols_next set.rules i lt in
     let few : w.nodes ≤ 2 + length (flat_map (λ r. r.left) set.rules) =
@@ -341,7 +338,7 @@ followed_room set e words roomy i lt w t f =
     (omega (arith, roomy), omega (arith, ranges set e), omega (arith, f.node, roomy))
 
 -- all rules
-pub build_last : (set : RuleSet) (words i n at : ℕ) (t : List ℕ) → Building set words i n at t → length set.rules ≤ i → Built set n t
+pub build_last : (set : RuleSet) (words i n at : ℕ) (t : List Node) → Building set words i n at t → length set.rules ≤ i → Built set n t
 unfolding states states_of
 build_last set words i n at t b far =
     let whole : take i set.rules ≡ set.rules = take_all i set.rules far in
@@ -350,3 +347,13 @@ build_last set words i n at t b far =
       owned = rw whole at b.grown.owned;
       nodes = rw whole at b.nodes;
     }
+
+-- the trie is the same without the nodes that are not in use
+pub built_taken : (set : RuleSet) (n : ℕ) (t : List Node) → Built set n t → Built set (length (take n t)) (take n t)
+built_taken set n t b =
+    rw b.nodes
+    (record {
+      trie = trie_taken b.trie;
+      owned = λ c h. ap (λ (x : Node). x.matched) (taken_node b.trie c) ∙ b.owned c h;
+      nodes = taken_length b.trie;
+    })

@@ -19,6 +19,7 @@ use Rattle.rewriting.proofs.Redex.{NonEmpty}
 use Rattle.layout.specs.States.{state, next, matching, known, states, number}
 use Rattle.layout.specs.Table.{match_word}
 use Rattle.layout.specs.Words.{root, text, own, failure_state, transition, own_or}
+use Rattle.trie.specs.declared.Node.{Node}
 use Rattle.trie.specs.Nodes.{parent, symbol, failure, TrieOf, RightFailure, failure_by}
 use Rattle.layout.proofs.Matching.{Plain, state-drop, state_snoc, length-state, next_fail, matching_fail}
 use Rattle.layout.proofs.States.{known_snoc, state-known, number_at, number-root, state_long}
@@ -72,7 +73,7 @@ match_failure rules some_left (y ∷ p) h plain =
     ap match_word (matching_fail rules some_left y p plain) ∙ match_own (own rules (y ∷ p)) (matching rules (state rules p))
 
 -- The failure state found for node c is right where that of its parent, and the word of that state's row, are.
-module _ (set : RuleSet) (t rows : List ℕ) (trie : TrieOf set t) where
+module _ (set : RuleSet) (t : List Node) (rows : List ℕ) (trie : TrieOf set t) where
   pub failure_found : (c : ℕ) → (c ≡ root set.rules → ⊥) → c < length (states set.rules)
       → (parent t c ≢ root set.rules → RightFailure set.rules t (parent t c))
       → (parent t c ≢ root set.rules → transition rows set.symbols (failure t (parent t c)) (symbol t c)
@@ -108,7 +109,7 @@ module _ (set : RuleSet) (t rows : List ℕ) (trie : TrieOf set t) where
           ∙ ap (number (states set.rules)) step
 
 -- how the code finds it: by the parent p, which is not the root, the symbol a and the parent's failure state f
-module _ (t rows : List ℕ) (symbols root q : ℕ) {p a f : ℕ} (up : p ≡ parent t q) (by : a ≡ symbol t q) (fails : f ≡ failure t p)
+module _ (t : List Node) (rows : List ℕ) (symbols root q : ℕ) {p a f : ℕ} (up : p ≡ parent t q) (by : a ≡ symbol t q) (fails : f ≡ failure t p)
     (high : p ≡ root → ⊥) where
   pub word_inside : (parent t q ≢ root → failure t (parent t q) * symbols + symbol t q < length rows) → f * symbols + a < length rows
   word_inside inside = rw (fails, by, up) (inside (λ e. high (up ∙ e)))

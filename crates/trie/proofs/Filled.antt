@@ -20,8 +20,9 @@ use Rattle.rewriting.proofs.Ending.{lowest-empty}
 use Rattle.layout.specs.States.{mark, next, starts, symbols_in, known, matching, states, number}
 use Rattle.layout.specs.Table.{match_word}
 use Rattle.layout.specs.Words.{root, text, own, NoLonger, transition, own_or}
+use Rattle.trie.specs.declared.Node.{Node}
 use Rattle.trie.specs.Nodes.{matched, TrieOf, Owned}
-use Rattle.trie.specs.Rows.{child_number, Laid, Rooted, reached, FillingAt, Matched, Filled}
+use Rattle.trie.specs.Rows.{child_number, Laid, RootFilled, reached, FillingAt, Matched, Filled}
 use Rattle.layout.proofs.States.{next_listed, root_below, root-text, number-root, child_some, state_long, short_state}
 use Rattle.layout.proofs.RowPlaces.{row_apart}
 use Rattle.layout.proofs.Table.{matches_whole, rows_whole}
@@ -53,8 +54,8 @@ reached-root rules c other below =
     rw (le-ltb (length (text rules c)) 1 (state_long rules c other below), le-ltb c 0 (omega arith), and-false)
 
 -- With the children laid and the root's row filled, the empty state is done.
-pub filling_start : (set : RuleSet) (t rows rows' : List ℕ) → in_range set ≡ true → TrieOf set t → Owned set.rules (states set.rules) t
-    → Laid set rows → Rooted rows rows' set.symbols (root set.rules) set.symbols → FillingAt set 1 0 t rows'
+pub filling_start : (set : RuleSet) (t : List Node) (rows rows' : List ℕ) → in_range set ≡ true → TrieOf set t → Owned set.rules (states set.rules) t
+    → Laid set rows → RootFilled rows rows' set.symbols (root set.rules) set.symbols → FillingAt set 1 0 t rows'
 filling_start set t rows rows' e trie owned laid rooted =
     record {
       trie = trie;
@@ -102,7 +103,7 @@ filling_start set t rows rows' e trie owned laid rooted =
         rw (reached-root rules c other h) (apart c a other k ∙ laid.table c a h k)
 
 -- When the states as long as the longest left side, and the mark where there is one, are done, all are.
-pub filling_end : (set : RuleSet) (n : ℕ) (t t' rows : List ℕ) → in_range set ≡ true → NoLonger n set.rules → length t' ≡ length t
+pub filling_end : (set : RuleSet) (n : ℕ) (t t' : List Node) (rows : List ℕ) → in_range set ≡ true → NoLonger n set.rules → length t' ≡ length t
     → FillingAt set (n + root set.rules + 1) 0 t' rows → Filled set t t' rows
 filling_end set n t t' rows e long size filling =
     record {
@@ -119,7 +120,7 @@ filling_end set n t t' rows e long size filling =
         reached_shorter (states set.rules) (n + root set.rules + 1) 0 c (omega arith)
 
 -- The match words are written one by one.
-pub written_more : (t words : List ℕ) (q : ℕ) → q < length words → ((k : ℕ) → k < q → get_or words k 0 ≡ matched t k)
+pub written_more : (t : List Node) (words : List ℕ) (q : ℕ) → q < length words → ((k : ℕ) → k < q → get_or words k 0 ≡ matched t k)
     → (k : ℕ) → k < q + 1 → get_or (store words q (matched t q)) k 0 ≡ matched t k
 written_more t words q h all k l = go (eqb k q) refl
   where
@@ -131,7 +132,7 @@ written_more t words q h all k l = go (eqb k q) refl
         let differs = eqb-false k q e in
         get_or-set_other words q k (matched t q) 0 differs ∙ all k (omega (arith, differs))
 
-pub written_all : (set : RuleSet) (t words : List ℕ) → Matched set t → length words ≡ length (states set.rules)
+pub written_all : (set : RuleSet) (t : List Node) (words : List ℕ) → Matched set t → length words ≡ length (states set.rules)
     → ((k : ℕ) → k < length words → get_or words k 0 ≡ matched t k)
     → words ≡ map (λ q. match_word (matching set.rules q)) (states set.rules)
 written_all set t words matches size all = matches_whole set words size (λ k h. all k (omega arith) ∙ matches k h)

@@ -14,18 +14,15 @@ use Rattle.rewriting.proofs.Redex.{non_empty}
 use Rattle.layout.specs.States.{mark, next, matching, known, states, number}
 use Rattle.layout.specs.Table.{match_word}
 use Rattle.layout.specs.Words.{root, text, own, failure_state, transition, own_or}
-use Rattle.trie.specs.Nodes.{parent, symbol, matched, failure, RightFailure, failure_by}
-use Rattle.trie.specs.Rows.{child_number, Merged, Noted, Filling}
+use Rattle.trie.specs.declared.Node.{Node}
+use Rattle.trie.specs.Nodes.{node, parent, symbol, matched, failure, RightFailure, failure_by}
+use Rattle.trie.specs.Rows.{child_number, Merged, noted, Filling}
 use Rattle.layout.proofs.Matching.{Plain}
 use Rattle.layout.proofs.States.{next_listed, child_some, state_long, state_plain}
 use Rattle.layout.proofs.RowPlaces.{row_apart}
 use Rattle.trie.proofs.Growth.{node_cases, parent_below, parent_shorter}
-use Rattle.trie.proofs.Kept.{Kept, trie_kept}
+use Rattle.trie.proofs.Kept.{trie_kept, noted_failure, noted_match, noted_other, noted_kept}
 use Rattle.trie.proofs.Failure.{FailsTo, fails_to, next_failure, match_failure, failure_found}
-
--- the failure state and the match word of node q noted
-noted_kept : {n : ℕ} {t t' : List ℕ} {q f : ℕ} → q < n → Noted t t' q f → Kept n t t'
-noted_kept {q = q} h noted = record { size = noted.size; rest = λ k d₆ d₇. noted.rest k (d₆ q h) (d₇ q h) }
 
 -- the row of a state: its children, and for the other symbols the words of its failure state's row
 row_filled : (rules : List Rule) (v : List ℕ) → 0 < length v → (a : ℕ) → a < mark
@@ -43,12 +40,12 @@ row_filled rules v long a small = go (known (states rules) (v ++ a ∷ [])) refl
     go false e = ap (number (states rules)) (sym (next_failure rules v long a e))
 
 -- a child of the root has the root as its failure state
-by_root : (t rows : List ℕ) (symbols root q : ℕ) → parent t q ≡ root → failure_by t rows symbols root q ≡ root
+by_root : (t : List Node) (rows : List ℕ) (symbols root q : ℕ) → parent t q ≡ root → failure_by t rows symbols root q ≡ root
 unfolding failure_by
 by_root t rows symbols root q e = rw (eq-eqb (parent t q) root e)
 
 -- State q, whose turn it is: every shorter state is done.
-module _ (set : RuleSet) (done : ℕ → Bool) (t rows : List ℕ) (filling : Filling set done t rows) (q : ℕ)
+module _ (set : RuleSet) (done : ℕ → Bool) (t : List Node) (rows : List ℕ) (filling : Filling set done t rows) (q : ℕ)
     (in_range_lem : in_range set ≡ true) (other : q ≡ root set.rules → ⊥) (below : q < length (states set.rules))
     (shorter : (c : ℕ) → c < length (states set.rules) → length (text set.rules c) < length (text set.rules q) → done c ≡ true)
   where
@@ -84,18 +81,21 @@ module _ (set : RuleSet) (done : ℕ → Bool) (t rows : List ℕ) (filling : Fi
         rw final at (filling.table (failure t (parent t q)) (symbol t q) f.place (symbol_small high)))
 
     -- with it, its match word and its row q is done too
-    pub state_filled : (done' : ℕ → Bool) (t' rows' : List ℕ) (f : ℕ) → done q ≡ false → done' q ≡ true
-        → ((c : ℕ) → (c ≡ q → ⊥) → done' c ≡ done c) → f ≡ failure_by t rows set.symbols (root set.rules) q → Noted t t' q f
+    pub state_filled : (done' : ℕ → Bool) (t' : List Node) (rows' : List ℕ) (f : ℕ) → done q ≡ false → done' q ≡ true
+        → ((c : ℕ) → (c ≡ q → ⊥) → done' c ≡ done c) → f ≡ failure_by t rows set.symbols (root set.rules) q → t' ≡ noted t q f
         → Merged rows rows' set.symbols q f set.symbols → Filling set done' t' rows'
-    state_filled done' t' rows' f not_yet now_done others is noted merged =
+    state_filled done' t' rows' f not_yet now_done others is note merged =
         record {
-          trie = trie_kept (noted_kept below noted) mark_fails filling.trie;
+          trie = rw note (trie_kept (noted_kept t q f inside below) (rw note at mark_fails) filling.trie);
           size = merged.size ∙ filling.size;
           matches = λ c h. match c h (eqb c q) refl;
           failures = λ c other₂ h e. failing c other₂ h e (eqb c q) refl;
           table = λ c a h k. word c a h k (eqb c q) refl;
         }
       where
+        inside : q < length t
+        inside = omega (arith, filling.trie.linked.size)
+
         rules : List Rule
         rules = set.rules
 
@@ -105,6 +105,10 @@ module _ (set : RuleSet) (done : ℕ → Bool) (t rows : List ℕ) (filling : Fi
         v : List ℕ
         v = text rules q
 
+        -- a word of another node
+        apart : (c : ℕ) → c ≢ q → (word : Node → ℕ) → word (node t' c) ≡ word (node t c)
+        apart c differs word = rw note (ap word (noted_other t q f inside c differs))
+
         -- the failure state of node 0 is the root, as it was or as it is noted
         mark_fails : failure t' 0 ≡ root rules
         mark_fails = go (eqb q 0) refl
@@ -112,11 +116,11 @@ module _ (set : RuleSet) (done : ℕ → Bool) (t rows : List ℕ) (filling : Fi
             go : (b : Bool) → eqb q 0 ≡ b → failure t' 0 ≡ root rules
             go true e =
                 let first : q ≡ 0 = eqb-true q 0 e in
-                rw first at noted.own_failure ∙ is ∙ by_root t rows set.symbols (root rules) q (ap (λ
+                rw first at (ap (λ (l : List Node). failure l q) note ∙ noted_failure t q f inside) ∙ is ∙ by_root t rows set.symbols (root rules) q (ap (λ
                 (c : ℕ). parent t c) first ∙ filling.trie.mark_parent)
             go false e =
                 let differs = eqb-false q 0 e in
-                noted.rest 7 (λ p. omega arith) (λ p. differs (omega arith)) ∙ filling.trie.mark_failure
+                apart 0 (λ p. differs (sym p)) (λ x. x.failure) ∙ filling.trie.mark_failure
 
         long : 0 < length v
         long = state_long rules q other below
@@ -141,20 +145,20 @@ module _ (set : RuleSet) (done : ℕ → Bool) (t rows : List ℕ) (filling : Fi
             let same : c ≡ q = eqb-true c q e in
             let mine : matched t q ≡ match_word (own rules v) = rw not_yet at (filling.matches q below) in
             let its : matched t f ≡ match_word (matching rules (failure_state rules v)) = rw (f_done, l.string) at (filling.matches f l.place) in
-            rw (same, now_done, noted.own_match, mine, its) (sym (match_failure rules (non_empty set in_range_lem) v long plain))
+            rw (same, now_done, note, noted_match t q f inside, mine, its) (sym (match_failure rules (non_empty set in_range_lem) v long plain))
         match c h false e =
             let differs = eqb-false c q e in
             rw (others c differs)
-            (noted.rest (8 * c + 6) (λ p. differs (omega arith)) (λ p. omega arith) ∙ filling.matches c h)
+            (apart c differs (λ x. x.matched) ∙ filling.matches c h)
 
         failing : (c : ℕ) → (c ≡ root rules → ⊥) → c < length s → done' c ≡ true → (b : Bool) → eqb c q ≡ b
             → RightFailure rules t' c
         failing c other₂ h e true p =
             let same : c ≡ q = eqb-true c q p in
-            rw same (noted.own_failure ∙ is ∙ own_failure)
+            rw (same, note) (noted_failure t q f inside ∙ is ∙ own_failure)
         failing c other₂ h e false p =
             let differs = eqb-false c q p in
-            noted.rest (8 * c + 7) (λ x. omega arith) (λ x. differs (omega arith))
+            apart c differs (λ x. x.failure)
             ∙ filling.failures c other₂ h (sym (others c differs) ∙ e)
 
         word : (c a : ℕ) → c < length s → a < set.symbols → (b : Bool) → eqb c q ≡ b

@@ -1,7 +1,7 @@
 -- How the trie grows: following a symbol from a node leads to the state with that symbol added, which gets the next number
 -- when it is new.
 -- Assumes nothing.
-use Prim.Native.Nat.{ℕ, suc, ◌+◌, ◌*◌, ◌≤◌, ◌<◌}
+use Prim.Native.Nat.{ℕ, suc, ◌+◌, ◌≤◌, ◌<◌}
 use mathlib.Core.Path.{◌≡◌, refl, sym, ap, ◌∙◌}
 use mathlib.Core.Bool.{Bool, true, false, ◌||◌, or-false}
 use mathlib.Core.Logic.{◌≢◌, ◌⊎◌, inl, inr}
@@ -20,7 +20,10 @@ use Rattle.trie.specs.declared.Walked.{Walked}
 use Rattle.layout.specs.States.{mark, known, number, numbered}
 use Rattle.layout.specs.Table.{match_word}
 use Rattle.layout.specs.Words.{own}
+use Rattle.trie.specs.declared.Node.{Node}
 use Rattle.trie.specs.Nodes.{
+  unused,
+  node,
   parent,
   symbol,
   depth,
@@ -39,6 +42,7 @@ use Rattle.layout.proofs.States.{snoc_parts, snoc_some, known_append, known_at, 
 use Rattle.trie.proofs.Tally.{tally_agree, tally-none, tally_more}
 use Rattle.trie.proofs.Nodes.{
   added_size,
+  added_node,
   added_other,
   added_parent,
   added-symbol,
@@ -53,7 +57,7 @@ use Rattle.trie.proofs.Nodes.{
   linked_added,
 }
 
-module _ (root : ℕ) (s : List (List ℕ)) (symbols : ℕ) (t : List ℕ) (h : Trie root s symbols t) where
+module _ (root : ℕ) (s : List (List ℕ)) (symbols : ℕ) (t : List Node) (h : Trie root s symbols t) where
   -- no two nodes hold one state
   pub node_once : (i j : ℕ) → i < length s → j < length s → get_or s i [] ≡ get_or s j [] → i ≡ j
   node_once i j hi hj e = sym (h.once i hi) ∙ rw e (h.once j hj)
@@ -132,8 +136,8 @@ module _ (root : ℕ) (s : List (List ℕ)) (symbols : ℕ) (t : List ℕ) (h : 
       rw parts.0 at (known_at s (parent t c) (omega (arith, at.0)))
 
 -- The trie with a new state: node q's, with symbol a added.
-module _ (root : ℕ) (s : List (List ℕ)) (symbols : ℕ) (t : List ℕ) (h : Trie root s symbols t) (q a : ℕ) (hq : q < length s) (small : a < symbols)
-    (room : 8 * length s + 7 < length t) (new : known s (get_or s q [] ++ a ∷ []) ≡ false) where
+module _ (root : ℕ) (s : List (List ℕ)) (symbols : ℕ) (t : List Node) (h : Trie root s symbols t) (q a : ℕ) (hq : q < length s) (small : a < symbols)
+    (room : length s < length t) (new : known s (get_or s q [] ++ a ∷ []) ≡ false) where
   more_length : length (s ++ (get_or s q [] ++ a ∷ []) ∷ []) ≡ suc (length s)
   more_length = rw length-append (omega arith)
 
@@ -142,6 +146,10 @@ module _ (root : ℕ) (s : List (List ℕ)) (symbols : ℕ) (t : List ℕ) (h : 
 
   more_new : get_or (s ++ (get_or s q [] ++ a ∷ []) ∷ []) (length s) [] ≡ get_or s q [] ++ a ∷ []
   more_new = get_or_at s (get_or s q [] ++ a ∷ []) [] [] (length s) refl
+
+  -- its node was not in use
+  fresh : node t (length s) ≡ unused
+  fresh = h.clear (length s) (omega arith)
 
   -- what is known with the new state
   more_known : (v : List ℕ) → known (s ++ (get_or s q [] ++ a ∷ []) ∷ []) v ≡ (known s v || same (get_or s q [] ++ a ∷ []) v)
@@ -209,14 +217,14 @@ module _ (root : ℕ) (s : List (List ℕ)) (symbols : ℕ) (t : List ℕ) (h : 
           (rw (more_known (get_or s q [] ++ a ∷ []), new) (same_refl (get_or s q [] ++ a ∷ [])))
           (λ b lt other. rw (more_known (get_or s q [] ++ b ∷ []), not_new (get_or s q []) b (λ _ p. other p)) (or-false (known s (get_or s q [] ++ b ∷ []))))))
       go (inl lt) (inr other) =
-          rw (children_old t (length s) q a hq room c k other, more_old c lt, h.counted c lt)
+          rw (children_old t (length s) q a hq room c lt other, more_old c lt, h.counted c lt)
           (tally_agree (λ b. known s (get_or s c [] ++ b ∷ []))
           (λ b. known (s ++ (get_or s q [] ++ a ∷ []) ∷ []) (get_or s c [] ++ b ∷ [])) symbols
           (λ b _. sym
           (rw (more_known (get_or s c [] ++ b ∷ []), not_new (get_or s c []) b (λ p _. other (node_once root s symbols t h c q lt hq p)))
           (or-false (known s (get_or s c [] ++ b ∷ []))))))
       go (inr e) (inr other) =
-          rw (e, children_old t (length s) q a hq room (length s) (omega arith) (rw e at other), more_new, h.clear (8 * length s + 5) (omega arith))
+          rw (e, ap (λ (x : Node). x.children) (added_node t (length s) q a hq room), fresh, more_new)
           (sym
           (tally-none (λ b. known (s ++ (get_or s q [] ++ a ∷ []) ∷ []) (get_or s q [] ++ a ∷ [] ++ b ∷ [])) symbols
           (λ b low. rw (more_known (get_or s q [] ++ a ∷ [] ++ b ∷ []), unknown b low, longer b))))
@@ -234,16 +242,13 @@ module _ (root : ℕ) (s : List (List ℕ)) (symbols : ℕ) (t : List ℕ) (h : 
           longer b = not_new (get_or s q [] ++ a ∷ []) b
               (λ p _. let n : length (get_or s q [] ++ a ∷ []) ≡ length (get_or s q []) = ap length p in omega (arith, simp length-append at n))
 
-  clear' : (k : ℕ) → 8 * suc (length s) ≤ k → get_or (added t (length s) q a) k 0 ≡ 0
-  clear' k far =
-      added_other t (length s) q a hq room k (λ e. omega arith) (λ e. omega arith) (λ e. omega arith) (λ e. omega arith)
-      (λ e. omega arith) (λ e. omega arith)
-      ∙ h.clear k (omega arith)
+  clear' : (c : ℕ) → suc (length s) ≤ c → node (added t (length s) q a) c ≡ unused
+  clear' c far = added_other t (length s) q a hq room c (λ e. omega arith) (λ e. omega arith) ∙ h.clear c (omega arith)
 
   pub trie_added : Trie root (s ++ (get_or s q [] ++ a ∷ []) ∷ []) symbols (added t (length s) q a)
   trie_added =
       record {
-        linked = rw more_length (linked_added root t (length s) q a h.some_node hq room h.linked (h.clear (8 * length s + 3) (omega arith)));
+        linked = rw more_length (linked_added root t (length s) q a h.some_node hq room h.linked fresh);
         low_root = h.low_root;
         some_node = rw more_length (omega (arith, h.some_node));
         root-empty = more_old root h.some_node ∙ h.root-empty;
@@ -273,14 +278,12 @@ module _ (root : ℕ) (s : List (List ℕ)) (symbols : ℕ) (t : List ℕ) (h : 
       go (inl lt) = rw (matched_old t (length s) q a hq room c lt, more_old c lt) (owned c lt)
       go (inr e) =
           rw (e, more_new, low)
-          (added_other t (length s) q a hq room (8 * length s + 6) (λ e. omega arith) (λ e. omega arith) (λ e. omega arith)
-          (λ e. omega arith) (λ e. omega arith) (λ e. omega arith)
-          ∙ h.clear (8 * length s + 6) (omega arith))
+          (ap (λ (x : Node). x.matched) (added_node t (length s) q a hq room) ∙ ap (λ (x : Node). x.matched) fresh)
 
 -- A symbol followed from node q, whatever was there.
-module _ (root : ℕ) (s : List (List ℕ)) (symbols : ℕ) (t : List ℕ) (h : Trie root s symbols t) (q a : ℕ) (hq : q < length s) (small : a < symbols)
-    (room : 8 * length s + 7 < length t) where
-  pub record Stepped (w : Walked) (t' : List ℕ) : Type 0 where
+module _ (root : ℕ) (s : List (List ℕ)) (symbols : ℕ) (t : List Node) (h : Trie root s symbols t) (q a : ℕ) (hq : q < length s) (small : a < symbols)
+    (room : length s < length t) where
+  pub record Stepped (w : Walked) (t' : List Node) : Type 0 where
     pub trie : Trie root (numbered s ((get_or s q [] ++ a ∷ []) ∷ [])) symbols t'
     pub nodes : w.nodes ≡ length (numbered s ((get_or s q [] ++ a ∷ []) ∷ []))
     pub node : w.node < length (numbered s ((get_or s q [] ++ a ∷ []) ∷ []))
@@ -298,7 +301,7 @@ module _ (root : ℕ) (s : List (List ℕ)) (symbols : ℕ) (t : List ℕ) (h : 
   unfolding numbered
   grows e = rw e
 
-  stepped_found : (w : Walked) (t' : List ℕ) → Found root t (length s) q a w t' → Stepped w t'
+  stepped_found : (w : Walked) (t' : List Node) → Found root t (length s) q a w t' → Stepped w t'
   stepped_found w t' f =
       let there = child_state root s symbols t h q a w.node f.child in
       let old : known s (get_or s q [] ++ a ∷ []) ≡ true = rw there at (known_at s w.node f.child.node) in
@@ -311,7 +314,7 @@ module _ (root : ℕ) (s : List (List ℕ)) (symbols : ℕ) (t : List ℕ) (h : 
         owned = λ rules owned low. rw (stays old, f.kept) owned;
       }
 
-  stepped_new : (w : Walked) (t' : List ℕ) → New root t (length s) q a w t' → Stepped w t'
+  stepped_new : (w : Walked) (t' : List Node) → New root t (length s) q a w t' → Stepped w t'
   stepped_new w t' f =
       let new = no_child root s symbols t h q a small hq f.none in
       let longer = more_length root s symbols t h q a hq small room new in
@@ -324,6 +327,6 @@ module _ (root : ℕ) (s : List (List ℕ)) (symbols : ℕ) (t : List ℕ) (h : 
         owned = λ rules owned low. rw (grows new, f.grown) (owned_added root s symbols t h q a hq small room new rules owned (low new));
       }
 
-  pub stepped : (w : Walked) (t' : List ℕ) → Followed root t (length s) q a w t' → Stepped w t'
+  pub stepped : (w : Walked) (t' : List Node) → Followed root t (length s) q a w t' → Stepped w t'
   stepped w t' (inl f) = stepped_found w t' f
   stepped w t' (inr f) = stepped_new w t' f

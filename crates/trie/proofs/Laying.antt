@@ -12,6 +12,7 @@ use borrow.Author.Tests.{ltb-true, ltb-false, eqb-true, eqb-false, lt-ltb, le-lt
 use Rattle.rewriting.specs.Rules.{Rule, RuleSet, in_range}
 use Rattle.layout.specs.States.{mark, known, states, number}
 use Rattle.layout.specs.Words.{root, text, transition}
+use Rattle.trie.specs.declared.Node.{Node}
 use Rattle.trie.specs.Nodes.{parent, symbol, TrieOf}
 use Rattle.trie.specs.Rows.{child_number, Laid}
 use Rattle.layout.proofs.States.{number_at, known_at, number_back, child_behind, few_states}
@@ -69,7 +70,7 @@ LaidBelow set rows c = (q a : ℕ) → q < length (states set.rules) → a < set
     → transition rows set.symbols q a ≡ number_below (states set.rules) c (text set.rules q ++ a ∷ [])
 
 -- one more node's number is laid into the row of its parent
-pub laid_more : (set : RuleSet) (t rows : List ℕ) (c : ℕ) → TrieOf set t
+pub laid_more : (set : RuleSet) (t : List Node) (rows : List ℕ) (c : ℕ) → TrieOf set t
     → length rows ≡ length (states set.rules) * set.symbols → root set.rules < c → c < length (states set.rules)
     → LaidBelow set rows c → LaidBelow set (store rows (parent t c * set.symbols + symbol t c) c) (c + 1)
 laid_more set t rows c trie size pos below laid q a h k = go (eqb (q * set.symbols + a) place) refl
@@ -128,18 +129,18 @@ laid_all set rows size laid =
     record { size = size; table = λ c a h k. laid c a h k ∙ below_all (states set.rules) (text set.rules c) a }
 
 -- a node, its parent and its place in the parent's row lie within their areas, and its number fits 16 bits
-pub record Within (t rows : List ℕ) (symbols c : ℕ) : Type 0 where
-  pub node : 8 * c + 7 < length t
-  pub up : 8 * parent t c + 7 < length t
+pub record Within (t : List Node) (rows : List ℕ) (symbols c : ℕ) : Type 0 where
+  pub node : c < length t
+  pub up : parent t c < length t
   pub place : parent t c * symbols + symbol t c < length rows
   pub few : c < 65536
 
-pub within : (set : RuleSet) (t rows : List ℕ) → in_range set ≡ true → TrieOf set t
+pub within : (set : RuleSet) (t : List Node) (rows : List ℕ) → in_range set ≡ true → TrieOf set t
     → length rows ≡ length (states set.rules) * set.symbols
     → (c : ℕ) → root set.rules < c → c < length (states set.rules) → Within t rows set.symbols c
 within set t rows e trie size c pos below =
     let n : ℕ = length (states set.rules) in
-    let room : 8 * n ≤ length t = trie.linked.size in
+    let room : n ≤ length t = trie.linked.size in
     let up : parent t c < c = trie.linked.up c pos below in
     let low : symbol t c < set.symbols = trie.small c pos below in
     let fits : parent t c * set.symbols + set.symbols ≤ n * set.symbols = row_end set.symbols (parent t c) n (omega arith) in

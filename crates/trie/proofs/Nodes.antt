@@ -1,14 +1,17 @@
 -- Laws of the trie's nodes: looking for a child, and adding one, with which the links still hold.
 -- Assumes nothing.
-use Prim.Native.Nat.{ℕ, suc, ◌+◌, ◌*◌, ◌≤◌, ◌<◌}
-use mathlib.Core.Path.{◌≡◌, refl, sym, ap, ◌∙◌}
+use Prim.Native.Nat.{ℕ, suc, ◌+◌, ◌≤◌, ◌<◌}
+use mathlib.Core.Path.{◌≡◌, sym, ap, ◌∙◌}
 use mathlib.Core.Logic.{◌≢◌, ◌⊎◌, inl, inr}
 use mathlib.Core.List.{List}
 use native.Mathlib.Omega.{arith}
-use lib.ListN.{length, get_or, set, length-set}
+use lib.ListN.{length, set, length-set}
 use lib.Seq.{get_or-set_same, get_or-set_other}
 use Rattle.rewriting.proofs.Lists.{last_or, same_or}
+use Rattle.trie.specs.declared.Node.{Node}
 use Rattle.trie.specs.Nodes.{
+  unused,
+  node,
   parent,
   symbol,
   depth,
@@ -20,15 +23,14 @@ use Rattle.trie.specs.Nodes.{
   ChildOf,
   Linked,
   IsChild,
-  ChildOr,
   added,
 }
 
 -- While a child of q by symbol a is looked for, c is a child of q, or 0 for none, and no child by a is younger.
-abbrev pub Searching : ℕ → List ℕ → ℕ → ℕ → ℕ → ℕ → Type 0
+abbrev pub Searching : ℕ → List Node → ℕ → ℕ → ℕ → ℕ → Type 0
 Searching root t n q a c = (c < n) × (0 < c → ChildOf root t q c) × ((b : ℕ) → IsChild root t n q a b → b ≤ c)
 
-module _ (root : ℕ) (t : List ℕ) (n q a : ℕ) where
+module _ (root : ℕ) (t : List Node) (n q a : ℕ) where
   pub search_first : Linked root t n → q < n → (c : ℕ) → c ≡ youngest t q → Searching root t n q a c
   search_first l h c e =
       rw e (l.young q h, l.young_of q h, λ b k. l.young_last q b h k.behind k.node k.of)
@@ -53,156 +55,100 @@ module _ (root : ℕ) (t : List ℕ) (n q a : ℕ) where
           let differs : b ≡ c → ⊥ = λ p. other (ap (λ (x : ℕ). symbol t x) (sym p) ∙ k.by) in
           omega (arith, s.2 b k, differs)
 
-  pub search_found : (c : ℕ) → Searching root t n q a c → 0 < c → symbol t c ≡ a → ChildOr root t n q a c
-  search_found c s h e = inl (record { behind = (s.1 h).0; node = s.0; of = (s.1 h).1; by = e })
+  pub search_found : (c : ℕ) → Searching root t n q a c → 0 < c → symbol t c ≡ a → IsChild root t n q a c
+  search_found c s h e = record { behind = (s.1 h).0; node = s.0; of = (s.1 h).1; by = e }
 
-  pub search_none : (c : ℕ) → Searching root t n q a c → c ≤ 0 → ChildOr root t n q a 0
-  search_none c s h = inr (refl, λ b k. omega (arith, s.2 b k, k.behind))
+  pub search_none : (c : ℕ) → Searching root t n q a c → c ≤ 0 → (b : ℕ) → IsChild root t n q a b → ⊥
+  search_none c s h b k = omega (arith, s.2 b k, k.behind)
 
--- what a search found, by whether it is 0
-pub child_there : (root : ℕ) (t : List ℕ) (n q a r : ℕ) → ChildOr root t n q a r → 0 < r → IsChild root t n q a r
-child_there root t n q a r (inl k) h = k
-child_there root t n q a r (inr k) h = absurd (omega (arith, k.0))
+-- a node that is stored, and the others
+pub node_same : (t : List Node) (q : ℕ) (x : Node) → q < length t → node (set t q x) q ≡ x
+node_same t q x h = get_or-set_same t q x unused h
 
-pub child_missing : (root : ℕ) (t : List ℕ) (n q a r : ℕ) → ChildOr root t n q a r → r ≤ 0 → (c : ℕ) → IsChild root t n q a c → ⊥
-child_missing root t n q a r (inl k) h = absurd (omega (arith, k.behind))
-child_missing root t n q a r (inr k) h = k.1
+pub node_other : (t : List Node) (q c : ℕ) (x : Node) → c ≢ q → node (set t q x) c ≡ node t c
+node_other t q c x other = get_or-set_other t q c x unused other
 
--- Adding node n as a child of q by symbol a: the trie after each store but the last.
-module _ (t : List ℕ) (n q a : ℕ) where
-  abbrev with_parent : List ℕ
-  with_parent = set t (8 * n) q
-
-  abbrev with_symbol : List ℕ
-  with_symbol = set with_parent (8 * n + 1) a
-
-  abbrev with_depth : List ℕ
-  with_depth = set with_symbol (8 * n + 2) (depth t q + 1)
-
-  abbrev with_older : List ℕ
-  with_older = set with_depth (8 * n + 4) (youngest t q)
-
-  abbrev with_youngest : List ℕ
-  with_youngest = set with_older (8 * q + 3) n
-
-  -- each store is within it
-  module _ (lt : q < n) (room : 8 * n + 7 < length t) where
-    pub symbol_within : 8 * n + 1 < length with_parent
-    symbol_within = simp length-set (omega arith)
-
-    pub depth_within : 8 * n + 2 < length with_symbol
-    depth_within = simp length-set (omega arith)
-
-    pub older_within : 8 * n + 4 < length with_depth
-    older_within = simp length-set (omega arith)
-
-    pub youngest_within : 8 * q + 3 < length with_older
-    youngest_within = simp length-set (omega arith)
-
-    pub children_within : 8 * q + 5 < length with_youngest
-    children_within = simp length-set (omega arith)
-
--- What stands in its six words, and that no other word changes.
-module _ (t : List ℕ) (n q a : ℕ) (lt : q < n) (room : 8 * n + 7 < length t) where
+-- Adding node n as a child of q by symbol a: what the two nodes are then, and that no other changes.
+module _ (t : List Node) (n q a : ℕ) (lt : q < n) (room : n < length t) where
   pub added_size : length (added t n q a) ≡ length t
   unfolding added
   added_size = simp length-set
 
-  pub added_other : (k : ℕ) → k ≢ 8 * n → k ≢ 8 * n + 1 → k ≢ 8 * n + 2 → k ≢ 8 * n + 4 → k ≢ 8 * q + 3 → k ≢ 8 * q + 5
-      → get_or (added t n q a) k 0 ≡ get_or t k 0
+  pub added_node : node (added t n q a) n ≡ record (node t n) { parent = q; symbol = a; depth = depth t q + 1; older = youngest t q }
   unfolding added
-  added_other k h1 h2 h3 h4 h5 h6 = simp get_or-set_other
+  added_node =
+      node_other (set t n (record (node t n) { parent = q; symbol = a; depth = depth t q + 1; older = youngest t q })) q n
+      (record (node t q) { youngest = n; children = children t q + 1 }) (λ e. omega arith)
+      ∙ node_same t n (record (node t n) { parent = q; symbol = a; depth = depth t q + 1; older = youngest t q }) room
+
+  added_above : node (added t n q a) q ≡ record (node t q) { youngest = n; children = children t q + 1 }
+  unfolding added
+  added_above =
+      node_same (set t n (record (node t n) { parent = q; symbol = a; depth = depth t q + 1; older = youngest t q })) q
+      (record (node t q) { youngest = n; children = children t q + 1 }) (rw length-set (omega arith))
+
+  pub added_other : (c : ℕ) → c ≢ n → c ≢ q → node (added t n q a) c ≡ node t c
+  unfolding added
+  added_other c h1 h2 =
+      node_other (set t n (record (node t n) { parent = q; symbol = a; depth = depth t q + 1; older = youngest t q })) q c
+      (record (node t q) { youngest = n; children = children t q + 1 }) h2
+      ∙ node_other t n c (record (node t n) { parent = q; symbol = a; depth = depth t q + 1; older = youngest t q }) h1
 
   pub added_parent : parent (added t n q a) n ≡ q
-  unfolding added
-  added_parent =
-      let h2 : 8 * n ≢ 8 * n + 1 = λ e. omega arith in
-      let h3 : 8 * n ≢ 8 * n + 2 = λ e. omega arith in
-      let h4 : 8 * n ≢ 8 * n + 4 = λ e. omega arith in
-      let h5 : 8 * n ≢ 8 * q + 3 = λ e. omega arith in
-      let h6 : 8 * n ≢ 8 * q + 5 = λ e. omega arith in
-      let inside : 8 * n < length t = omega arith in
-      simp (get_or-set_other, get_or-set_same)
+  added_parent = ap (λ (x : Node). x.parent) added_node
 
   pub added-symbol : symbol (added t n q a) n ≡ a
-  unfolding added
-  added-symbol =
-      let h3 : 8 * n + 1 ≢ 8 * n + 2 = λ e. omega arith in
-      let h4 : 8 * n + 1 ≢ 8 * n + 4 = λ e. omega arith in
-      let h5 : 8 * n + 1 ≢ 8 * q + 3 = λ e. omega arith in
-      let h6 : 8 * n + 1 ≢ 8 * q + 5 = λ e. omega arith in
-      let inside = symbol_within t n q a lt room in
-      simp (get_or-set_other, get_or-set_same)
+  added-symbol = ap (λ (x : Node). x.symbol) added_node
 
   pub added_depth : depth (added t n q a) n ≡ depth t q + 1
-  unfolding added
-  added_depth =
-      let h4 : 8 * n + 2 ≢ 8 * n + 4 = λ e. omega arith in
-      let h5 : 8 * n + 2 ≢ 8 * q + 3 = λ e. omega arith in
-      let h6 : 8 * n + 2 ≢ 8 * q + 5 = λ e. omega arith in
-      let inside = depth_within t n q a lt room in
-      simp (get_or-set_other, get_or-set_same)
+  added_depth = ap (λ (x : Node). x.depth) added_node
 
   pub added_older : older (added t n q a) n ≡ youngest t q
-  unfolding added
-  added_older =
-      let h5 : 8 * n + 4 ≢ 8 * q + 3 = λ e. omega arith in
-      let h6 : 8 * n + 4 ≢ 8 * q + 5 = λ e. omega arith in
-      let inside = older_within t n q a lt room in
-      simp (get_or-set_other, get_or-set_same)
+  added_older = ap (λ (x : Node). x.older) added_node
 
   pub added_youngest : youngest (added t n q a) q ≡ n
-  unfolding added
-  added_youngest =
-      let h6 : 8 * q + 3 ≢ 8 * q + 5 = λ e. omega arith in
-      let inside = youngest_within t n q a lt room in
-      simp (get_or-set_other, get_or-set_same)
+  added_youngest = ap (λ (x : Node). x.youngest) added_above
 
   pub added_children : children (added t n q a) q ≡ children t q + 1
-  unfolding added
-  added_children =
-      let inside = children_within t n q a lt room in
-      simp get_or-set_same
+  added_children = ap (λ (x : Node). x.children) added_above
 
-  -- a word of an older node, at a place other than 3 and 5
-  word_old : (c k : ℕ) → c < n → k < 8 → k ≢ 3 → k ≢ 5 → get_or (added t n q a) (8 * c + k) 0 ≡ get_or t (8 * c + k) 0
-  word_old c k h small h3 h5 =
-      added_other (8 * c + k) (λ e. omega arith) (λ e. omega arith) (λ e. omega arith) (λ e. omega arith) (λ e. h3 (omega arith))
-      (λ e. h5 (omega arith))
+  -- an older node but for its youngest child and the number of its children
+  old : (c : ℕ) → c < n
+      → record (node (added t n q a) c) { youngest = 0; children = 0 } ≡ record (node t c) { youngest = 0; children = 0 }
+  old c h = go (same_or q c)
+    where
+      go : (c ≡ q) ⊎ (c ≢ q)
+          → record (node (added t n q a) c) { youngest = 0; children = 0 } ≡ record (node t c) { youngest = 0; children = 0 }
+      go (inl e) = rw e (ap (λ (x : Node). record x { youngest = 0; children = 0 }) added_above)
+      go (inr other) = ap (λ (x : Node). record x { youngest = 0; children = 0 }) (added_other c (λ e. omega arith) other)
 
   pub parent_old : (c : ℕ) → c < n → parent (added t n q a) c ≡ parent t c
-  parent_old c h =
-      added_other (8 * c) (λ e. omega arith) (λ e. omega arith) (λ e. omega arith) (λ e. omega arith) (λ e. omega arith)
-      (λ e. omega arith)
+  parent_old c h = ap (λ (x : Node). x.parent) (old c h)
 
   pub symbol_old : (c : ℕ) → c < n → symbol (added t n q a) c ≡ symbol t c
-  symbol_old c h = word_old c 1 h (omega arith) (λ e. omega arith) (λ e. omega arith)
+  symbol_old c h = ap (λ (x : Node). x.symbol) (old c h)
 
   pub depth_old : (c : ℕ) → c < n → depth (added t n q a) c ≡ depth t c
-  depth_old c h = word_old c 2 h (omega arith) (λ e. omega arith) (λ e. omega arith)
+  depth_old c h = ap (λ (x : Node). x.depth) (old c h)
 
   pub older_old : (c : ℕ) → c < n → older (added t n q a) c ≡ older t c
-  older_old c h = word_old c 4 h (omega arith) (λ e. omega arith) (λ e. omega arith)
+  older_old c h = ap (λ (x : Node). x.older) (old c h)
 
   pub matched_old : (c : ℕ) → c < n → matched (added t n q a) c ≡ matched t c
-  matched_old c h = word_old c 6 h (omega arith) (λ e. omega arith) (λ e. omega arith)
+  matched_old c h = ap (λ (x : Node). x.matched) (old c h)
 
   pub failure_old : (c : ℕ) → c < n → failure (added t n q a) c ≡ failure t c
-  failure_old c h = word_old c 7 h (omega arith) (λ e. omega arith) (λ e. omega arith)
+  failure_old c h = ap (λ (x : Node). x.failure) (old c h)
 
-  pub youngest_old : (c : ℕ) → c < suc n → c ≢ q → youngest (added t n q a) c ≡ youngest t c
-  youngest_old c h other =
-      added_other (8 * c + 3) (λ e. omega arith) (λ e. omega arith) (λ e. omega arith) (λ e. omega arith)
-      (λ e. other (omega arith)) (λ e. omega arith)
+  pub youngest_old : (c : ℕ) → c < n → c ≢ q → youngest (added t n q a) c ≡ youngest t c
+  youngest_old c h other = ap (λ (x : Node). x.youngest) (added_other c (λ e. omega arith) other)
 
-  pub children_old : (c : ℕ) → c < suc n → c ≢ q → children (added t n q a) c ≡ children t c
-  children_old c h other =
-      added_other (8 * c + 5) (λ e. omega arith) (λ e. omega arith) (λ e. omega arith) (λ e. omega arith) (λ e. omega arith)
-      (λ e. other (omega arith))
+  pub children_old : (c : ℕ) → c < n → c ≢ q → children (added t n q a) c ≡ children t c
+  children_old c h other = ap (λ (x : Node). x.children) (added_other c (λ e. omega arith) other)
 
 -- the links hold with the new node
-module _ (root : ℕ) (t : List ℕ) (n q a : ℕ) (low : root < n) (lt : q < n) (room : 8 * n + 7 < length t) (l : Linked root t n)
-    (none : youngest t n ≡ 0) where
+module _ (root : ℕ) (t : List Node) (n q a : ℕ) (low : root < n) (lt : q < n) (room : n < length t) (l : Linked root t n)
+    (fresh : node t n ≡ unused) where
   up' : (c : ℕ) → root < c → c < suc n → parent (added t n q a) c < c
   up' c some h = go (last_or n c h)
     where
@@ -211,14 +157,14 @@ module _ (root : ℕ) (t : List ℕ) (n q a : ℕ) (low : root < n) (lt : q < n)
       go (inr e) = rw (e, added_parent t n q a lt room) lt
 
   young_new : youngest (added t n q a) n ≡ 0
-  young_new = youngest_old t n q a lt room n (omega arith) (λ e. omega arith) ∙ none
+  young_new = ap (λ (x : Node). x.youngest) (added_node t n q a lt room) ∙ ap (λ (x : Node). x.youngest) fresh
 
   young' : (p : ℕ) → p < suc n → youngest (added t n q a) p < suc n
   young' p h = go (last_or n p h) (same_or q p)
     where
       go : (p < n) ⊎ (p ≡ n) → (p ≡ q) ⊎ (p ≢ q) → youngest (added t n q a) p < suc n
       go k (inl e) = rw (e, added_youngest t n q a lt room) (omega arith)
-      go (inl k) (inr other) = rw (youngest_old t n q a lt room p h other) (omega (arith, l.young p k))
+      go (inl k) (inr other) = rw (youngest_old t n q a lt room p k other) (omega (arith, l.young p k))
       go (inr e) (inr other) = rw (e, young_new) (omega arith)
 
   young_of' : (p : ℕ) → p < suc n → 0 < youngest (added t n q a) p → ChildOf root (added t n q a) p (youngest (added t n q a) p)
@@ -228,7 +174,7 @@ module _ (root : ℕ) (t : List ℕ) (n q a : ℕ) (low : root < n) (lt : q < n)
           → ChildOf root (added t n q a) p (youngest (added t n q a) p)
       go k (inl e) some = rw (e, added_youngest t n q a lt room) (low, added_parent t n q a lt room)
       go (inl k) (inr other) some =
-          let y = youngest_old t n q a lt room p h other in
+          let y = youngest_old t n q a lt room p k other in
           let child = l.young_of p k (rw y at some) in
           rw y (child.0, parent_old t n q a lt room (youngest t p) (l.young p k) ∙ child.1)
       go (inr e) (inr other) some = absurd (omega (arith, rw (e, young_new) at some))
@@ -240,7 +186,7 @@ module _ (root : ℕ) (t : List ℕ) (n q a : ℕ) (low : root < n) (lt : q < n)
       go x (inl d) y = rw (d, added_youngest t n q a lt room) (omega arith)
       go (inr d) (inr other) y = absurd (other (sym e ∙ rw (d, added_parent t n q a lt room)))
       go (inl x) (inr other) (inl y) =
-          rw (youngest_old t n q a lt room p h other) (l.young_last p c y some x (sym (parent_old t n q a lt room c x) ∙ e))
+          rw (youngest_old t n q a lt room p y other) (l.young_last p c y some x (sym (parent_old t n q a lt room c x) ∙ e))
       go (inl x) (inr other) (inr y) =
           let d : parent t c ≡ p = sym (parent_old t n q a lt room c x) ∙ e in
           absurd (omega (arith, l.up c some x))

@@ -1,19 +1,20 @@
--- What the stores to rows and nodes leave there: the root's row filled, rows merged, a failure state and a match word noted.
+-- What the stores to rows and nodes leave there: the root's row filled, rows merged.
 -- Assumes nothing.
-use Prim.Native.Nat.{ℕ, ◌+◌, ◌*◌, ◌≤◌, ◌<◌}
-use mathlib.Core.Path.{◌≡◌, refl, ◌∙◌}
+use Prim.Native.Nat.{ℕ, ◌+◌, ◌-◌, ◌*◌, ◌≤◌, ◌<◌}
+use mathlib.Core.Path.{◌≡◌, refl, sym, ap, ◌∙◌}
 use mathlib.Core.Bool.{Bool, true, false, cond}
 use mathlib.Core.Logic.{⊎_elim}
-use mathlib.Core.List.{List}
+use mathlib.Core.List.{List, ◌++◌}
 use native.Mathlib.Omega.{arith}
 use native.Mathlib.Nat.{not-suc-le-zero}
 use lib.Dec.{eqb}
-use lib.ListN.{length, get_or, set, length-set}
-use lib.Seq.{get_or-set_same, get_or-set_other}
+use lib.ListN.{length, get_or, take, drop, set, length-set, length-drop, get_or-append}
+use lib.Seq.{get_or-set_same, get_or-set_other, length-take-le, set-append_left}
+use borrow.Rule.Slice.PartMut.{put_mid, post_of}
+use Rattle.std.proofs.lemmas.List.{set-append_right, get_or-append_right}
 use borrow.Author.Tests.{eqb-true, eqb-false}
 use Rattle.layout.specs.Words.{transition, own_or}
-use Rattle.trie.specs.Nodes.{matched}
-use Rattle.trie.specs.Rows.{Rooted, Merged, Noted}
+use Rattle.trie.specs.Rows.{RootFilled, Merged}
 use Rattle.layout.proofs.RowPlaces.{row_order}
 
 -- before the first word is merged
@@ -52,12 +53,12 @@ merged_more rows rows' s q f a fits h m v e =
         get_or-set_other rows' (q * s + a) (q * s + b) v 0 (λ x. differs (omega arith)) ∙ m.own b (omega arith)
 
 -- the root's row, word by word
-pub rooted_none : (rows : List ℕ) (s root : ℕ) → Rooted rows rows s root 0
+pub rooted_none : (rows : List ℕ) (s root : ℕ) → RootFilled rows rows s root 0
 rooted_none rows s root =
     record { size = refl; own = λ a h. absurd (not-suc-le-zero h); before = λ k h. refl; behind = λ k h. refl }
 
-pub rooted_more : (rows rows' : List ℕ) (s root a : ℕ) → root * s + s ≤ length rows → a < s → Rooted rows rows' s root a → (v : ℕ)
-    → v ≡ own_or (transition rows' s root a) root → Rooted rows (set rows' (root * s + a) v) s root (a + 1)
+pub rooted_more : (rows rows' : List ℕ) (s root a : ℕ) → root * s + s ≤ length rows → a < s → RootFilled rows rows' s root a → (v : ℕ)
+    → v ≡ own_or (transition rows' s root a) root → RootFilled rows (set rows' (root * s + a) v) s root (a + 1)
 rooted_more rows rows' s root a fits h m v e =
     record {
       size = length-set rows' (root * s + a) v ∙ m.size;
@@ -79,8 +80,28 @@ rooted_more rows rows' s root a fits h m v e =
         let differs = eqb-false b a p in
         get_or-set_other rows' (root * s + a) (root * s + b) v 0 (λ x. differs (omega arith)) ∙ m.own b (omega arith)
 
+-- what a row lends: its words in place, and so as many as it has
+module _ (l m : List ℕ) (a s : ℕ) (within : a + s ≤ length l) (long : length m ≡ length (take (a + s - a) (drop a l))) where
+  pub lent_length : length m ≡ s
+  lent_length = long ∙ length-take-le (a + s - a) (drop a l) (rw length-drop (omega arith)) ∙ omega arith
+
+  pub lent_word : (j : ℕ) → j < s → get_or (put_mid a (a + s - a) l m) (a + j) 0 ≡ get_or m j 0
+  lent_word j h =
+      let back : a + j - a ≡ j = omega arith in
+      let n = lent_length in
+      get_or-append_right (take a l) (m ++ post_of a (a + s - a) l) a (a + j) 0 (length-take-le a l (omega arith)) (omega arith)
+      ∙ rw back (get_or-append m (post_of a (a + s - a) l) 0 j (omega arith))
+
+  pub lent_set : (j v : ℕ) → j < s → put_mid a (a + s - a) l (set m j v) ≡ set (put_mid a (a + s - a) l m) (a + j) v
+  lent_set j v h =
+      let back : a + j - a ≡ j = omega arith in
+      let n = lent_length in
+      sym
+      (set-append_right (take a l) (m ++ post_of a (a + s - a) l) a (a + j) v (length-take-le a l (omega arith)) (omega arith)
+      ∙ rw back (ap (λ (r : List ℕ). take a l ++ r) (set-append_left m (post_of a (a + s - a) l) j v (omega arith))))
+
 -- where the root is state 0 its row is right as it is
-pub rooted_zero : (rows : List ℕ) (s root : ℕ) → root ≡ 0 → Rooted rows rows s root s
+pub rooted_zero : (rows : List ℕ) (s root : ℕ) → root ≡ 0 → RootFilled rows rows s root s
 rooted_zero rows s root e =
     record { size = refl; own = λ a h. go (transition rows s root a); before = λ k h. refl; behind = λ k h. refl }
   where
@@ -90,16 +111,3 @@ rooted_zero rows s root e =
         by_zero : (b : Bool) → eqb x 0 ≡ b → x ≡ cond b 0 x
         by_zero true p = eqb-true x 0 p
         by_zero false p = refl
-
--- the failure state and the match word of a node are stored
-pub noted : (t : List ℕ) (q f m : ℕ) → 8 * q + 7 < length t → m ≡ own_or (matched t q) (matched t f)
-    → Noted t (set (set t (8 * q + 7) f) (8 * q + 6) m) q f
-noted t q f m h e =
-    record {
-      size = length-set (set t (8 * q + 7) f) (8 * q + 6) m ∙ length-set t (8 * q + 7) f;
-      own_failure =
-          get_or-set_other (set t (8 * q + 7) f) (8 * q + 6) (8 * q + 7) m 0 (λ p. omega arith)
-          ∙ get_or-set_same t (8 * q + 7) f 0 h;
-      own_match = get_or-set_same (set t (8 * q + 7) f) (8 * q + 6) m 0 (rw length-set (omega arith)) ∙ e;
-      rest = λ k d₆ d₇. get_or-set_other (set t (8 * q + 7) f) (8 * q + 6) k m 0 d₆ ∙ get_or-set_other t (8 * q + 7) k f 0 d₇;
-    }

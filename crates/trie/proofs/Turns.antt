@@ -12,8 +12,9 @@ use borrow.Author.Tests.{ltb-true, ltb-false, eqb-true, eqb-false, lt-ltb, le-lt
 use Rattle.rewriting.specs.Rules.{RuleSet, in_range}
 use Rattle.layout.specs.States.{states}
 use Rattle.layout.specs.Words.{root, text}
+use Rattle.trie.specs.declared.Node.{Node}
 use Rattle.trie.specs.Nodes.{parent, symbol, depth, failure, failure_by}
-use Rattle.trie.specs.Rows.{Merged, Noted, reached, Filling, FillingAt}
+use Rattle.trie.specs.Rows.{Merged, noted, reached, Filling, FillingAt}
 use Rattle.layout.proofs.States.{root-text, few_states, state_long}
 use Rattle.layout.proofs.RowPlaces.{row_end, word_within}
 use Rattle.trie.proofs.Growth.{parent_below}
@@ -76,7 +77,7 @@ reached_longer s d c h = go (ltb l (d + 1)) refl
         rw (e, le-ltb c 0 (omega arith), le-ltb l d (omega arith), ne_eqb l d (λ p. omega arith), and-false)
 
 -- what is done may be said in another way
-pub filling_same : (set : RuleSet) (done done' : ℕ → Bool) (t rows : List ℕ)
+pub filling_same : (set : RuleSet) (done done' : ℕ → Bool) (t : List Node) (rows : List ℕ)
     → ((c : ℕ) → c < length (states set.rules) → done' c ≡ done c) → Filling set done t rows → Filling set done' t rows
 filling_same set done done' t rows same filling =
     record {
@@ -88,14 +89,14 @@ filling_same set done done' t rows same filling =
     }
 
 -- a state of some depth is not the root
-pub filling_other : (set : RuleSet) (d q : ℕ) (t rows : List ℕ) → 0 < d → depth t q ≡ d → q < length (states set.rules)
+pub filling_other : (set : RuleSet) (d q : ℕ) (t : List Node) (rows : List ℕ) → 0 < d → depth t q ≡ d → q < length (states set.rules)
     → FillingAt set d q t rows → (top : ℕ) → top ≡ root set.rules → q ≢ top
 filling_other set d q t rows pos deep h filling top is e =
     let empty : text set.rules q ≡ [] = ap (text set.rules) (e ∙ is) ∙ root-text set.rules in
     omega (arith, filling.trie.deep q h, ap length empty)
 
 -- a state of another depth is passed over
-pub filling_skip : (set : RuleSet) (d q : ℕ) (t rows : List ℕ) → (depth t q ≡ d → ⊥) → q < length (states set.rules)
+pub filling_skip : (set : RuleSet) (d q : ℕ) (t : List Node) (rows : List ℕ) → (depth t q ≡ d → ⊥) → q < length (states set.rules)
     → FillingAt set d q t rows → FillingAt set d (q + 1) t rows
 filling_skip set d q t rows apart h filling =
     filling_same set (reached s d q) (reached s d (q + 1)) t rows
@@ -105,7 +106,7 @@ filling_skip set d q t rows apart h filling =
     s = states set.rules
 
 -- after the last state the next length begins
-pub filling_longer : (set : RuleSet) (d : ℕ) (t rows : List ℕ) → FillingAt set d (length (states set.rules)) t rows
+pub filling_longer : (set : RuleSet) (d : ℕ) (t : List Node) (rows : List ℕ) → FillingAt set d (length (states set.rules)) t rows
     → FillingAt set (d + 1) 0 t rows
 filling_longer set d t rows filling =
     filling_same set (reached s d (length s)) (reached s (d + 1) 0) t rows (reached_longer s d) filling
@@ -114,7 +115,7 @@ filling_longer set d t rows filling =
     s = states set.rules
 
 -- A state whose turn it is, is filled: where its failure state stands, and what holds when it is done.
-module _ (set : RuleSet) (q : ℕ) (t rows : List ℕ) (filling : FillingAt set (depth t q) q t rows)
+module _ (set : RuleSet) (q : ℕ) (t : List Node) (rows : List ℕ) (filling : FillingAt set (depth t q) q t rows)
     (in_range_lem : in_range set ≡ true) (other : q ≡ root set.rules → ⊥) (below : q < length (states set.rules))
   where
     long : length (text set.rules q) ≡ depth t q
@@ -125,7 +126,7 @@ module _ (set : RuleSet) (q : ℕ) (t rows : List ℕ) (filling : FillingAt set 
     shorter c h k = reached_shorter (states set.rules) (depth t q) q c (rw long at k)
 
     -- its node and its parent's lie within the trie
-    pub nodes_within : (8 * q + 7 < length t) × (8 * parent t q + 7 < length t)
+    pub nodes_within : (q < length t) × (parent t q < length t)
     nodes_within =
         let up = parent_below (root set.rules) (states set.rules) set.symbols t filling.trie q other below in
         (omega (arith, filling.trie.linked.size), omega (arith, filling.trie.linked.size))
@@ -140,14 +141,14 @@ module _ (set : RuleSet) (q : ℕ) (t rows : List ℕ) (filling : FillingAt set 
 
     -- the failure state's node and both rows lie within their areas, and its number fits 16 bits
     pub failure_within : (f : ℕ) → f ≡ failure_by t rows set.symbols (root set.rules) q
-        → (8 * f + 7 < length t)
+        → (f < length t)
         × (f < 65536)
         × (q * set.symbols + set.symbols ≤ length rows)
         × (f * set.symbols + set.symbols ≤ length rows)
     failure_within f is =
         let n : ℕ = length (states set.rules) in
         let size : length rows ≡ n * set.symbols = filling.size in
-        let room : 8 * n ≤ length t = filling.trie.linked.size in
+        let room : n ≤ length t = filling.trie.linked.size in
         let found = own_failure set (reached (states set.rules) (depth t q) q) t rows filling q in_range_lem other below shorter in
         let place : f < n = (fails_to set.rules (text set.rules q) (state_long set.rules q other below) f (is ∙ found)).place in (
           omega arith,
@@ -156,9 +157,9 @@ module _ (set : RuleSet) (q : ℕ) (t rows : List ℕ) (filling : FillingAt set 
           omega (arith, row_end set.symbols f n place),
         )
 
-    pub filling_more : (t' rows' : List ℕ) (f : ℕ) → f ≡ failure_by t rows set.symbols (root set.rules) q → Noted t t' q f
+    pub filling_more : (t' : List Node) (rows' : List ℕ) (f : ℕ) → f ≡ failure_by t rows set.symbols (root set.rules) q → t' ≡ noted t q f
         → Merged rows rows' set.symbols q f set.symbols → FillingAt set (depth t q) (q + 1) t' rows'
-    filling_more t' rows' f is noted merged =
+    filling_more t' rows' f is note merged =
         state_filled set (reached (states set.rules) (depth t q) q) t rows filling q in_range_lem other below shorter
         (reached (states set.rules) (depth t q) (q + 1)) t' rows' f (reached-next (states set.rules) (depth t q) q long)
-        (reached-own (states set.rules) (depth t q) q long) (reached_other (states set.rules) (depth t q) q) is noted merged
+        (reached-own (states set.rules) (depth t q) q long) (reached_other (states set.rules) (depth t q) q) is note merged

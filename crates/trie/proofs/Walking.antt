@@ -1,6 +1,6 @@
 -- The walk along one left side, from the root or the mark, in the trie of the rules before it.
 -- Assumes nothing.
-use Prim.Native.Nat.{ℕ, zero, suc, ◌+◌, ◌*◌, ◌-◌, ◌≤◌, ◌<◌}
+use Prim.Native.Nat.{ℕ, zero, suc, ◌+◌, ◌-◌, ◌≤◌, ◌<◌}
 use mathlib.Core.Path.{◌≡◌, refl, sym, ap, ◌∙◌}
 use mathlib.Core.Bool.{Bool, true, false, cond, ◌||◌}
 use Rattle.std.specs.Prelude.{None}
@@ -8,8 +8,8 @@ use mathlib.Core.List.{List, [], ◌∷◌, ◌++◌, map, flat_map, append-nil}
 use native.Mathlib.Omega.{arith}
 use native.Mathlib.Nat.{le_of_suc-le-suc, not-suc-le-zero, min-le_left}
 use lib.Dec.{ltb}
-use lib.ListN.{length, get_or, take, length-append, length-take}
-use lib.Seq.{take-suc, take_all}
+use lib.ListN.{length, get_or, take, drop, length-append, length-take, length-drop}
+use lib.Seq.{take-suc, take_all, get_or-take, get_or-drop, length-take-le}
 use borrow.Author.Tests.{ltb-true}
 use Rattle.rewriting.specs.Rules.{Rule, RuleSet, rule, in_range}
 use Rattle.rewriting.proofs.Lists.{all_at, or_left, or_right, flat_map_snoc}
@@ -19,6 +19,7 @@ use Rattle.layout.specs.Places.{left_at}
 use Rattle.layout.proofs.Image.{valid-in_range}
 use Rattle.layout.proofs.Places.{left_within, left_symbol, body_left}
 use Rattle.trie.proofs.Marks.{mark_here, root_found}
+use Rattle.trie.specs.declared.Node.{Node}
 use Rattle.trie.specs.declared.Walked.{Walked}
 use Rattle.layout.specs.States.{mark, pattern, is_prefix, prefixes, known, numbered, has_mark, first_states}
 use Rattle.layout.specs.Words.{root, own}
@@ -99,11 +100,11 @@ left_bodies (r ∷ rs) =
     let own = body_left r in
     simp length-append (omega arith)
 
--- so 4,112 words are enough for every rule set, and 512 for bodies of less than 63 symbols
-pub roomy_large : (b : List ℕ) → valid b ≡ true → Roomy (read b) 4112
+-- so 514 nodes are enough for every rule set, and 64 for bodies of less than 63 symbols
+pub roomy_large : (b : List ℕ) → valid b ≡ true → Roomy (read b) 514
 roomy_large b e = omega (arith, few_symbols (read b) (valid-in_range b e))
 
-pub roomy_small : (b : List ℕ) → length (flat_map body (read b).rules) < 63 → Roomy (read b) 512
+pub roomy_small : (b : List ℕ) → length (flat_map body (read b).rules) < 63 → Roomy (read b) 64
 roomy_small b few = omega (arith, left_bodies (read b).rules)
 
 -- the symbols of the first i left sides and of left side i are among all
@@ -176,7 +177,7 @@ module _ (set : RuleSet) (i words : ℕ) where
   abbrev pub sofar : ℕ → List (List ℕ)
   sofar j = numbered (states_of set i) (take (lead (rule set.rules i) + j) (prefixes (pattern (rule set.rules i))))
 
-  pub record Walking (j q n : ℕ) (t : List ℕ) : Type 0 where
+  pub record Walking (j q n : ℕ) (t : List Node) : Type 0 where
     pub within : j ≤ length (rule set.rules i).left
     pub trie : Trie (root set.rules) (sofar j) set.symbols t
     pub owned : Owned (take i set.rules) (sofar j) t
@@ -205,7 +206,7 @@ module _ (set : RuleSet) (i words : ℕ) where
       go true m = numbered-known (states_of set i) (mark ∷ []) [] (mark-known m lt)
       go false m = refl
 
-  first_there : (t : List ℕ) → Trie (root set.rules) (states_of set i) set.symbols t → i < length set.rules
+  first_there : (t : List Node) → Trie (root set.rules) (states_of set i) set.symbols t → i < length set.rules
       → (first_node set i < length (states_of set i))
       × (get_or (states_of set i) (first_node set i) [] ≡ take (lead (rule set.rules i) + 0) (pattern (rule set.rules i)))
   unfolding first_node lead pattern
@@ -221,7 +222,7 @@ module _ (set : RuleSet) (i words : ℕ) where
       )
       go false m = (trie.some_node, trie.root-empty)
 
-  pub walk_first : (t : List ℕ) → Grown set i t → i < length set.rules → (n : ℕ) → n ≡ length (states_of set i) → length t ≡ words
+  pub walk_first : (t : List Node) → Grown set i t → i < length set.rules → (n : ℕ) → n ≡ length (states_of set i) → length t ≡ words
       → (q : ℕ) → q ≡ first_node set i → Walking 0 q n t
   walk_first t g lt n e long q first =
       record {
@@ -290,15 +291,15 @@ module _ (set : RuleSet) (i words : ℕ) where
           ))
 
   -- what a turn asks
-  pub record Room (j q n : ℕ) (t : List ℕ) : Type 0 where
+  pub record Room (j q n : ℕ) (t : List Node) : Type 0 where
     pub linked : Linked (root set.rules) t n
     pub node : q < n
     pub few : n < 514
-    pub room : 8 * n + 7 < length t
+    pub room : n < length t
     pub shallow : depth t q < 514
     pub narrow : children t q < 514
 
-  pub walk_room : in_range set ≡ true → Roomy set words → i < length set.rules → (j q n : ℕ) (t : List ℕ) → Walking j q n t
+  pub walk_room : in_range set ≡ true → Roomy set words → i < length set.rules → (j q n : ℕ) (t : List Node) → Walking j q n t
       → j < length (rule set.rules i).left → Room j q n t
   walk_room e roomy lt j q n t w more =
       let h = ranges set e in
@@ -333,8 +334,8 @@ module _ (set : RuleSet) (i words : ℕ) where
       }
 
   -- a turn
-  pub walk_next : in_range set ≡ true → Roomy set words → i < length set.rules → (j q n : ℕ) (t : List ℕ) → Walking j q n t
-      → j < length (rule set.rules i).left → (a : ℕ) → a ≡ get_or (rule set.rules i).left j 0 → (w : Walked) (t' : List ℕ)
+  pub walk_next : in_range set ≡ true → Roomy set words → i < length set.rules → (j q n : ℕ) (t : List Node) → Walking j q n t
+      → j < length (rule set.rules i).left → (a : ℕ) → a ≡ get_or (rule set.rules i).left j 0 → (w : Walked) (t' : List Node)
       → Followed (root set.rules) t n q a w t' → Walking (suc j) w.node w.nodes t'
   walk_next e roomy lt j q n t k more a is w t' f =
       record {
@@ -379,7 +380,7 @@ module _ (set : RuleSet) (i words : ℕ) where
           (take (suc (lead (rule set.rules i) + j)) (pattern (rule set.rules i)) ∷ []))
 
   -- the end
-  pub walk_last : i < length set.rules → (j q n : ℕ) (t : List ℕ) → Walking j q n t → length (rule set.rules i).left ≤ j
+  pub walk_last : i < length set.rules → (j q n : ℕ) (t : List Node) → Walking j q n t → length (rule set.rules i).left ≤ j
       → FollowedRule set i (record { node = q; nodes = n }) t
   walk_last lt j q n t w far =
       record {
@@ -398,11 +399,23 @@ module _ (set : RuleSet) (i words : ℕ) where
           states-next set i lt
           ∙ rw (take_all (lead (rule set.rules i) + j) (prefixes (pattern (rule set.rules i))) (rw length-prefixes long))
 
--- the symbols of a left side in the image
-module _ (b : List ℕ) (e : valid b ≡ true) (i at j : ℕ) (lt : i < length (read b).rules) (here : at ≡ left_at (read b) i)
-    (more : j < length (rule (read b).rules i).left) where
-  pub symbol_within : at + j < length b
-  symbol_within = omega (arith, left_within b e i lt, body_left (rule (read b).rules i))
+-- the part of the image that is a left side
+module _ (b : List ℕ) (e : valid b ≡ true) (i at long : ℕ) (lt : i < length (read b).rules) (here : at ≡ left_at (read b) i)
+    (is : long ≡ length (rule (read b).rules i).left) where
+  pub left_inside : at + long ≤ length b
+  left_inside = omega (arith, left_within b e i lt, body_left (rule (read b).rules i))
 
-  pub symbol_at : get_or b (at + j) 0 ≡ get_or (rule (read b).rules i).left j 0
-  symbol_at = rw here (left_symbol b e i j lt more)
+  pub part_length : length (take (at + long - at) (drop at b)) ≡ long
+  part_length =
+      length-take-le (at + long - at) (drop at b) (rw length-drop (omega (arith, left_inside))) ∙ omega arith
+
+  -- before its end there are symbols
+  pub within_left : (j : ℕ) → j < length (take (at + long - at) (drop at b)) → j < length (rule (read b).rules i).left
+  within_left j h = rw (part_length, is) at h
+
+  pub symbol_at : (j : ℕ) → j < length (rule (read b).rules i).left
+      → get_or (take (at + long - at) (drop at b)) j 0 ≡ get_or (rule (read b).rules i).left j 0
+  symbol_at j more =
+      get_or-take (at + long - at) (drop at b) j 0 (omega arith)
+      ∙ get_or-drop at b j 0
+      ∙ rw here (left_symbol b e i j lt more)

@@ -1,12 +1,13 @@
 -- Rows and match words, as they are filled from the trie: first each row has the node's children alone, then state by
 -- state, short before long, what the state lacks is taken from its failure state.
-use Rattle.std.specs.Prelude.{ℕ, ◌+◌, ◌*◌, ◌≤◌, ◌<◌, ◌≡◌, Bool, true, cond, ◌&&◌, ◌||◌, eqb, ltb, length, get_or}
+use Rattle.std.specs.Prelude.{ℕ, ◌+◌, ◌*◌, ◌≤◌, ◌<◌, ◌≡◌, Bool, true, cond, ◌&&◌, ◌||◌, eqb, ltb, length, get_or, set}
 use mathlib.Core.List.{List, [], ◌∷◌, ◌++◌, flat_map}
 use Rattle.rewriting.specs.Rules.{RuleSet}
 use Rattle.layout.specs.States.{next, matching, known, states, number}
 use Rattle.layout.specs.Table.{match_word, row}
 use Rattle.layout.specs.Words.{root, text, own, transition, own_or}
-use Rattle.trie.specs.Nodes.{match_at, failure_at, matched, failure, TrieOf, RightFailure}
+use Rattle.trie.specs.declared.Node.{Node}
+use Rattle.trie.specs.Nodes.{node, matched, TrieOf, RightFailure}
 
 -- the child of state v by symbol a, 0 where it has none
 unfoldable pub child_number : List (List ℕ) → List ℕ → ℕ → ℕ
@@ -19,7 +20,7 @@ pub record Laid (set : RuleSet) (rows : List ℕ) : Type 0 where
       → transition rows set.symbols c a ≡ child_number (states set.rules) (text set.rules c) a
 
 -- each 0 among the first n words of the root's row has become the root's number, and all else is as it was
-pub record Rooted (rows rows' : List ℕ) (symbols root n : ℕ) : Type 0 where
+pub record RootFilled (rows rows' : List ℕ) (symbols root n : ℕ) : Type 0 where
   pub size : length rows' ≡ length rows
   pub own : (a : ℕ) → a < n → transition rows' symbols root a ≡ own_or (transition rows symbols root a) root
   pub before : (k : ℕ) → k < root * symbols → get_or rows' k 0 ≡ get_or rows k 0
@@ -33,12 +34,9 @@ pub record Merged (rows rows' : List ℕ) (symbols q f n : ℕ) : Type 0 where
   pub before : (k : ℕ) → k < q * symbols → get_or rows' k 0 ≡ get_or rows k 0
   pub behind : (k : ℕ) → q * symbols + n ≤ k → get_or rows' k 0 ≡ get_or rows k 0
 
--- node q has the failure state f and, where it had no match word, that of f; all else is as it was
-pub record Noted (t t' : List ℕ) (q f : ℕ) : Type 0 where
-  pub size : length t' ≡ length t
-  pub own_failure : failure t' q ≡ f
-  pub own_match : matched t' q ≡ own_or (matched t q) (matched t f)
-  pub rest : (k : ℕ) → (k ≡ match_at q → ⊥) → (k ≡ failure_at q → ⊥) → get_or t' k 0 ≡ get_or t k 0
+-- t with the failure state f at node q and, where that had no match word, that of f
+unfoldable pub noted : List Node → ℕ → ℕ → List Node
+noted t q f = set t q (record (node t q) { matched = own_or (matched t q) (matched t f); failure = f })
 
 -- state c's turn has come, where state q of the states of length d is next
 unfoldable pub reached : List (List ℕ) → ℕ → ℕ → ℕ → Bool
@@ -46,7 +44,7 @@ reached s d q c = ltb (length (get_or s c [])) d || (eqb (length (get_or s c [])
 
 -- The states that are done have their failure state and the match word and row of the table, the others their own left
 -- side's match word and the row of their children.
-pub record Filling (set : RuleSet) (done : ℕ → Bool) (t rows : List ℕ) : Type 0 where
+pub record Filling (set : RuleSet) (done : ℕ → Bool) (t : List Node) (rows : List ℕ) : Type 0 where
   pub trie : TrieOf set t
   pub size : length rows ≡ length (states set.rules) * set.symbols
   pub matches : (c : ℕ) → c < length (states set.rules)
@@ -58,15 +56,15 @@ pub record Filling (set : RuleSet) (done : ℕ → Bool) (t rows : List ℕ) : T
       (child_number (states set.rules) (text set.rules c) a)
 
 -- the states of length below d are done, and those of length d below state q
-abbrev pub FillingAt : RuleSet → ℕ → ℕ → List ℕ → List ℕ → Type 0
+abbrev pub FillingAt : RuleSet → ℕ → ℕ → List Node → List ℕ → Type 0
 FillingAt set d q t rows = Filling set (reached (states set.rules) d q) t rows
 
 -- each node's match word is the table's
-abbrev pub Matched : RuleSet → List ℕ → Type 0
+abbrev pub Matched : RuleSet → List Node → Type 0
 Matched set t = (c : ℕ) → c < length (states set.rules) → matched t c ≡ match_word (matching set.rules (text set.rules c))
 
 -- what is there when the rows are filled: the rows of the table, and its match words in the nodes
-pub record Filled (set : RuleSet) (t t' rows : List ℕ) : Type 0 where
+pub record Filled (set : RuleSet) (t t' : List Node) (rows : List ℕ) : Type 0 where
   pub size : length t' ≡ length t
   pub table : rows ≡ flat_map (row set) (states set.rules)
   pub matches : Matched set t'

@@ -1,15 +1,15 @@
-// The trie of the left sides, one node of eight words for each state. specs/Nodes.antt has the layout.
+// The trie of the left sides, a node for each state. The nodes stand in a lent array and name each other by index: the library has
+// no heap, and its memory is fixed. They are lent as a plain slice: a struct around it would be no plainer, since each contract would
+// say that it holds the same slice still, and what is known of the nodes changes from step to step.
 // What its functions ask, compile and check of the crate table have shown: it is the only one that calls them.
 #![tactic(auto)]
 
-ghost use Rattle.std.specs.Prelude.{◌+◌, ◌*◌, ◌<◌, ◌≤◌, ◌≡◌, true, ◌≢◌, length, replicate};
-ghost use Rattle.layout.specs.Image.{read, valid};
+ghost use Rattle.std.specs.Prelude.{◌+◌, ◌*◌, ◌<◌, ◌≤◌, ◌≡◌, ◌≢◌, length, replicate};
 ghost use Rattle.layout.specs.Places.{left_at};
 ghost use Rattle.layout.specs.States.{states_most};
-ghost use Rattle.layout.specs.Words as Words;
+ghost use Rattle.image.specs.Sets.{set_of};
 ghost use Rattle.trie.specs.Nodes.{
-  failure_at,
-  symbol_at,
+  unused,
   parent,
   symbol,
   depth,
@@ -30,31 +30,45 @@ ghost use Rattle.trie.specs.Nodes.{
   Built,
 };
 
-use image::wide;
+use image::Rooted;
 
 pub mod rows;
 
-// A node has eight words: its parent, then these. specs/Nodes.antt says what they are.
-pub const NODE: usize = 8;
+// A node. Of its links youngest and older name no node where they are 0.
+#[derive(Clone, Copy)]
+pub struct Node {
+    // the node of the state without its last symbol, and that symbol
+    pub parent: u16,
+    pub symbol: u16,
+    // how many symbols the state has
+    pub depth: u16,
+    // its youngest child, its parent's next older child, and how many children it has
+    pub youngest: u16,
+    pub older: u16,
+    pub children: u16,
+    // match word: first of the rules whose left side is the state itself, in the end the table's
+    pub matched: u16,
+    // its failure state, once it is known
+    pub failure: u16,
+}
 
-pub const SYMBOL: usize = 1;
+impl Node {
+    pub const UNUSED: Self = Node {
+        parent: 0,
+        symbol: 0,
+        depth: 0,
+        youngest: 0,
+        older: 0,
+        children: 0,
+        matched: 0,
+        failure: 0,
+    };
+}
 
-pub const DEPTH: usize = 2;
+// The bound on the number of states, and a bound for a small rule set.
+pub const NODES: usize = 514;
 
-pub const YOUNGEST: usize = 3;
-
-pub const OLDER: usize = 4;
-
-pub const CHILDREN: usize = 5;
-
-pub const MATCH: usize = 6;
-
-pub const FAILURE: usize = 7;
-
-// The words of 514 nodes, the bound on the number of states, and of 64, for a small rule set.
-pub const WORDS: usize = 4112;
-
-pub const FEW_WORDS: usize = 512;
+pub const FEW_NODES: usize = 64;
 
 // Where a walk has come to, and the number of nodes.
 #[derive(Clone, Copy)]
@@ -63,74 +77,70 @@ pub struct Walked {
     pub nodes: usize,
 }
 
-// A symbol as a word.
-fn word(x: u8) -> u16
-    ensures { result ≡ x }
-{
-    x as u16
-}
-
 // The failure state of node q, by the failure state of its parent and the row of that: the root for a child of the root.
-pub fn failure_of(trie: &[u16], rows: &[u16], s: usize, root: usize, q: usize) -> usize
-    requires node { symbol_at q < length trie.now }
-    requires up { failure_at (parent trie.now q) < length trie.now }
+pub fn failure_of(trie: &[Node], rows: &[u16], s: usize, root: usize, q: usize) -> usize
+    requires node { q < length trie.now }
+    requires up { parent trie.now q < length trie.now }
     requires row { parent trie.now q ≢ root → failure trie.now (parent trie.now q) * s + symbol trie.now q < length rows.now }
     ensures { result ≡ failure_by trie.now rows.now s root q }
 {
-    let p = wide::word(trie[NODE * q]);
+    let p = usize::from(trie[q].parent);
     if p == root {
         return root;
     }
-    let a = wide::word(trie[NODE * q + SYMBOL]);
-    let f = wide::word(trie[NODE * p + FAILURE]);
-    wide::word(rows[f * s + a])
+    let a = usize::from(trie[q].symbol);
+    let f = usize::from(trie[p].failure);
+    usize::from(rows[f * s + a])
 }
 
-// The child of node q by symbol a, or 0 where it has none: no child is node 0. The root and the number of nodes are named for the
-// contract alone.
-fn child(trie: &[u16], root: usize, n: usize, q: usize, a: u16) -> usize
+// The child of node q by symbol a. The root and the number of nodes are named for the contract alone. The loop follows links, which
+// are no items of anything.
+fn child(trie: &[Node], root: usize, n: usize, q: usize, a: u16) -> Option<usize>
     requires links { Linked root trie.now n }
     requires node { q < n }
     ensures { ChildOr root trie.now n q a result }
 {
-    let mut c = wide::word(trie[NODE * q + YOUNGEST]);
+    let mut c = usize::from(trie[q].youngest);
     while 0 < c {
-        if trie[NODE * c + SYMBOL] == a {
-            return c;
+        if trie[c].symbol == a {
+            return Some(c);
         }
-        c = wide::word(trie[NODE * c + OLDER]);
+        c = usize::from(trie[c].older);
     }
-    0
+    None
 }
 
 // Node n becomes a child of q by symbol a.
-fn add(trie: &mut [u16], n: usize, q: usize, a: u16)
+fn add(trie: &mut [Node], n: usize, q: usize, a: u16)
     requires node { (q < n) × (n < states_most) }
-    requires room { failure_at n < length trie.old }
+    requires room { n < length trie.old }
     requires counts { (depth trie.old q < states_most) × (children trie.old q < states_most) }
     ensures { trie.new ≡ added trie.old n q a }
 {
-    let depth = trie[NODE * q + DEPTH];
-    let youngest = trie[NODE * q + YOUNGEST];
-    let children = trie[NODE * q + CHILDREN];
-    trie[NODE * n] = q as u16;
-    trie[NODE * n + SYMBOL] = a;
-    trie[NODE * n + DEPTH] = depth + 1;
-    trie[NODE * n + OLDER] = youngest;
-    trie[NODE * q + YOUNGEST] = n as u16;
-    trie[NODE * q + CHILDREN] = children + 1;
+    let Node {
+        depth,
+        youngest,
+        ..
+    } = trie[q];
+    let new = &mut trie[n];
+    new.parent = q as u16;
+    new.symbol = a;
+    new.depth = depth + 1;
+    new.older = youngest;
+    let above = &mut trie[q];
+    above.youngest = n as u16;
+    above.children += 1;
 }
 
 // The child of node q by symbol a, added where there is none.
-fn follow(trie: &mut [u16], root: usize, n: usize, q: usize, a: u16) -> Walked
+fn follow(trie: &mut [Node], root: usize, n: usize, q: usize, a: u16) -> Walked
     requires links { Linked root trie.old n }
     requires node { (q < n) × (n < states_most) }
-    requires room { failure_at n < length trie.old }
+    requires room { n < length trie.old }
     requires counts { (depth trie.old q < states_most) × (children trie.old q < states_most) }
     ensures { Followed root trie.old n q a result trie.new }
 {
-    let c = child(trie, root, n, q, a);
-    if 0 < c {
+    if let Some(c) = child(trie, root, n, q, a) {
         return Walked { node: c, nodes: n };
     }
     add(trie, n, q, a);
@@ -141,88 +151,79 @@ fn follow(trie: &mut [u16], root: usize, n: usize, q: usize, a: u16) -> Walked
 }
 
 // Rule i becomes the rule of node q, unless a lower rule has it already.
-fn claim(trie: &mut [u16], q: usize, i: usize)
-    requires node { failure_at q < length trie.old }
+fn claim(trie: &mut [Node], q: usize, i: usize)
+    requires node { q < length trie.old }
     requires rule { i < 64 }
     ensures { trie.new ≡ claimed trie.old q i }
 {
-    if trie[NODE * q + MATCH] == 0 {
-        trie[NODE * q + MATCH] = (i + 1) as u16;
+    if trie[q].matched == 0 {
+        trie[q].matched = (i + 1) as u16;
     }
 }
 
 // The node that the left side of rule i is followed from: 0, the mark's, where it has the mark, which makes the root 1.
-fn first_node(image: &[u8], root: usize, i: usize) -> usize
-    requires image { valid image.now ≡ true }
-    requires rule { i < length (read image.now).rules }
-    requires root { root ≡ Words.root (read image.now).rules }
-    ensures { result ≡ first_node (read image.now) i }
+fn first_node(rooted: Rooted<'_>, i: usize) -> usize
+    requires { i < length (set_of rooted.image).rules }
+    ensures { result ≡ first_node (set_of rooted.entry.image) i }
 {
-    root - image::mark(image, i)
+    rooted.root - rooted.image.mark(i)
 }
 
 // Follows the left side of rule i, which begins at byte `at`, in the trie of the n states of the rules before it: from the mark's
 // node where the rule has the mark, else from the root.
-fn walk(image: &[u8], root: usize, i: usize, at: usize, trie: &mut [u16], n: usize) -> Walked
-    requires image { valid image.now ≡ true }
-    requires root { root ≡ Words.root (read image.now).rules }
-    requires rule { (i < length (read image.now).rules) × (at ≡ left_at (read image.now) i) }
-    requires trie { (Grown (read image.now) i trie.old) × (Roomy (read image.now) (length trie.old)) }
-    requires nodes { n ≡ length (states_of (read image.now) i) }
-    ensures { (FollowedRule (read image.now) i result trie.new) × (length trie.new ≡ length trie.old) }
+fn walk(rooted: Rooted<'_>, i: usize, at: usize, trie: &mut [Node], n: usize) -> Walked
+    requires rule { (i < length (set_of rooted.image).rules) × (at ≡ left_at (set_of rooted.image) i) }
+    requires trie { (Grown (set_of rooted.image) i trie.old) × (Roomy (set_of rooted.image) (length trie.old)) }
+    requires nodes { n ≡ length (states_of (set_of rooted.image) i) }
+    ensures { (FollowedRule (set_of rooted.entry.image) i result trie.new) × (length trie.new ≡ length trie.old) }
 {
-    let long = image::left_length(image, i);
-    let mut q = first_node(image, root, i);
+    let long = rooted.image.left_length(i);
+    let mut q = first_node(rooted, i);
     let mut nodes = n;
-    let mut j = 0;
-    while j < long {
-        let w = follow(trie, root, nodes, q, word(image[at + j]));
+    for &a in &rooted.image.bytes[at..at + long] {
+        let w = follow(trie, rooted.root, nodes, q, u16::from(a));
         q = w.node;
         nodes = w.nodes;
-        j += 1;
     }
     Walked { node: q, nodes }
 }
 
 // Node 0 for the mark alone: node 1, the root, is its parent and its failure state.
-fn plant(trie: &mut [u16])
-    requires room { 8 ≤ length trie.old }
+fn plant(trie: &mut [Node])
+    requires room { 0 < length trie.old }
     ensures { trie.new ≡ planted 1 trie.old }
 {
-    trie[0] = 1;
-    trie[DEPTH] = 1;
-    trie[FAILURE] = 1;
+    trie[0] = Node {
+        parent: 1,
+        depth: 1,
+        failure: 1,
+        ..Node::UNUSED
+    };
 }
 
-// The nodes before any rule, in words that were 0. Without a mark nothing is written. The image is named for the contract alone.
-pub fn begin(image: &[u8], root: usize, trie: &mut [u16])
-    requires image { valid image.now ≡ true }
-    requires root { root ≡ Words.root (read image.now).rules }
-    requires trie { (trie.old ≡ replicate (length trie.old) 0) × (Roomy (read image.now) (length trie.old)) }
-    ensures { (Grown (read image.now) 0 trie.new) × (length trie.new ≡ length trie.old) }
+// The nodes before any rule, where none is in use. Without a mark nothing is written.
+pub fn begin(rooted: Rooted<'_>, trie: &mut [Node])
+    requires { (trie.old ≡ replicate (length trie.old) unused) × (Roomy (set_of rooted.image) (length trie.old)) }
+    ensures { (Grown (set_of rooted.entry.image) 0 trie.new) × (length trie.new ≡ length trie.old) }
 {
-    if 0 < root {
+    if 0 < rooted.root {
         plant(trie);
     }
 }
 
 // The trie of all left sides, from the first nodes on, and the number of its nodes.
-pub fn build(image: &[u8], root: usize, trie: &mut [u16]) -> usize
-    requires image { valid image.now ≡ true }
-    requires root { root ≡ Words.root (read image.now).rules }
-    requires trie { (Grown (read image.now) 0 trie.old) × (Roomy (read image.now) (length trie.old)) }
-    ensures { Built (read image.now) result trie.new }
+pub fn build(rooted: Rooted<'_>, trie: &mut [Node]) -> usize
+    requires { (Grown (set_of rooted.image) 0 trie.old) × (Roomy (set_of rooted.image) (length trie.old)) }
+    ensures { Built (set_of rooted.entry.image) result trie.new }
 {
-    let rules = image::rules(image);
-    let mut n = root + 1;
+    let rules = rooted.image.rules();
+    let mut n = rooted.root + 1;
     let mut at = 4 + 4 * rules;
-    let mut i = 0;
-    while i < rules {
-        let w = walk(image, root, i, at, trie, n);
+    for i in 0..rules {
+        let w = walk(rooted, i, at, trie, n);
         claim(trie, w.node, i);
         n = w.nodes;
-        at += image::body_length(image, i);
-        i += 1;
+        at += rooted.image.body_length(i);
     }
     n
 }

@@ -1,39 +1,28 @@
 // The rows and match words of the table, filled from the trie. specs/Rows.antt says what stands in them on the way.
 // What its functions ask, compile has shown.
-ghost use Rattle.std.specs.Prelude.{◌+◌, ◌*◌, ◌≤◌, ◌<◌, ◌≡◌, true, ◌≢◌, map, length, replicate};
-ghost use Rattle.layout.specs.Image.{read, valid};
+ghost use Rattle.std.specs.Prelude.{◌+◌, ◌*◌, ◌≤◌, ◌<◌, ◌≡◌, ◌≢◌, map, length, replicate};
+ghost use Rattle.layout.specs.Image.{read};
 ghost use Rattle.layout.specs.States.{states, matching};
 ghost use Rattle.layout.specs.Table.{match_word};
-ghost use Rattle.layout.specs.Words as Words;
 ghost use Rattle.layout.specs.Words.{Longest, own_or};
-ghost use Rattle.trie.specs.Nodes.{failure_at, node_words, depth, TrieOf, Built};
-ghost use Rattle.trie.specs.Rows.{Laid, Rooted, Merged, Noted, FillingAt, Matched, Filled};
+ghost use Rattle.image.specs.Sets.{set_of};
+ghost use Rattle.trie.specs.Nodes.{depth, TrieOf, Built};
+ghost use Rattle.trie.specs.Rows.{Laid, RootFilled, Merged, noted, FillingAt, Matched, Filled};
 
-use crate::{DEPTH, FAILURE, MATCH, NODE, SYMBOL, failure_of};
-use image::wide;
+use crate::{Node, failure_of};
+use image::{Image, Rooted};
 
-// All words 0.
-fn clear(rows: &mut [u16])
-    ensures { rows.new ≡ replicate (length rows.old) 0 }
+// Each node's number, which the loop counts, into the row of its parent.
+fn lay_children(rooted: Rooted<'_>, trie: &[Node], rows: &mut [u16])
+    requires trie { TrieOf (set_of rooted.image) trie.now }
+    requires count { length trie.now ≡ length (states (set_of rooted.image).rules) }
+    requires clear { rows.old ≡ replicate (length trie.now * (set_of rooted.image).symbols) 0 }
+    ensures { Laid (set_of rooted.entry.image) rows.new }
 {
-    for k in 0..rows.len() {
-        rows[k] = 0;
-    }
-}
-
-// Each node's number into the row of its parent.
-fn lay_children(image: &[u8], root: usize, trie: &[u16], n: usize, rows: &mut [u16])
-    requires image_value { valid image.now ≡ true }
-    requires root { root ≡ Words.root (read image.now).rules }
-    requires trie { TrieOf (read image.now) trie.now }
-    requires count { n ≡ length (states (read image.now).rules) }
-    requires clear { rows.old ≡ replicate (n * (read image.now).symbols) 0 }
-    ensures { Laid (read image.now) rows.new }
-{
-    let s = image::symbols(image);
-    for c in root + 1..n {
-        let p = wide::word(trie[NODE * c]);
-        let a = wide::word(trie[NODE * c + SYMBOL]);
+    let s = rooted.image.symbols();
+    for c in rooted.root + 1..trie.len() {
+        let p = usize::from(trie[c].parent);
+        let a = usize::from(trie[c].symbol);
         rows[p * s + a] = c as u16;
     }
 }
@@ -50,16 +39,15 @@ fn chosen(own: u16, other: u16) -> u16
 fn fill_root(rows: &mut [u16], s: usize, root: usize)
     requires own { root * s + s ≤ length rows.old }
     requires low { root ≤ 1 }
-    ensures { Rooted rows.old rows.new s root s }
+    ensures { RootFilled rows.old rows.new s root s }
 {
     let first = root * s;
-    let word = root as u16;
-    for a in 0..s {
-        rows[first + a] = chosen(rows[first + a], word);
+    for word in &mut rows[first..first + s] {
+        *word = chosen(*word, root as u16);
     }
 }
 
-// Each 0 in the row of q becomes the word of the row of f.
+// Each 0 in the row of q becomes the word of the row of f. By index: both rows lie in one slice, which an iterator would hold.
 fn merge(rows: &mut [u16], s: usize, q: usize, f: usize)
     requires own { q * s + s ≤ length rows.old }
     requires other { f * s + s ≤ length rows.old }
@@ -73,91 +61,81 @@ fn merge(rows: &mut [u16], s: usize, q: usize, f: usize)
 }
 
 // The failure state f of node q and, where q has no match word of its own, that of f.
-fn note(trie: &mut [u16], q: usize, f: usize)
-    requires own { failure_at q < length trie.old }
-    requires other { failure_at f < length trie.old }
+fn note(trie: &mut [Node], q: usize, f: usize)
+    requires own { q < length trie.old }
+    requires other { f < length trie.old }
     requires small { f < 65536 }
-    ensures { Noted trie.old trie.new q f }
+    ensures { trie.new ≡ noted trie.old q f }
 {
-    let word = chosen(trie[NODE * q + MATCH], trie[NODE * f + MATCH]);
-    trie[NODE * q + FAILURE] = f as u16;
-    trie[NODE * q + MATCH] = word;
+    let other = trie[f].matched;
+    let node = &mut trie[q];
+    node.matched = chosen(node.matched, other);
+    node.failure = f as u16;
 }
 
 // State q, whose turn it is: its failure state, match word and row.
-fn fill_state(image: &[u8], root: usize, trie: &mut [u16], rows: &mut [u16], q: usize)
-    requires image_value { valid image.now ≡ true }
-    requires root { root ≡ Words.root (read image.now).rules }
-    requires state { (q ≢ root) × (q < length (states (read image.now).rules)) }
-    requires filling { FillingAt (read image.now) (depth trie.old q) q trie.old rows.old }
-    ensures { FillingAt (read image.now) (depth trie.old q) (q + 1) trie.new rows.new }
+fn fill_state(rooted: Rooted<'_>, trie: &mut [Node], rows: &mut [u16], q: usize)
+    requires state { (q ≢ rooted.root) × (q < length (states (set_of rooted.image).rules)) }
+    requires filling { FillingAt (set_of rooted.image) (depth trie.old q) q trie.old rows.old }
+    ensures { FillingAt (set_of rooted.entry.image) (depth trie.old q) (q + 1) trie.new rows.new }
 {
-    let s = image::symbols(image);
-    let f = failure_of(trie, rows, s, root, q);
+    let s = rooted.image.symbols();
+    let f = failure_of(trie, rows, s, rooted.root, q);
     note(trie, q, f);
     merge(rows, s, q, f);
 }
 
-// The states of depth d, whose turn it is.
-fn fill_depth(image: &[u8], root: usize, trie: &mut [u16], rows: &mut [u16], n: usize, d: u16)
-    requires image_value { valid image.now ≡ true }
-    requires root { root ≡ Words.root (read image.now).rules }
-    requires count { n ≡ length (states (read image.now).rules) }
+// The states of depth d, whose turn it is. By index: a turn takes all nodes, which an iterator would hold.
+fn fill_depth(rooted: Rooted<'_>, trie: &mut [Node], rows: &mut [u16], d: u16)
+    requires count { length trie.old ≡ length (states (set_of rooted.image).rules) }
     requires some { 0 < d }
-    requires filling { FillingAt (read image.now) d 0 trie.old rows.old }
-    ensures { FillingAt (read image.now) (d + 1) 0 trie.new rows.new }
+    requires filling { FillingAt (set_of rooted.image) d 0 trie.old rows.old }
+    ensures { FillingAt (set_of rooted.entry.image) (d + 1) 0 trie.new rows.new }
 {
-    for q in 0..n {
-        if trie[NODE * q + DEPTH] == d {
-            fill_state(image, root, trie, rows, q);
+    for q in 0..trie.len() {
+        if trie[q].depth == d {
+            fill_state(rooted, trie, rows, q);
         }
     }
 }
 
 // The number of symbols of the longest left side.
-fn longest(image: &[u8]) -> usize
-    requires { valid image.now ≡ true }
-    ensures { (result ≤ 8) × Longest result (read image.now).rules }
+fn longest(image: Image<'_>) -> usize
+    ensures { (result ≤ 8) × Longest result (set_of image.entry).rules }
 {
     let mut most = 0;
-    for i in 0..image::rules(image) {
-        let long = image::left_length(image, i);
-        if most < long {
-            most = long;
-        }
+    for i in 0..image.rules() {
+        most = most.max(image.left_length(i));
     }
     most
 }
 
 // The rows of the table, and its match words in the nodes: short states before long, as a failure state is shorter. A state has at
 // most the symbols of the longest left side, and the mark where there is one.
-pub fn fill(image: &[u8], root: usize, trie: &mut [u16], n: usize, rows: &mut [u16])
-    requires image_value { valid image.now ≡ true }
-    requires root { root ≡ Words.root (read image.now).rules }
-    requires trie { Built (read image.now) n trie.old }
-    requires room { length rows.old ≡ length (states (read image.now).rules) * (read image.now).symbols }
-    ensures { Filled (read image.now) trie.old trie.new rows.new }
+pub fn fill(rooted: Rooted<'_>, trie: &mut [Node], rows: &mut [u16])
+    requires trie { Built (set_of rooted.image) (length trie.old) trie.old }
+    requires room { length rows.old ≡ length (states (set_of rooted.image).rules) * (set_of rooted.image).symbols }
+    ensures { Filled (set_of rooted.entry.image) trie.old trie.new rows.new }
 {
-    clear(rows);
-    lay_children(image, root, trie, n, rows);
-    if 0 < root {
-        fill_root(rows, image::symbols(image), root);
+    rows.fill(0);
+    lay_children(rooted, trie, rows);
+    if 0 < rooted.root {
+        fill_root(rows, rooted.image.symbols(), rooted.root);
     }
-    let end = longest(image) + root + 1;
+    let end = longest(rooted.image) + rooted.root + 1;
     for d in 1..end as u16 {
-        fill_depth(image, root, trie, rows, n, d);
+        fill_depth(rooted, trie, rows, d);
     }
 }
 
-// The match words from the nodes.
-pub fn write_matches(image: &[u8], trie: &[u16], n: usize, words: &mut [u16])
+// The match words from the nodes. These by index: of what is written behind a `zip` of `iter_mut` nothing is known.
+pub fn write_matches(image: &[u8], trie: &[Node], words: &mut [u16])
     requires matches { Matched (read image.now) trie.now }
-    requires count { n ≡ length (states (read image.now).rules) }
-    requires nodes { node_words * n ≤ length trie.now }
-    requires size { length words.old ≡ n }
+    requires count { length trie.now ≡ length (states (read image.now).rules) }
+    requires size { length words.old ≡ length trie.now }
     ensures { words.new ≡ map (λ q. match_word (matching (read image.now).rules q)) (states (read image.now).rules) }
 {
-    for q in 0..n {
-        words[q] = trie[NODE * q + MATCH];
+    for (q, word) in words.iter_mut().enumerate() {
+        *word = trie[q].matched;
     }
 }

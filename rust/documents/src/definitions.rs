@@ -98,6 +98,22 @@ fn identifier(text: &str) -> Option<&str> {
     (end > 0).then(|| &text[..end])
 }
 
+/// What stands behind the parameters that an `impl` begins with.
+fn without_parameters(rest: &str) -> &str {
+    let mut depth = 0;
+    for (place, byte) in rest.bytes().enumerate() {
+        match byte {
+            b'<' => depth += 1,
+            b'>' => depth -= 1,
+            _ => {}
+        }
+        if depth == 0 {
+            return if place == 0 { rest } else { &rest[place + 1..] };
+        }
+    }
+    rest
+}
+
 /// Definitions of Rattle and Rust: functions and methods, types with their fields and cases, constants, modules, clauses of
 /// contracts; inside functions variables and labels.
 fn code(text: &str) -> Definitions {
@@ -115,10 +131,7 @@ fn code(text: &str) -> Definitions {
         }
         if let Some(rest) = line.strip_prefix("impl") {
             let rest = rest.split(" for ").last().unwrap_or(rest);
-            let rest =
-                rest.rsplit('>')
-                    .next()
-                    .map_or(rest, |tail| if tail.trim() == "{" { rest } else { tail });
+            let rest = without_parameters(rest.trim_start());
             methods_of = identifier(rest.trim_start()).map(str::to_string);
         }
         let mut words = trimmed;
@@ -240,6 +253,13 @@ pub enum Checked {
     Refused(u32),
 }
 
+impl<'a> Table<'a> {
+    pub fn next(self) -> usize
+    {
+        self.width
+    }
+}
+
 impl Head {
     pub fn offer(self, event: u8) -> Returned
         ensures promise { λ r. r }
@@ -254,6 +274,7 @@ fn played() {}
 ";
         let found = Definitions::of("lib.rt", text);
         for name in [
+            "Table::next",
             "Checked::Refused",
             "Passed",
             "Head::offer",

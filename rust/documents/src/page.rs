@@ -20,7 +20,7 @@ pub const LABELS: [(&str, &[&str]); 10] = [
 ];
 
 /// Words in backticks that look like names and are none of the repository's.
-const WORDS: [&str; 29] = [
+const WORDS: [&str; 35] = [
     // Rattle and antt
     "requires",
     "ensures",
@@ -32,6 +32,12 @@ const WORDS: [&str; 29] = [
     "u32",
     "u64",
     "usize",
+    "Option",
+    "Some",
+    "None",
+    "Result",
+    "Ok",
+    "Err",
     "x.now",
     "x.old",
     "x.new",

@@ -1,16 +1,15 @@
--- `rule_length` meets its contract. The loop's invariant: the bytes of the rule text are counted up to byte i.
-use native.Mathlib.Omega.{arith}
-use Rattle.printing.proofs.Split.{rule_stops, rule_passes, rule-ends}
+-- `rule_length` meets its contract: the rule text ends where the first `%` is found.
+use Rattle.std.proofs.Common.{◌∙◌, ap, rules, tests, length}
+use lib.Dec.{eqb}
+use Rattle.std.specs.Option.{unwrap_or}
+use Rattle.std.proofs.lemmas.Iterator.{YieldsList-from_slice}
+use Rattle.std.proofs.lemmas.Iterator.Search.{position_from_yields_List}
+use Rattle.report.proofs.Walking.{rule_position}
 use Rattle.report.proofs.rule_length.Goals as goal
 
-pub loop-i-init : goal.loop-i-init
-loop-i-init c = omega arith
-
-pub returns-then-input-i-eq37 : goal.returns-then-input-i-eq37
-returns-then-input-i-eq37 c = rule_stops _ _ c.loop-i.invariant c.loop-i-test.true c.if-input-i-eq37.true
-
-pub loop-i-preserved : goal.loop-i-preserved
-loop-i-preserved c = rule_passes _ _ c.loop-i.invariant c.loop-i-test.true c.if-input-i-eq37.false
-
 pub returns : goal.returns
-returns c = rule-ends _ _ c.loop-i.invariant c.loop-i-test.false
+returns c =
+    let found = position_from_yields_List (λ b. eqb b 37) _ _ c.position.result c.position.ensures.ran
+    (YieldsList-from_slice c.args.input.now cc) (λ x b q k. search (rules, tests))
+    in
+    c.unwrap_or.ensures ∙ ap (λ r. unwrap_or r (length c.args.input.now)) found ∙ rule_position c.args.input.now

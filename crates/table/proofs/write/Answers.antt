@@ -1,10 +1,10 @@
 -- `table::write` meets its contract: the first two words, the rows, and the match words between them are the table.
 use Prim.Native.Nat.{◌+◌, ◌≤◌}
-use mathlib.Core.Path.{refl}
+use mathlib.Core.Path.{refl, sym, ◌∙◌}
 use native.Mathlib.Omega.{arith}
 use lib.ListN.{length, length-set}
 use Rattle.rewriting.proofs.Ranges.{ranges}
-use Rattle.layout.specs.Image.{read}
+use Rattle.image.specs.Sets.{set_of}
 use Rattle.layout.proofs.Image.{valid-in_range}
 use Rattle.layout.proofs.States.{few_states}
 use Rattle.table.proofs.Written.{area_some, rows_room, matches_end, matches_room, table_written}
@@ -12,12 +12,12 @@ use Rattle.table.proofs.write.Goals.{Start}
 use Rattle.table.proofs.write.Goals as goal
 
 -- the area has room for the first words
-some : (c : Start) → 2 + c.args.n ≤ length c.args.table.now
-some c = area_some (read c.args.image.now) c.args.table.now c.requires.trie.nodes refl c.requires.size
+some : (c : Start) → 2 + length c.args.trie.now ≤ length c.args.table.now
+some c = area_some (set_of c.args.rooted.image) c.args.table.now c.requires.trie.nodes refl c.requires.size
 
 pub overflow_cast-table : goal.overflow_cast-table
 overflow_cast-table c =
-    omega (arith, c.requires.trie.nodes, few_states _ (valid-in_range _ c.requires.image))
+    omega (arith, c.requires.trie.nodes, few_states _ (valid-in_range _ c.args.rooted.image.valid))
 
 pub bounds-table-0 : goal.bounds-table-0
 bounds-table-0 c =
@@ -26,7 +26,7 @@ bounds-table-0 c =
 
 pub overflow_cast-table-2 : goal.overflow_cast-table-2
 overflow_cast-table-2 c =
-    omega (arith, c.symbols-s.ensures, ranges _ (valid-in_range _ c.requires.image))
+    omega (arith, c.symbols-s.ensures, ranges _ (valid-in_range _ c.args.rooted.image.valid))
 
 pub bounds-table-1 : goal.bounds-table-1
 bounds-table-1 c =
@@ -45,31 +45,29 @@ slice_bounds-fill-start c =
 
 pub fill-requires : goal.fill-requires
 fill-requires c =
-    let size = rows_room (read c.args.image.now) c.args.table.now c.requires.trie.nodes c.symbols-s.ensures
+    let size = rows_room (set_of c.args.rooted.image) c.args.table.now c.requires.trie.nodes c.symbols-s.ensures
     c.requires.size in record {
-      image_value = c.requires.image;
-      root = c.requires.root;
       trie = c.requires.trie;
       room = size;
     }
 
 pub slice_bounds-write_matches-end : goal.slice_bounds-write_matches-end
 slice_bounds-write_matches-end c =
-    matches_end (read c.args.image.now) c.args.table.now c.requires.trie.nodes c.symbols-s.ensures c.requires.size
+    matches_end (set_of c.args.rooted.image) c.args.table.now c.requires.trie.nodes c.symbols-s.ensures c.requires.size
     c.fill.new.rows c.fill.ensures.table
 
 pub write_matches-requires : goal.write_matches-requires
 write_matches-requires c =
     let trie = c.requires.trie in record {
       matches = c.fill.ensures.matches;
-      count = trie.nodes;
-      nodes = omega (arith, c.fill.ensures.size, trie.trie.linked.size, trie.nodes);
-      size = matches_room (read c.args.image.now) c.args.table.now c.requires.trie.nodes
+      count = c.fill.ensures.size ∙ trie.nodes;
+      size = matches_room (set_of c.args.rooted.image) c.args.table.now c.requires.trie.nodes
           c.symbols-s.ensures c.requires.size
-          c.fill.new.rows c.fill.ensures.table;
+          c.fill.new.rows c.fill.ensures.table
+          ∙ sym c.fill.ensures.size;
     }
 
 pub returns : goal.returns
 returns c =
-    table_written (read c.args.image.now) c.args.table.now c.requires.trie.nodes c.symbols-s.ensures c.requires.size
+    table_written (set_of c.args.rooted.image) c.args.table.now c.requires.trie.nodes c.symbols-s.ensures c.requires.size
     c.fill.new.rows c.fill.ensures.table c.write_matches.new.words c.write_matches.ensures

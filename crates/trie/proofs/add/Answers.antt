@@ -1,29 +1,19 @@
--- `table::trie::add` meets its contract: it makes six stores.
-use mathlib.Core.Path.{refl}
-use Rattle.trie.specs.Nodes.{added}
-use Rattle.trie.proofs.Nodes.{symbol_within, depth_within, older_within, youngest_within, children_within}
+-- `trie::add` meets its contract: it stores two nodes, and the first is not read for the second.
+use Prim.Native.Nat.{◌+◌}
+use mathlib.Core.Path.{ap}
+use native.Mathlib.Omega.{arith}
+use lib.ListN.{set}
+use Rattle.trie.specs.declared.Node.{Node}
+use Rattle.trie.specs.Nodes.{node, depth, youngest, added}
+use Rattle.trie.proofs.Nodes.{node_other}
 use Rattle.trie.proofs.add.Goals as goal
-
-pub bounds-trie-n-2 : goal.bounds-trie-n-2
-bounds-trie-n-2 c =
-    symbol_within c.args.trie.now c.args.n c.args.q c.args.a c.requires.node.0 c.requires.room
-
-pub bounds-trie-n-3 : goal.bounds-trie-n-3
-bounds-trie-n-3 c =
-    depth_within c.args.trie.now c.args.n c.args.q c.args.a c.requires.node.0 c.requires.room
-
-pub bounds-trie-n-4 : goal.bounds-trie-n-4
-bounds-trie-n-4 c =
-    older_within c.args.trie.now c.args.n c.args.q c.args.a c.requires.node.0 c.requires.room
-
-pub bounds-trie-q-4 : goal.bounds-trie-q-4
-bounds-trie-q-4 c =
-    youngest_within c.args.trie.now c.args.n c.args.q c.args.a c.requires.node.0 c.requires.room
-
-pub bounds-trie-q-5 : goal.bounds-trie-q-5
-bounds-trie-q-5 c =
-    children_within c.args.trie.now c.args.n c.args.q c.args.a c.requires.node.0 c.requires.room
 
 pub returns : goal.returns
 unfolding added
-returns c = refl
+returns c =
+    let t = c.args.trie.now in
+    let n = c.args.n in
+    let q = c.args.q in
+    let new : Node = record (node t n) { parent = q; symbol = c.args.a; depth = depth t q + 1; older = youngest t q } in
+    ap (λ (x : Node). set (set t n new) q (record x { youngest = n; children = x.children + 1 }))
+    (node_other t n q new (λ e. omega (arith, c.requires.node.0)))

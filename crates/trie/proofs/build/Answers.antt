@@ -3,82 +3,46 @@ use mathlib.Core.Path.{refl, ◌∙◌}
 use native.Mathlib.Omega.{arith}
 use native.Mathlib.Numerals.{add-one}
 use Rattle.rewriting.proofs.Ranges.{ranges}
-use Rattle.layout.specs.Image.{read}
 use Rattle.layout.proofs.Image.{valid-in_range}
 use Rattle.layout.proofs.Places.{left_within}
-use Rattle.layout.proofs.States.{root_small}
 use Rattle.trie.proofs.Building.{build_first, build_next, build_last, followed_room}
 use Rattle.trie.proofs.build.Goals as goal
 
-pub rules-rules-requires : goal.rules-rules-requires
-rules-rules-requires c =
-    c.requires.image
-
-pub overflow_add-n : goal.overflow_add-n
-overflow_add-n c =
-    omega (arith, c.requires.root, root_small (read c.args.image.now).rules)
-
 pub overflow_mul-at : goal.overflow_mul-at
 overflow_mul-at c =
-    omega (arith, c.rules-rules.ensures, ranges _ (valid-in_range _ c.requires.image))
+    omega (arith, c.rules-rules.ensures, ranges _ (valid-in_range _ c.args.rooted.image.valid))
 
 pub overflow_add-at : goal.overflow_add-at
 overflow_add-at c =
-    omega (arith, c.rules-rules.ensures, ranges _ (valid-in_range _ c.requires.image))
+    omega (arith, c.rules-rules.ensures, ranges _ (valid-in_range _ c.args.rooted.image.valid))
 
 pub loop-i-init : goal.loop-i-init
 loop-i-init c =
-    build_first _ _ c.requires.trie.0 _ (rw c.rules-rules.ensures refl) _ (rw c.requires.root refl)
-
-pub walk-w-requires : goal.walk-w-requires
-walk-w-requires c =
-    let turn = c.loop-i.invariant in
-    let more = rw c.rules-rules.ensures at c.loop-i-test.true in record {
-      image = c.requires.image;
-      root = c.requires.root;
-      rule = (more, turn.place);
-      trie = (turn.grown, rw turn.size c.requires.trie.1);
-      nodes = turn.nodes;
-    }
+    build_first _ _ c.requires.0 _ (rw c.rules-rules.ensures refl) _ (rw c.args.rooted.rooted refl)
 
 pub claim-requires : goal.claim-requires
 claim-requires c =
     let turn = c.loop-i.invariant in
     let more = rw c.rules-rules.ensures at c.loop-i-test.true in
     let walked = c.walk-w.ensures in
-    let room = followed_room _ (valid-in_range _ c.requires.image) _ c.requires.trie.1 _ more _ _ walked.0 in record {
+    let room = followed_room _ (valid-in_range _ c.args.rooted.image.valid) _ c.requires.1 _ more _ _ walked.0 in record {
       node = rw (walked.1 ∙ turn.size) room.2;
       rule = room.1;
-    }
-
-pub body_length-at-requires : goal.body_length-at-requires
-body_length-at-requires c =
-    let more = rw c.rules-rules.ensures at c.loop-i-test.true in record {
-      image_value = c.requires.image;
-      i_in_bounds = more;
     }
 
 pub overflow_add-at-in-loop-i : goal.overflow_add-at-in-loop-i
 overflow_add-at-in-loop-i c =
     let more = rw c.rules-rules.ensures at c.loop-i-test.true in
-    omega (arith, c.body_length-at.ensures, c.loop-i.invariant.place, left_within _ c.requires.image _ more)
-
-pub overflow_add-i : goal.overflow_add-i
-overflow_add-i c =
-    omega arith
-
-pub loop-i-smaller : goal.loop-i-smaller
-loop-i-smaller c =
-    omega arith
+    omega (arith, c.body_length-at.ensures, c.loop-i.invariant.place, left_within _ c.args.rooted.image.valid _ more)
 
 pub loop-i-preserved : goal.loop-i-preserved
 loop-i-preserved c =
     let turn = c.loop-i.invariant in
     let more = rw c.rules-rules.ensures at c.loop-i-test.true in
     let walked = c.walk-w.ensures in
-    let room = followed_room _ (valid-in_range _ c.requires.image) _ c.requires.trie.1 _ more _ _ walked.0 in
+    let room = followed_room _ (valid-in_range _ c.args.rooted.image.valid) _ c.requires.1 _ more _ _ walked.0 in
     rw add-one
-    (build_next _ (valid-in_range _ c.requires.image) _ _ _ _ _ turn more _ _ walked.0 (rw (walked.1 ∙ turn.size) room.0) _
+    (build_next _ (valid-in_range _ c.args.rooted.image.valid) _ _ _ _ _ turn more _ _ walked.0 (rw (walked.1 ∙ turn.size) room.0) _
     c.claim.ensures (c.claim.auto.trie ∙ walked.1 ∙ turn.size) _ c.body_length-at.ensures)
 
 pub returns : goal.returns

@@ -1,11 +1,7 @@
-use Prim.Native.Nat.{◌-◌}
 use lib.ListN.{length}
-use Rattle.layout.specs.Image.{read}
+use Rattle.image.specs.Sets.{set_of}
 use Rattle.trie.proofs.Building.{Building}
 use Rattle.trie.proofs.build.Given as goal
 
 abbrev pub invariant-loop-i : goal.invariant-loop-i
-invariant-loop-i l = Building (read l.image) (length l.initial.trie) l.i l.n l.at l.trie
-
-abbrev pub decreases-loop-i : goal.decreases-loop-i
-decreases-loop-i l = l.rules - l.i
+invariant-loop-i l = Building (set_of l.rooted.image) (length l.initial.trie) l.i l.n l.at l.trie

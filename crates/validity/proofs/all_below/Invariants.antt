@@ -1,12 +1,7 @@
-use Prim.Native.Nat.{◌-◌, ◌≤◌}
-use mathlib.Core.Path.{◌≡◌}
+use Rattle.std.proofs.Common.{◌≡◌, take}
 use lib.Dec.{ltb}
-use lib.ListN.{take}
 use Rattle.rewriting.specs.Lists.{below}
 use Rattle.validity.proofs.all_below.Given as goal
 
-abbrev pub invariant-loop-i : goal.invariant-loop-i
-invariant-loop-i l = (l.i ≤ l.i-end) × (ltb l.most l.s ≡ below l.s (take l.i l.symbols))
-
-abbrev pub decreases-loop-i : goal.decreases-loop-i
-decreases-loop-i l = l.i-end - l.i
+abbrev pub invariant-loop-x : goal.invariant-loop-x
+invariant-loop-x l = ltb l.most l.s ≡ below l.s (take l.x-index l.symbols)

@@ -1,91 +1,71 @@
 -- `validity::validity` meets its contract: what fails a check is not valid, and what passes the others is valid exactly when its
--- symbols are below S. Then what the pass over the contents found is the answer.
-use Prim.Native.Nat.{◌+◌, ◌*◌}
-use mathlib.Core.Path.{◌≡◌, refl, sym, ap, ◌∙◌}
-use native.Mathlib.Omega.{arith}
-use lib.ListN.{get_or}
+-- symbols are below S.
+use Rattle.std.proofs.Common.{◌≡◌, Bool, cond, ap, sym, ◌∙◌, arith, get_or}
 use Rattle.rewriting.specs.Lists.{below}
 use Rattle.layout.specs.Image.{valid}
-use Rattle.layout.proofs.ImageCheck.{
-  HeaderOf,
-  all_behind,
-  valid_header,
-  valid_room,
-  decided,
-  denied,
-  refused,
-  unannounced,
-  checked,
-  validity-none,
-  found_validity,
-  found_some,
-  found_none,
-}
-use Rattle.validity.proofs.validity.Goals.{After-all_below, After-byte-rules}
+use Rattle.layout.proofs.ImageCheck.{HeaderOf, valid_header, valid_room, decided, denied, refused, unannounced, checked}
+use Rattle.validity.proofs.Contents.{Apart, bodies_begin, contents_fit, announced_alone, marks_alone, root_by_marks}
+use Rattle.validity.proofs.validity.Goals.{In_ok-contents, After-all_below}
 use Rattle.validity.proofs.validity.Goals as goal
 
--- the header is in range
-header :
-    (c : After-byte-rules)
-    → HeaderOf c.args.image.now
-header c =
-    let h = c.header_in_range in
-    decided h.result c.if-header_in_range.true h.ensures
+pub returns-in_default : goal.returns-in_default
+returns-in_default c = let b = c.args.bytes.now in sym (refused b (λ e. omega (arith, valid_room b e)))
 
--- the contents are in range: the symbols' range decides
-symbols_told : (h : After-byte-rules) (c : After-all_below) → h.args.image.now ≡ c.args.image.now → h.byte-rules.result ≡ c.byte-rules.result
-    → c.all_below.result ≡ valid c.args.image.now
-symbols_told h c e f =
-    let b = c.args.image.now in
-    let n = c.byte-rules.result in
-    let told = found_some b n (omega (arith, c.contents_in_range-found.ensures, c.if-found-gt0.true)) in
+pub returns-then-not-header_in_range : goal.returns-then-not-header_in_range
+returns-then-not-header_in_range c =
+    let b = c.args.bytes.now in
+    let h = c.header_in_range in
+    sym (refused b (λ e. denied h.result c.if-not-header_in_range.true h.ensures (valid_header b e)))
+
+pub returns-in_err-contents : goal.returns-in_err-contents
+returns-in_err-contents c =
+    let b = c.args.bytes.now in
+    let short = c.in_err-contents.ensures.cases in
+    rw c.from_residual.ensures (sym (refused b (λ e. omega (arith, short, valid_room b e, c.from.ensures))))
+
+apart : (c : In_ok-contents) → Apart c.args.bytes.now c.from.result c.in_ok-contents.contents.now c.in_ok-contents.bodies.now
+apart c = let parts = c.in_ok-contents.ensures.cases in record {
+  header = c.in-len4-up.len_at_least;
+  fits = parts.0;
+  front = parts.1;
+  back = parts.2;
+  size = parts.3;
+}
+
+pub returns-in_err-root : goal.returns-in_err-root
+returns-in_err-root c =
+    let b = c.args.bytes.now in
+    let there = announced_alone _ _ _ _ (apart (goal.at.returns-in_err-root c).In_ok-contents) (get_or b 2 0) in
+    rw c.from_residual-in_err-root.ensures (sym (unannounced b c.from.result c.from.ensures (sym there ∙ c.in_err-root.ensures)))
+
+-- with the header and the contents in range, the symbols' range decides
+told : (c : After-all_below)
+    → Apart c.args.bytes.now c.from.result c.in_ok-contents.contents.now c.in_ok-contents.bodies.now
+    → c.all_below.result ≡ valid c.args.bytes.now
+told c p =
+    let b = c.args.bytes.now in
+    let n = c.from.result in
+    let h = c.header_in_range in
+    let header : HeaderOf b = decided h.result c.if-not-header_in_range.false h.ensures in
+    let there = announced_alone _ _ _ _ p (get_or b 2 0) in
     c.all_below.ensures
-    ∙ ap (below (get_or b 0 0)) (all_behind (4 + 4 * n) b)
-    ∙ checked b n c.byte-rules.ensures (rw e at (header h)) (omega arith) told
+    ∙ ap (below (get_or b 0 0)) (bodies_begin _ _ _ _ p)
+    ∙ checked b n c.from.ensures header (contents_fit _ _ _ _ p) (sym there ∙ c.in_ok-root.ensures.0)
 
-pub returns-then-image-lt4 : goal.returns-then-image-lt4
-returns-then-image-lt4 c =
-    let b = c.args.image.now in
-    validity-none b (refused b (λ e. omega (arith, valid_room b e)))
+pub returns-then-not-all_below : goal.returns-then-not-all_below
+returns-then-not-all_below c =
+    let at = goal.at.returns-then-not-all_below c in
+    sym (told at.After-all_below (apart at.In_ok-contents)) ∙ c.if-not-all_below.true
 
-pub overflow_mul-bodies : goal.overflow_mul-bodies
-overflow_mul-bodies c = omega (arith, header c)
+pub invariant_of-result : goal.invariant_of-result
+invariant_of-result c =
+    let at = goal.at.invariant_of-result c in record {
+      valid = sym (told at.After-all_below (apart at.In_ok-contents)) ∙ c.if-not-all_below.false;
+    }
 
-pub overflow_add-bodies : goal.overflow_add-bodies
-overflow_add-bodies c = omega (arith, header c)
-
-pub returns-then-image-bodies : goal.returns-then-image-bodies
-returns-then-image-bodies c =
-    let b = c.args.image.now in
-    validity-none b (refused b (λ e. omega (arith, valid_room b e)))
-
-pub all_below-requires : goal.all_below-requires
-all_below-requires c =
-    omega (arith, header (goal.at.all_below-requires c).After-byte-rules)
-
-pub returns-then-all_below : goal.returns-then-all_below
-returns-then-all_below c =
-    let b = c.args.image.now in
-    let at = goal.at.returns-then-all_below c in
-    let told = symbols_told at.After-byte-rules at.After-all_below refl refl in
-    c.contents_in_range-found.ensures
-    ∙ found_validity b c.byte-rules.result c.byte-rules.ensures (sym told ∙ c.if-all_below.true)
-
-pub returns-else-all_below : goal.returns-else-all_below
-returns-else-all_below c =
-    let b = c.args.image.now in
-    let at = goal.at.returns-else-all_below c in
-    let told = symbols_told at.After-byte-rules at.After-all_below refl refl in
-    validity-none b (sym c.if-all_below.false ∙ told)
-
-pub returns-else-found-gt0 : goal.returns-else-found-gt0
-returns-else-found-gt0 c =
-    let b = c.args.image.now in
-    let none = found_none b c.byte-rules.result (omega (arith, c.contents_in_range-found.ensures, c.if-found-gt0.false)) in
-    validity-none b (unannounced b c.byte-rules.result c.byte-rules.ensures none)
-
-pub returns-else-header_in_range : goal.returns-else-header_in_range
-returns-else-header_in_range c =
-    let h = c.header_in_range in
-    let b = c.args.image.now in
-    validity-none b (refused b (λ e. denied h.result c.if-header_in_range.false h.ensures (valid_header b e)))
+pub invariant_of-result-2 : goal.invariant_of-result-2
+invariant_of-result-2 c = record {
+  rooted = c.in_ok-root.ensures.1
+      ∙ ap (λ (t : Bool). cond t 1 0) (marks_alone _ _ _ _ (apart (goal.at.invariant_of-result-2 c).In_ok-contents))
+      ∙ sym (root_by_marks c.args.bytes.now c.from.result c.from.ensures);
+}

@@ -8,22 +8,22 @@ use Rattle.areas.proofs.held.index.Goals as goal
 
 pub overflow_mul-at : goal.overflow_mul-at
 overflow_mul-at c =
-    omega (arith, contents_within c.args.image.now c.requires.image)
+    omega (arith, contents_within c.args.image.bytes.now c.args.image.valid)
 
 pub overflow_add-at : goal.overflow_add-at
 overflow_add-at c =
-    omega (arith, contents_within c.args.image.now c.requires.image)
+    omega (arith, contents_within c.args.image.bytes.now c.args.image.valid)
 
 pub loop-i-init : goal.loop-i-init
 loop-i-init c =
-    (c.rules-rules.ensures, refl, indexing_first c.args.image.now c.args.starts.now c.requires.room c.rules-rules.result c.rules-rules.ensures)
+    (c.rules-rules.ensures, refl, indexing_first c.args.image.bytes.now c.args.starts.now c.requires c.rules-rules.result c.rules-rules.ensures)
 
 pub overflow_add-starts : goal.overflow_add-starts
 overflow_add-starts c =
     let turn = c.loop-i in
     omega (
       arith,
-      left_small c.args.image.now turn.starts turn.at turn.i c.left_length-left.result c.requires.image turn.invariant.2
+      left_small c.args.image.bytes.now turn.starts turn.at turn.i c.left_length-left.result c.args.image.valid turn.invariant.2
           (rw (← turn.invariant.0) c.loop-i-test.true) c.left_length-left.ensures,
     )
 
@@ -32,7 +32,7 @@ overflow_cast-starts c =
     let turn = c.loop-i in
     omega (
       arith,
-      left_small c.args.image.now turn.starts turn.at turn.i c.left_length-left.result c.requires.image turn.invariant.2
+      left_small c.args.image.bytes.now turn.starts turn.at turn.i c.left_length-left.result c.args.image.valid turn.invariant.2
           (rw (← turn.invariant.0) c.loop-i-test.true) c.left_length-left.ensures,
     )
 
@@ -42,7 +42,7 @@ overflow_add-at-in-loop-i c =
     omega (
       arith,
       c.body_length-at.ensures,
-      start_small c.args.image.now turn.starts turn.at turn.i c.requires.image turn.invariant.2
+      start_small c.args.image.bytes.now turn.starts turn.at turn.i c.args.image.valid turn.invariant.2
           (rw (← turn.invariant.0) c.loop-i-test.true),
     )
 
@@ -51,11 +51,11 @@ loop-i-preserved c =
     let turn = c.loop-i in (
       turn.invariant.0,
       rw length-set turn.invariant.1,
-      indexing_next c.args.image.now turn.starts turn.at turn.i c.left_length-left.result c.body_length-at.result turn.invariant.2
+      indexing_next c.args.image.bytes.now turn.starts turn.at turn.i c.left_length-left.result c.body_length-at.result turn.invariant.2
           (rw (← turn.invariant.0) c.loop-i-test.true) c.left_length-left.ensures c.body_length-at.ensures,
     )
 
 pub returns : goal.returns
 returns c =
     let turn = c.loop-i in
-    indexing_last c.args.image.now turn.starts turn.at turn.i turn.invariant.2 (rw (← turn.invariant.0) c.loop-i-test.false)
+    indexing_last c.args.image.bytes.now turn.starts turn.at turn.i turn.invariant.2 (rw (← turn.invariant.0) c.loop-i-test.false)

@@ -10,8 +10,8 @@ pub loop-k-init : goal.loop-k-init
 loop-k-init c = (
   omega arith,
   backing_first c.args.bytes.now (length c.args.bytes.now - c.args.waiting)
-      (drop c.args.start c.args.image.now) c.args.n (omega arith) (omega arith)
-      (source_length c.args.image.now c.args.start c.args.n c.requires.source),
+      (drop c.args.start c.args.image.bytes.now) c.args.n (omega arith) (omega arith)
+      (source_length c.args.image.bytes.now c.args.start c.args.n c.requires.source),
 )
 
 pub overflow_add-held : goal.overflow_add-held
@@ -40,7 +40,7 @@ pub loop-k-preserved : goal.loop-k-preserved
 loop-k-preserved c = (
   omega (arith, c.loop-k.invariant.0),
   backing_next _ _ c.loop-k.invariant.1 (omega (arith, c.if-n-k.false)) (omega (arith, c.loop-k.invariant.0))
-      (source_back c.args.image.now c.args.start c.args.n c.loop-k.k
+      (source_back c.args.image.bytes.now c.args.start c.args.n c.loop-k.k
       (c.args.start + c.args.n - 1 - c.loop-k.k) refl (omega (arith, c.if-n-k.false))),
 )
 

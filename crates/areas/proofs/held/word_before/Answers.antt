@@ -5,4 +5,4 @@ use Rattle.areas.proofs.held.word_before.Goals as goal
 
 pub returns : goal.returns
 returns c =
-    c.word.ensures ∙ word_before_lem c.args.words.now c.args.n c.if-n-eq0.false
+    c.from.ensures ∙ word_before_lem c.args.words.now c.args.n c.if-n-eq0.false

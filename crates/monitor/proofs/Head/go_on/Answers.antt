@@ -1,9 +1,9 @@
 -- `monitor::Head::go_on` meets its contract: refused by what is lent, or the call that `once` makes.
+use Rattle.std.proofs.Common.{length}
 use Rattle.machine.specs.Areas.{document_capacity, Monitor}
-use Rattle.machine.specs.Lent.{offer_or_go_on}
-use Rattle.monitor.specs.Lent.{lent}
 use Rattle.machine.specs.Calls.{GoOn, go_on_of}
-use Rattle.machine.proofs.LentRefusal.{lent_none, lent-some}
+use Rattle.machine.specs.Lent.{Passed, offer_or_go_on}
+use Rattle.monitor.specs.Lent.{lent}
 use Rattle.machine.proofs.BatchChecks.{passed_image}
 use Rattle.machine.proofs.Offering.{passed_sizes}
 use Rattle.machine.proofs.Deciding.{lent_refused}
@@ -20,34 +20,27 @@ returns-in-Err c =
     let s = (goal.at.returns-in-Err c).Start in
     rw c.refused.ensures
     (lent_refused document_capacity c.args.image.now c.args.table.now (given s) (GoOn c.args.fuel) _
-    (lent-some document_capacity c.args.image.now c.args.table.now (given s) c.check_lent.ensures
-    c.in-Err.is))
+    c.in-Err.ensures)
 
 pub index-requires : goal.index-requires
 index-requires c =
     let s = (goal.at.index-requires c).Start in
-    let passed = passed_image document_capacity c.args.image.now c.args.table.now (given s)
-    (lent_none document_capacity c.args.image.now c.args.table.now (given s) c.check_lent.ensures c.in-Ok.is) in
-    record { image = passed.0; room = passed.1 }
+    let t = c.in-Ok.table in
+    (passed_image document_capacity t.image.bytes.now t.words.now (given s) c.in-Ok.ensures.2).1
 
 pub once-requires : goal.once-requires
 once-requires c =
     let s = (goal.at.once-requires c).Start in
-    let image = c.args.image.now in
-    let table = c.args.table.now in record {
-      lent = rw
-          (passed_sizes document_capacity image table (given s)
-          (lent_none document_capacity image table (given s) c.check_lent.ensures c.in-Ok.is)).0
-          (lent_none document_capacity image table (given s) c.check_lent.ensures c.in-Ok.is);
-      starts = c.index.ensures;
-    }
+    let t = c.in-Ok.table in
+    let passed : Passed (length c.args.bytes.now) t.image.bytes.now t.words.now (given s) =
+    rw (passed_sizes document_capacity t.image.bytes.now t.words.now (given s) c.in-Ok.ensures.2).0 c.in-Ok.ensures.2
+    in
+    passed
 
 pub returns-in-Ok : goal.returns-in-Ok
 unfolding go_on_of offer_or_go_on
 returns-in-Ok c =
     let s = (goal.at.returns-in-Ok c).Start in
-    rw
-    (passed_sizes document_capacity c.args.image.now c.args.table.now (given s)
-    (lent_none document_capacity c.args.image.now c.args.table.now (given s) c.check_lent.ensures
-    c.in-Ok.is)).0 at
-    c.once.ensures
+    let t = c.in-Ok.table in
+    rw (← c.in-Ok.ensures.0, ← c.in-Ok.ensures.1)
+    (rw (passed_sizes document_capacity t.image.bytes.now t.words.now (given s) c.in-Ok.ensures.2).0 at c.once.ensures)

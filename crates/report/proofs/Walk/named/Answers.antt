@@ -9,10 +9,10 @@ use Rattle.machine.specs.Calls.{Outcome, offer_of}
 use Rattle.grammar.specs.Lookup.{symbol_named}
 use Rattle.tokens.proofs.Numbering.{lookup_below}
 use Rattle.printing.specs.Watch.{Watch, offered, offered_name}
-use Rattle.report.specs.Lent.{walk_in}
-use Rattle.printing.specs.Turns.{offering, watch_with}
-use Rattle.lines.proofs.Writing.{writes_then, writes_as, writes_all, reaches}
-use Rattle.report.proofs.Walking.{turn_is}
+use Rattle.printing.specs.Turns.{offering}
+use Rattle.report.specs.Lent.{watched}
+use Rattle.lines.proofs.Writing.{room_left, writes_then, writes_as}
+use Rattle.report.proofs.Walking.{first_part, line_bytes, line_area, turn_is}
 use Rattle.report.proofs.Offered.{named_short, made_slot, made_small, line_unknown, line_offered}
 use Rattle.report.proofs.Walk.named.Goals as goal
 
@@ -23,59 +23,46 @@ left_by :
 unfolding offered_name offered
 left_by w x a m known e = rw known e
 
-pub put_byte-at-requires : goal.put_byte-at-requires
-put_byte-at-requires c =
-    let put = reaches 20480 c.put-at.ensures c.put-at.auto.line (omega arith) c.requires in
-    omega (arith, put.end, put.size, c.told-line)
-
-pub put_refused-length-requires : goal.put_refused-length-requires
-put_refused-length-requires c =
-    let put = reaches 20480 c.put-at.ensures c.put-at.auto.line (omega arith) c.requires in
-    let size = c.told-line in
-    let byte = reaches 1 c.put_byte-at.ensures c.put_byte-at.auto.line (omega (arith, put.end, put.size, size)) (omega arith) in
-    omega (arith, put.end, put.size, size, byte.end, byte.size)
-
 pub overflow_cast-a : goal.overflow_cast-a
 overflow_cast-a c =
     omega (arith, lookup_below _ _ _ (sym c.symbol.ensures ∙ c.in-Some.is))
 
-pub put_told-length-requires : goal.put_told-length-requires
-put_told-length-requires c =
-    let short = named_short _ _ _ (sym c.symbol.ensures ∙ c.in-Some.is) in
-    let put = reaches 24 c.put-at.ensures c.put-at.auto.line (omega arith) short in
-    let size = c.told-line in
-    let byte = reaches 1 c.put_byte-at.ensures c.put_byte-at.auto.line (omega (arith, put.end, put.size, size)) (omega arith) in record {
-      slot = made_slot _ _ _ _ _ _ _ c.offer-called.ensures;
-      small = made_small _ _ _ _ _ _ _ c.offer-called.ensures;
-      names = c.told-names;
-      bytes = c.offer-called.auto.bytes ∙ c.told-bytes;
-      room = (omega (arith, put.end, byte.end), omega (arith, put.size, size, byte.size));
-    }
+pub put_told-requires-clause-slot : goal.put_told-requires-clause-slot
+put_told-requires-clause-slot c = made_slot _ _ _ _ _ _ _ c.offer-called.ensures
 
-pub returns-in-None : goal.returns-in-None
+pub put_told-requires-clause-small : goal.put_told-requires-clause-small
+put_told-requires-clause-small c = made_small _ _ _ _ _ _ _ c.offer-called.ensures
+
+pub put_told-requires-clause-room : goal.put_told-requires-clause-room
+put_told-requires-clause-room c =
+    omega (
+      arith,
+      c.requires.room,
+      named_short _ _ _ (sym c.symbol.ensures ∙ c.in-Some.is),
+      room_left c.put.ensures,
+      room_left c.put_byte.ensures,
+    )
+
+pub returns-in-None-clause-turn : goal.returns-in-None-clause-turn
 unfolding offering offered_name offered
-returns-in-None c =
-    let w = watch_with (walk_in c.args.self) c.args.image.now c.args.table.now c.args.names.now c.args.bytes.now
-    c.args.words.now in
+returns-in-None-clause-turn c =
+    let w = watched c.args.self c.args.memory.now in
     let unknown = sym c.symbol.ensures ∙ c.in-None.is in
-    let all = writes_all
-    (writes_as (line_unknown w c.args.x.now unknown)
-    (writes_then c.put-at.ensures (writes_then c.put_byte-at.ensures c.put_refused-length.ensures))) in
-    let p =
-    turn_is _ _ _ _ _ _ _ _ all.0 c.onward.ensures (rw unknown) all.1
-    (c.put_refused-length.auto.line ∙ c.put_byte-at.auto.line ∙ c.put-at.auto.line) c.told-line
-    in record { line_after = p.0; length_le_line_most = p.1 }
+    let line = writes_as (line_unknown w c.args.x.now unknown)
+    (writes_then c.put.ensures (writes_then c.put_byte.ensures (rw c.number.ensures at c.put_refused.ensures))) in
+    turn_is _ _ _ _ _ _ _ (line_bytes c.requires.line line) (line_area c.requires.line line) (rw unknown)
 
-pub returns-in-Some : goal.returns-in-Some
+pub returns-in-Some-clause-turn : goal.returns-in-Some-clause-turn
 unfolding offering offered_name offered
-returns-in-Some c =
-    let w = watch_with (walk_in c.args.self) c.args.image.now c.args.table.now c.args.names.now c.args.bytes.now
-    c.args.words.now in
+returns-in-Some-clause-turn c =
+    let self = c.args.self in
+    let memory = c.args.memory.now in
+    let w = watched self memory in
+    let image = first_part self.image 1284 memory.image (omega arith) in
+    let table = first_part self.table 16964 memory.table (omega arith) in
     let known = sym c.symbol.ensures ∙ c.in-Some.is in
-    let line = line_offered w c.args.x.now _ _ _ _ known c.offer-called.ensures in
-    let all = writes_all (writes_as line (writes_then c.put-at.ensures (writes_then c.put_byte-at.ensures c.put_told-length.ensures))) in
-    let p =
-    turn_is _ _ _ _ _ _ _ _ all.0 c.onward-in-Some.ensures
-    (left_by w c.args.x.now _ _ known (ap (λ (o : Outcome). o.monitor) c.offer-called.ensures)) all.1
-    (c.put_told-length.auto.line ∙ c.put_byte-at.auto.line ∙ c.put-at.auto.line) c.told-line
-    in record { line_after = p.0; length_le_line_most = p.1 }
+    let made = rw (c.min.ensures, c.min-in-Some.ensures, image, table) at c.offer-called.ensures in
+    let line = writes_as (line_offered w c.args.x.now _ _ _ _ known made)
+    (writes_then c.put.ensures (writes_then c.put_byte.ensures c.put_told.ensures)) in
+    turn_is _ _ _ _ _ _ _ (line_bytes c.requires.line line) (line_area c.requires.line line)
+    (left_by w c.args.x.now _ _ known (ap (λ (o : Outcome). o.monitor) made))

@@ -1,24 +1,80 @@
--- `Walk::next` meets its contract: the image and the table are the first parts of their areas.
-use mathlib.Core.Path.{sym}
+-- `Walk::next` meets its contract: the name that is offered is the first from its place on.
 use native.Mathlib.Omega.{arith}
-use lib.Seq.{length-take-le}
-use Rattle.report.proofs.Walking.{first_part}
+use Rattle.report.specs.Lent.{watched}
+use Rattle.report.proofs.Walking.{
+  turn_place,
+  turn_some,
+  run_inside,
+  run-bytes,
+  run_short,
+  run_onward,
+  next_long,
+  next_end,
+  next-none,
+  next-some,
+  turn_nothing,
+}
 use Rattle.report.proofs.Walk.next.Goals as goal
 
-pub slice_bounds-turn-end : goal.slice_bounds-turn-end
-slice_bounds-turn-end c =
-    sym (length-take-le _ _ (omega (arith, c.within-image_end.ensures, c.told-image)))
+pub returns-then-input-gt-INPUT_BYTES-clause-turn : goal.returns-then-input-gt-INPUT_BYTES-clause-turn
+returns-then-input-gt-INPUT_BYTES-clause-turn c =
+    turn_nothing _ c.args.self c.args.memory.now _ (next_long _ _ _ c.if-input-gt-INPUT_BYTES.true) c.clear.ensures.line
 
-pub slice_bounds-turn-end-2 : goal.slice_bounds-turn-end-2
-slice_bounds-turn-end-2 c =
-    sym (length-take-le _ _ (omega (arith, c.within-table_end.ensures, c.told-table)))
+pub returns-then-input-at-clause-turn : goal.returns-then-input-at-clause-turn
+returns-then-input-at-clause-turn c =
+    turn_nothing _ c.args.self c.args.memory.now _ (next_end _ _ _ c.if-input-at.true) c.clear.ensures.line
 
-pub returns : goal.returns
-returns c =
-    let image = first_part c.args.self.image 1284 c.args.image.now c.told-image in
-    let table = first_part c.args.self.table 16964 c.args.table.now c.told-table in
-    record {
-      turn = rw (← image, ← table, ← c.within-image_end.ensures, ← c.within-table_end.ensures) c.turn.ensures.turn;
-      fits = c.turn.ensures.fits;
-      onward = c.turn.ensures.onward;
-    }
+pub overflow_add-from : goal.overflow_add-from
+overflow_add-from c =
+    omega (
+      arith,
+      (run_inside c.args.input.now c.args.self.at _ c.first_run-run.ensures c.if-input-at.false).0,
+      (run_inside c.args.input.now c.args.self.at _ c.first_run-run.ensures c.if-input-at.false).1,
+    )
+
+pub overflow_add-to : goal.overflow_add-to
+overflow_add-to c =
+    omega
+    (arith, (run_inside c.args.input.now c.args.self.at _ c.first_run-run.ensures c.if-input-at.false).1)
+
+pub returns-then-from-to-clause-turn : goal.returns-then-from-to-clause-turn
+returns-then-from-to-clause-turn c =
+    turn_nothing _ c.args.self c.args.memory.now _
+    (next-none c.args.input.now c.args.self.at _ c.first_run-run.ensures c.if-input-at.false _ c.if-input-gt-INPUT_BYTES.false
+    c.if-from-to.true) c.clear.ensures.line
+
+pub slice_bounds-named-count : goal.slice_bounds-named-count
+slice_bounds-named-count c =
+    omega (arith, (run_inside c.args.input.now c.args.self.at _ c.first_run-run.ensures c.if-input-at.false).0)
+
+pub slice_bounds-named-start : goal.slice_bounds-named-start
+slice_bounds-named-start c =
+    omega (arith, (run_inside c.args.input.now c.args.self.at _ c.first_run-run.ensures c.if-input-at.false).0)
+
+pub slice_bounds-named-end : goal.slice_bounds-named-end
+slice_bounds-named-end c =
+    (run_inside c.args.input.now c.args.self.at _ c.first_run-run.ensures c.if-input-at.false).1
+
+pub named-requires-clause-short : goal.named-requires-clause-short
+named-requires-clause-short c =
+    run_short c.args.input.now c.args.self.at _ c.first_run-run.ensures c.if-input-at.false c.if-input-gt-INPUT_BYTES.false
+
+pub returns-clause-turn : goal.returns-clause-turn
+returns-clause-turn c =
+    let input = c.args.input.now in
+    let self = c.args.self in
+    let w = watched self c.args.memory.now in
+    let next = next-some input self.at _ c.first_run-run.ensures c.if-input-at.false w c.if-input-gt-INPUT_BYTES.false
+    c.if-from-to.false in
+    let bytes = run-bytes input self.at _ c.first_run-run.ensures c.if-input-at.false in
+    rw next (rw (bytes, c.clear.ensures.line) at c.named.ensures.turn)
+
+pub returns-clause-onward : goal.returns-clause-onward
+returns-clause-onward c =
+    let input = c.args.input.now in
+    let self = c.args.self in
+    let place = turn_place _ _ _ _ _ _ c.named.new.memory c.named.ensures.turn in
+    let onward = run_onward input self.at _ c.first_run-run.ensures c.if-input-at.false c.if-from-to.false in (
+      turn_some _ _ _ _ _ _ c.named.new.memory c.named.ensures.turn,
+      (omega (arith, place, onward.0), omega (arith, place, onward.1)),
+    )

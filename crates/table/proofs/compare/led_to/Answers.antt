@@ -2,15 +2,15 @@
 use Prim.Native.Nat.{◌+◌, ◌*◌, ◌<◌}
 use native.Mathlib.Omega.{arith}
 use lib.ListN.{length}
-use Rattle.table.proofs.compare.led_to.Goals.{After-word-a}
+use Rattle.table.proofs.compare.led_to.Goals.{After-from-a}
 use Rattle.table.proofs.compare.led_to.Goals as goal
 
 -- the word that is read stands in the rows
-inside : (c : After-word-a)
-    → c.word-p.result * c.args.s + c.word-a.result
+inside : (c : After-from-a)
+    → c.from-p.result * c.args.s + c.from-a.result
     < length c.args.rows.now
 inside c =
-    rw (c.word-a.ensures, c.word-p.ensures) c.requires.row
+    rw (c.from-a.ensures, c.from-p.ensures) c.requires.row
 
 pub overflow_mul-p : goal.overflow_mul-p
 overflow_mul-p c = omega (arith, inside c)
@@ -22,8 +22,8 @@ pub offset_bounds-rows-p : goal.offset_bounds-rows-p
 offset_bounds-rows-p c = omega (arith, inside c)
 
 pub bounds-rows-p : goal.bounds-rows-p
-bounds-rows-p c = inside (goal.at.bounds-rows-p c).After-word-a
+bounds-rows-p c = inside (goal.at.bounds-rows-p c).After-from-a
 
 pub returns : goal.returns
 returns c =
-    rw (c.word.ensures, c.word-a.ensures, c.word-p.ensures)
+    rw (c.from.ensures, c.from-a.ensures, c.from-p.ensures)

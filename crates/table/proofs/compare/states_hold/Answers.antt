@@ -1,11 +1,11 @@
 -- `table::compare::states_hold` meets its contract. The loop's invariant: the root, the mark and every state below q have passed, and
 -- the trie is as it was but for their failure states.
-use Prim.Native.Nat.{ℕ, ◌+◌, ◌*◌, ◌<◌}
+use Prim.Native.Nat.{ℕ, ◌<◌}
 use mathlib.Core.Path.{◌≡◌, refl, sym, ap, ◌∙◌}
 use mathlib.Core.Bool.{not}
 use native.Mathlib.Omega.{arith}
 use lib.ListN.{length, length-set}
-use Rattle.layout.specs.Image.{read}
+use Rattle.image.specs.Sets.{set_of}
 use Rattle.layout.proofs.Image.{valid-in_range}
 use Rattle.table.proofs.CheckLoop.{
   Lent,
@@ -24,18 +24,18 @@ use Rattle.table.proofs.CheckLoop.{
   state_asks,
   checking_more,
 }
-use Rattle.table.proofs.compare.states_hold.Goals.{Start, Else-f-n, then-root-gt0+else-not-mark_holds, else-root-gt0}
+use Rattle.table.proofs.compare.states_hold.Goals.{Start, Else-f-n, then-rooted-gt0+else-not-mark_holds, else-rooted-gt0}
 use Rattle.table.proofs.compare.states_hold.Goals as goal
 
 -- what the check is lent
-lent : (c : Start) (s : ℕ) → s ≡ (read c.args.image.now).symbols
-    → Lent (read c.args.image.now) c.args.trie.now c.args.matches.now c.args.rows.now c.args.n s c.args.root
+lent : (c : Start) (s : ℕ) → s ≡ (set_of c.args.rooted.image).symbols
+    → Lent (set_of c.args.rooted.image) c.args.trie.now c.args.matches.now c.args.rows.now (length c.args.trie.now) s c.args.rooted.root
 lent c s width =
     record {
-      in_range_lem = valid-in_range c.args.image.now c.requires.image_value;
+      in_range_lem = valid-in_range c.args.rooted.image.bytes.now c.args.rooted.image.valid;
       all = c.requires.built.nodes;
       width = width;
-      is-root = c.requires.root_value;
+      is-root = c.args.rooted.rooted;
       trie = c.requires.built.trie;
       owned = c.requires.built.owned;
       words = c.requires.n_value.0;
@@ -44,14 +44,9 @@ lent c s width =
 
 -- the node's last word stands in the trie
 node_of : (c : Else-f-n)
-    → 8 * c.loop-q.q + 7
-    < length c.loop-q.trie
+    → c.loop-q.q < length c.loop-q.trie
 node_of c =
     node_room c.loop-q.invariant.1 c.loop-q-test.true
-
-pub symbols-s-requires : goal.symbols-s-requires
-symbols-s-requires c =
-    c.requires.image_value
 
 pub root_holds-requires : goal.root_holds-requires
 root_holds-requires c =
@@ -75,7 +70,7 @@ mark_holds-requires c =
 pub returns-then-not-mark_holds : goal.returns-then-not-mark_holds
 returns-then-not-mark_holds c =
     let s = (goal.at.returns-then-not-mark_holds c).Start in
-    wrong_mark (lent s _ c.symbols-s.ensures) c.if-root-gt0.true c.mark_holds.result (ap not c.if-not-mark_holds.true)
+    wrong_mark (lent s _ c.symbols-s.ensures) c.if-rooted-gt0.true c.mark_holds.result (ap not c.if-not-mark_holds.true)
     c.mark_holds.ensures
 
 pub overflow_step-q : goal.overflow_step-q
@@ -88,9 +83,9 @@ loop-q-init c =
     let s = (goal.at.loop-q-init c).Start in (
       refl,
       checking_first (lent s _ c.symbols-s.ensures) c.root_holds.result (ap not c.if-not-root_holds.false) c.root_holds.ensures
-          (λ pos. elim c.if-root-gt0.branch [
-            | then-root-gt0+else-not-mark_holds w ↦ (w.mark_holds.result, ap not w.if-not-mark_holds.false, w.mark_holds.ensures)
-            | else-root-gt0 w ↦ absurd (omega (arith, w.if-root-gt0.false))
+          (λ pos. elim c.if-rooted-gt0.branch [
+            | then-rooted-gt0+else-not-mark_holds w ↦ (w.mark_holds.result, ap not w.if-not-mark_holds.false, w.mark_holds.ensures)
+            | else-rooted-gt0 w ↦ absurd (omega (arith, w.if-rooted-gt0.false))
           ]) _ refl,
     )
 
@@ -117,14 +112,6 @@ returns-then-f-n c =
 pub overflow_cast-trie : goal.overflow_cast-trie
 overflow_cast-trie c =
     omega (arith, c.if-f-n.false, c.loop-q.invariant.1.few)
-
-pub overflow_mul-trie : goal.overflow_mul-trie
-overflow_mul-trie c =
-    omega (arith, node_of c)
-
-pub overflow_add-trie : goal.overflow_add-trie
-overflow_add-trie c =
-    omega (arith, node_of c)
 
 pub offset_bounds-trie-q : goal.offset_bounds-trie-q
 offset_bounds-trie-q c =

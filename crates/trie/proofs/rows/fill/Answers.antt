@@ -1,90 +1,38 @@
 -- `trie::rows::fill` meets its contract. The loop's invariant: the states of depth below `d` are done.
-use Prim.Native.Nat.{ℕ, ◌+◌, ◌*◌}
-use mathlib.Core.Path.{◌≡◌, refl, sym, ap, subst, ◌∙◌}
+use Prim.Native.Nat.{ℕ, ◌+◌}
+use mathlib.Core.Path.{◌≡◌, sym, subst}
 use mathlib.Core.List.{List}
 use native.Mathlib.Omega.{arith}
-use lib.ListN.{length, replicate}
-use Rattle.layout.specs.Image.{read}
+use Rattle.image.specs.Sets.{set_of}
 use Rattle.layout.specs.Words.{root}
 use Rattle.layout.proofs.Image.{valid-in_range}
-use Rattle.layout.proofs.States.{root_below, root_small}
-use Rattle.layout.proofs.RowPlaces.{row_end}
-use Rattle.layout.specs.States.{states}
-use Rattle.trie.specs.Rows.{Rooted}
+use Rattle.trie.specs.Rows.{RootFilled}
 use Rattle.trie.proofs.RowWords.{rooted_zero}
 use Rattle.trie.proofs.Filled.{filling_start, filling_end}
-use Rattle.trie.proofs.rows.fill.Goals.{else-root-gt0, then-root-gt0}
+use Rattle.trie.proofs.rows.fill.Goals.{else-rooted-gt0, then-rooted-gt0}
 use Rattle.trie.proofs.rows.fill.Goals as goal
-
-pub lay_children-requires : goal.lay_children-requires
-lay_children-requires c =
-    let symbols = (read c.args.image.now).symbols in record {
-      image_value = c.requires.image_value;
-      root = c.requires.root;
-      trie = c.requires.trie.trie;
-      count = c.requires.trie.nodes;
-      clear = c.clear.ensures
-          ∙ ap (λ (k : ℕ). replicate k 0) (c.requires.room ∙ ap (λ (k : ℕ). k * symbols) (sym c.requires.trie.nodes));
-    }
-
-pub fill_root-requires : goal.fill_root-requires
-fill_root-requires c =
-    let image = c.args.image.now in
-    let end = row_end (read image).symbols c.args.root (length (states (read image).rules))
-    (omega (arith, c.requires.root, root_below (read image).rules)) in record {
-      own = rw c.symbols.ensures
-          (omega (arith, c.lay_children.auto.rows, c.clear.auto.rows, c.requires.room, end));
-      low = omega (arith, c.requires.root, root_small (read image).rules);
-    }
-
-pub overflow_cast-d-end : goal.overflow_cast-d-end
-overflow_cast-d-end c =
-    omega (arith, c.requires.root, root_small (read c.args.image.now).rules)
 
 pub loop-d-init : goal.loop-d-init
 loop-d-init c =
-    let set = read c.args.image.now in
+    let set = set_of c.args.rooted.image in
     let laid = c.lay_children.new.rows in
-    let rooted : Rooted laid c.if-root-gt0.rows set.symbols (root set.rules) set.symbols =
-    elim c.if-root-gt0.branch [
-      | then-root-gt0 w ↦ subst (λ (l : List ℕ). Rooted laid l set.symbols (root set.rules) set.symbols) (sym w.rows-is)
-          (subst (λ (k : ℕ). Rooted laid w.fill_root.new.rows set.symbols k set.symbols) c.requires.root
-          (subst (λ (k : ℕ). Rooted laid w.fill_root.new.rows k c.args.root k) w.symbols.ensures w.fill_root.ensures))
-      | else-root-gt0 w ↦ subst (λ (l : List ℕ). Rooted laid l set.symbols (root set.rules) set.symbols) (sym w.rows-is)
-          (rooted_zero laid set.symbols (root set.rules) (omega (arith, w.if-root-gt0.false, c.requires.root)))
+    let rooted : RootFilled laid c.if-rooted-gt0.rows set.symbols (root set.rules) set.symbols =
+    elim c.if-rooted-gt0.branch [
+      | then-rooted-gt0 w ↦ subst (λ (l : List ℕ). RootFilled laid l set.symbols (root set.rules) set.symbols) (sym w.rows-is)
+          (subst (λ (k : ℕ). RootFilled laid w.fill_root.new.rows set.symbols k set.symbols) c.args.rooted.rooted
+          (subst (λ (k : ℕ). RootFilled laid w.fill_root.new.rows k c.args.rooted.root k) w.symbols.ensures w.fill_root.ensures))
+      | else-rooted-gt0 w ↦ subst (λ (l : List ℕ). RootFilled laid l set.symbols (root set.rules) set.symbols) (sym w.rows-is)
+          (rooted_zero laid set.symbols (root set.rules) (omega (arith, w.if-rooted-gt0.false, c.args.rooted.rooted)))
     ]
-    in (
-      omega arith,
-      omega arith,
-      refl,
-      filling_start set c.args.trie.now laid c.if-root-gt0.rows (valid-in_range c.args.image.now c.requires.image_value)
-          c.requires.trie.trie c.requires.trie.owned c.lay_children.ensures rooted,
-    )
-
-pub fill_depth-requires : goal.fill_depth-requires
-fill_depth-requires c = record {
-  image_value = c.requires.image_value;
-  root = c.requires.root;
-  count = c.requires.trie.nodes;
-  some = c.loop-d.invariant.0;
-  filling = c.loop-d.invariant.3;
-}
-
-pub loop-d-smaller : goal.loop-d-smaller
-loop-d-smaller c =
-    omega arith
-
-pub loop-d-preserved : goal.loop-d-preserved
-loop-d-preserved c =
-    let turn = c.loop-d in
-    let call = c.fill_depth in
-    (omega arith, omega arith, call.auto.trie ∙ turn.invariant.2, call.ensures)
+    in
+    filling_start set c.args.trie.now laid c.if-rooted-gt0.rows (valid-in_range c.args.rooted.image.bytes.now c.args.rooted.image.valid)
+    c.requires.trie.trie c.requires.trie.owned c.lay_children.ensures rooted
 
 pub returns : goal.returns
 returns c =
     let turn = c.loop-d in
-    let set = read c.args.image.now in
+    let set = set_of c.args.rooted.image in
     let longest = c.longest in
-    let all : turn.d ≡ longest.result + root set.rules + 1 = omega (arith, c.requires.root) in
+    let all : turn.d ≡ longest.result + root set.rules + 1 = omega (arith, c.args.rooted.rooted) in
     filling_end set longest.result c.args.trie.now turn.trie turn.rows
-    (valid-in_range c.args.image.now c.requires.image_value) longest.ensures.1.covers turn.invariant.2 (rw all at turn.invariant.3)
+    (valid-in_range c.args.rooted.image.bytes.now c.args.rooted.image.valid) longest.ensures.1.covers turn.auto.trie (rw all at turn.invariant)

@@ -1,67 +1,24 @@
 -- `table::rows::fill_depth` meets its contract. The loop's invariant: of the states of depth `d` those below `q` are done.
-use mathlib.Core.Path.{◌≡◌, refl, ◌∙◌}
+use mathlib.Core.Path.{◌≡◌}
 use native.Mathlib.Omega.{arith}
 use lib.ListN.{length}
-use Rattle.layout.specs.Image.{read}
+use Rattle.image.specs.Sets.{set_of}
 use Rattle.layout.specs.States.{states}
-use Rattle.trie.proofs.Turns.{filling_other, filling_skip, filling_longer}
+use Rattle.trie.proofs.Turns.{filling_skip, filling_longer}
 use Rattle.trie.proofs.rows.fill_depth.Goals.{else-trie-q, then-trie-q}
 use Rattle.trie.proofs.rows.fill_depth.Goals as goal
-
-pub loop-q-init : goal.loop-q-init
-loop-q-init c =
-    (omega arith, refl, refl, c.requires.filling)
-
-pub overflow_mul-q : goal.overflow_mul-q
-overflow_mul-q c = omega (arith, c.loop-q.invariant.3.trie.linked.size)
-
-pub overflow_add-q : goal.overflow_add-q
-overflow_add-q c = omega (arith, c.loop-q.invariant.3.trie.linked.size)
-
-pub offset_bounds-trie-q : goal.offset_bounds-trie-q
-offset_bounds-trie-q c = omega (arith, c.loop-q.invariant.3.trie.linked.size)
-
-pub bounds-trie-q : goal.bounds-trie-q
-bounds-trie-q c = omega (arith, c.loop-q.invariant.3.trie.linked.size)
-
-pub fill_state-requires : goal.fill_state-requires
-fill_state-requires c =
-    let turn = c.loop-q in
-    let deep = c.if-trie-q.true in record {
-      image_value = c.requires.image_value;
-      root = c.requires.root;
-      state = (
-        filling_other (read c.args.image.now) c.args.d turn.q turn.trie turn.rows c.requires.some deep
-            (omega arith) turn.invariant.3 c.args.root c.requires.root,
-        omega arith,
-      );
-      filling = rw deep turn.invariant.3;
-    }
-
-pub loop-q-smaller : goal.loop-q-smaller
-loop-q-smaller c = omega arith
 
 pub loop-q-preserved : goal.loop-q-preserved
 loop-q-preserved c =
     let turn = c.loop-q in
     elim c.if-trie-q.branch [
-      | then-trie-q w ↦ rw (w.trie-is, w.rows-is) (
-        omega arith,
-        w.fill_state.auto.trie ∙ turn.invariant.1,
-        w.fill_state.auto.rows ∙ turn.invariant.2,
-        rw w.if-trie-q.true at w.fill_state.ensures,
-      )
-      | else-trie-q w ↦ rw (w.trie-is, w.rows-is) (
-        omega arith,
-        turn.invariant.1,
-        turn.invariant.2,
-        filling_skip (read c.args.image.now) c.args.d turn.q turn.trie turn.rows w.if-trie-q.false (omega arith)
-            turn.invariant.3,
-      )
+      | then-trie-q w ↦ rw (w.trie-is, w.rows-is) (rw w.if-trie-q.true at w.fill_state.ensures)
+      | else-trie-q w ↦ rw (w.trie-is, w.rows-is)
+          (filling_skip (set_of c.args.rooted.image) c.args.d turn.q turn.trie turn.rows w.if-trie-q.false (omega arith) turn.invariant)
     ]
 
 pub returns : goal.returns
 returns c =
     let turn = c.loop-q in
-    let all : turn.q ≡ length (states (read c.args.image.now).rules) = omega arith in
-    filling_longer (read c.args.image.now) c.args.d turn.trie turn.rows (rw all at turn.invariant.3)
+    let all : turn.q ≡ length (states (set_of c.args.rooted.image).rules) = omega arith in
+    filling_longer (set_of c.args.rooted.image) c.args.d turn.trie turn.rows (rw all at turn.invariant)

@@ -1,11 +1,7 @@
-use Prim.Native.Nat.{◌≤◌, ◌-◌}
-use mathlib.Core.Path.{◌≡◌}
-use lib.ListN.{length}
-use Rattle.trie.specs.Rows.{Rooted}
+use Prim.Native.Nat.{◌+◌, ◌-◌, ◌*◌}
+use borrow.Rule.Slice.PartMut.{put_mid}
+use Rattle.trie.specs.Rows.{RootFilled}
 use Rattle.trie.proofs.rows.fill_root.Given as goal
 
-abbrev pub invariant-loop-a : goal.invariant-loop-a
-invariant-loop-a l = (l.a ≤ l.s) × (length l.rows ≡ length l.initial.rows) × Rooted l.initial.rows l.rows l.s l.root l.a
-
-abbrev pub decreases-loop-a : goal.decreases-loop-a
-decreases-loop-a l = l.s - l.a
+abbrev pub invariant-loop-word : goal.invariant-loop-word
+invariant-loop-word l = RootFilled l.fn.rows (put_mid (l.root * l.s) (l.root * l.s + l.s - l.root * l.s) l.fn.rows l.word-items) l.s l.root l.word-index

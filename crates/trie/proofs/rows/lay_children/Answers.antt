@@ -1,17 +1,17 @@
 -- `table::rows::lay_children` meets its contract. The loop's invariant: the children below `c` are laid.
 use Prim.Native.Nat.{ℕ, ◌+◌, ◌*◌}
-use mathlib.Core.Path.{◌≡◌, refl, ap, ◌∙◌}
+use mathlib.Core.Path.{◌≡◌, ap, ◌∙◌}
 use native.Mathlib.Omega.{arith}
-use lib.ListN.{length, replicate, length-set, length-replicate}
+use lib.ListN.{length, replicate, length-replicate}
 use mathlib.Core.List.{List}
 use Rattle.rewriting.specs.Rules.{RuleSet}
-use Rattle.layout.specs.Image.{read}
+use Rattle.image.specs.Sets.{set_of}
 use Rattle.layout.proofs.Image.{valid-in_range}
 use Rattle.layout.specs.States.{states}
 use Rattle.trie.specs.Nodes.{parent, symbol}
-use Rattle.layout.proofs.States.{root_below, root_small}
+use Rattle.layout.proofs.States.{root_below}
 use Rattle.trie.proofs.Laying.{laid_none, laid_more, laid_all, Within, within}
-use Rattle.trie.proofs.rows.lay_children.Goals.{After-word-a, In-loop-c}
+use Rattle.trie.proofs.rows.lay_children.Goals.{After-from-a, In-loop-c}
 use Rattle.trie.proofs.rows.lay_children.Goals as goal
 
 -- the rows have their length at each turn
@@ -20,100 +20,48 @@ sized : (set : RuleSet) (rows₀ rows : List ℕ) (n : ℕ) → n ≡ length (st
 sized set rows₀ rows n count clear same =
     same ∙ ap length clear ∙ length-replicate _ 0 ∙ ap (λ (k : ℕ). k * set.symbols) count
 
-bounds : (c : In-loop-c) → Within c.args.trie.now c.loop-c.rows (read c.args.image.now).symbols c.loop-c.c
+bounds : (c : In-loop-c) → Within c.args.trie.now c.loop-c.rows (set_of c.args.rooted.image).symbols c.loop-c.c
 bounds c =
-    let set = read c.args.image.now in
-    within set c.args.trie.now c.loop-c.rows (valid-in_range c.args.image.now c.requires.image_value) c.requires.trie
-    (sized set c.args.rows.now c.loop-c.rows c.args.n c.requires.count c.requires.clear c.loop-c.invariant.2) c.loop-c.c
-    (rw c.requires.root at c.loop-c.invariant.0) (omega arith)
+    let set = set_of c.args.rooted.image in
+    within set c.args.trie.now c.loop-c.rows (valid-in_range c.args.rooted.image.bytes.now c.args.rooted.image.valid) c.requires.trie
+    (sized set c.args.rows.now c.loop-c.rows (length c.args.trie.now) c.requires.count c.requires.clear c.loop-c.auto.rows) c.loop-c.c
+    (omega (arith, c.args.rooted.rooted)) (omega (arith, c.requires.count))
 
 -- the word that is stored is the one of the node in its parent's row
-place : (c : After-word-a)
-    → c.word-p.result * c.symbols-s.result + c.word-a.result
+place : (c : After-from-a)
+    → c.from-p.result * c.symbols-s.result + c.from-a.result
     ≡ parent c.args.trie.now
     c.loop-c.c
-    * (read c.args.image.now).symbols
+    * (set_of c.args.rooted.image).symbols
     + symbol c.args.trie.now
     c.loop-c.c
 place c =
-    rw (c.word-p.ensures, c.symbols-s.ensures, c.word-a.ensures)
-
-pub overflow_step-c : goal.overflow_step-c
-overflow_step-c c =
-    omega (arith, c.requires.root, root_small (read c.args.image.now).rules)
+    rw (c.from-p.ensures, c.symbols-s.ensures, c.from-a.ensures)
 
 pub loop-c-init : goal.loop-c-init
 loop-c-init c =
-    let image = c.args.image.now in (
-      omega arith,
-      omega (arith, c.requires.root, root_below (read image).rules, c.requires.count),
-      refl,
-      rw c.requires.root
-          (laid_none (read image) c.args.rows.now c.requires.trie.few
-          (c.requires.clear
-          ∙ ap (λ (n : ℕ). replicate (n * (read image).symbols) 0) c.requires.count)),
-    )
-
-pub overflow_mul-c : goal.overflow_mul-c
-overflow_mul-c c = omega (arith, bounds c)
-
-pub offset_bounds-trie-c : goal.offset_bounds-trie-c
-offset_bounds-trie-c c = omega (arith, bounds c)
-
-pub bounds-trie-c : goal.bounds-trie-c
-bounds-trie-c c = omega (arith, bounds (goal.at.bounds-trie-c c).In-loop-c)
-
-pub overflow_mul-c-in-loop-c : goal.overflow_mul-c-in-loop-c
-overflow_mul-c-in-loop-c c = omega (arith, bounds (goal.at.overflow_mul-c-in-loop-c c).In-loop-c)
-
-pub overflow_add-c : goal.overflow_add-c
-overflow_add-c c = omega (arith, bounds (goal.at.overflow_add-c c).In-loop-c)
-
-pub offset_bounds-trie-c-in-loop-c : goal.offset_bounds-trie-c-in-loop-c
-offset_bounds-trie-c-in-loop-c c = omega (arith, bounds (goal.at.offset_bounds-trie-c-in-loop-c c).In-loop-c)
-
-pub bounds-trie-c-in-loop-c : goal.bounds-trie-c-in-loop-c
-bounds-trie-c-in-loop-c c = omega (arith, bounds (goal.at.bounds-trie-c-in-loop-c c).In-loop-c)
+    rw c.args.rooted.rooted
+    (laid_none (set_of c.args.rooted.image) c.args.rows.now c.requires.trie.few
+    (c.requires.clear ∙ ap (λ (n : ℕ). replicate (n * (set_of c.args.rooted.image).symbols) 0) c.requires.count))
 
 pub overflow_cast-rows : goal.overflow_cast-rows
 overflow_cast-rows c =
     omega (arith, bounds (goal.at.overflow_cast-rows c).In-loop-c)
 
-pub overflow_mul-rows : goal.overflow_mul-rows
-overflow_mul-rows c =
-    omega (arith, place c, bounds (goal.at.overflow_mul-rows c).In-loop-c)
-
-pub overflow_add-rows : goal.overflow_add-rows
-overflow_add-rows c =
-    omega (arith, place c, bounds (goal.at.overflow_add-rows c).In-loop-c)
-
-pub offset_bounds-rows-p : goal.offset_bounds-rows-p
-offset_bounds-rows-p c =
-    omega (arith, place c, bounds (goal.at.offset_bounds-rows-p c).In-loop-c)
-
-pub bounds-rows-p : goal.bounds-rows-p
-bounds-rows-p c =
-    omega (arith, place c, bounds (goal.at.bounds-rows-p c).In-loop-c)
-
-pub loop-c-smaller : goal.loop-c-smaller
-loop-c-smaller c = omega arith
-
 pub loop-c-preserved : goal.loop-c-preserved
 loop-c-preserved c =
-    let turn = c.loop-c in (
-      omega arith,
-      omega arith,
-      simp length-set turn.invariant.2,
-      rw (place c)
-          (laid_more (read c.args.image.now) c.args.trie.now turn.rows turn.c c.requires.trie
-          (sized (read c.args.image.now) c.args.rows.now turn.rows c.args.n c.requires.count c.requires.clear turn.invariant.2)
-          (rw c.requires.root at turn.invariant.0) (omega arith) turn.invariant.3),
-    )
+    let turn = c.loop-c in
+    rw (place c)
+    (laid_more (set_of c.args.rooted.image) c.args.trie.now turn.rows turn.c c.requires.trie
+    (sized (set_of c.args.rooted.image) c.args.rows.now turn.rows (length c.args.trie.now) c.requires.count c.requires.clear turn.auto.rows)
+    (omega (arith, c.args.rooted.rooted)) (omega (arith, c.requires.count)) turn.invariant)
 
 pub returns : goal.returns
 returns c =
     let turn = c.loop-c in
-    let all : turn.c ≡ length (states (read c.args.image.now).rules) = omega arith in
-    laid_all (read c.args.image.now) turn.rows
-    (sized (read c.args.image.now) c.args.rows.now turn.rows c.args.n c.requires.count c.requires.clear turn.invariant.2)
-    (rw all at turn.invariant.3)
+    let all : turn.c ≡ length (states (set_of c.args.rooted.image).rules) =
+    omega (arith, c.requires.count, c.args.rooted.rooted, root_below (set_of c.args.rooted.image).rules)
+    in
+    laid_all (set_of c.args.rooted.image) turn.rows
+    (sized (set_of c.args.rooted.image) c.args.rows.now turn.rows (length c.args.trie.now) c.requires.count c.requires.clear turn.auto.rows)
+    (rw all at turn.invariant)

@@ -1,13 +1,6 @@
-use Prim.Native.Nat.{◌≤◌, ◌<◌, ◌-◌}
-use mathlib.Core.Path.{◌≡◌}
-use lib.ListN.{length}
-use Rattle.layout.specs.Image.{read}
+use Rattle.image.specs.Sets.{set_of}
 use Rattle.trie.proofs.Laying.{LaidBelow}
 use Rattle.trie.proofs.rows.lay_children.Given as goal
 
 abbrev pub invariant-loop-c : goal.invariant-loop-c
-invariant-loop-c l =
-    (l.root < l.c) × (l.c ≤ l.n) × (length l.rows ≡ length l.initial.rows) × LaidBelow (read l.image) l.rows l.c
-
-abbrev pub decreases-loop-c : goal.decreases-loop-c
-decreases-loop-c l = l.n - l.c
+invariant-loop-c l = LaidBelow (set_of l.rooted.image) l.rows l.c

@@ -2,7 +2,13 @@
 -- is the least such number.
 use Prim.Native.Nat.{ℕ, ◌+◌, ◌≤◌, ◌<◌}
 use mathlib.Core.Logic.{◌⊎◌, inl, inr}
-use mathlib.Core.Path.{◌≡◌}
+use mathlib.Core.Path.{◌≡◌, refl}
+use mathlib.Core.Bool.{Bool, true, false, cond}
+use lib.Dec.{ltb}
+use borrow.Author.Tests.{ltb-true, ltb-false}
+use Rattle.std.specs.Ordering.{nat_cmp, ord_max, is_lt}
+use Rattle.std.specs.Prelude.{◌==◌}
+use Rattle.std.specs.declared.cmp.Ordering.TheVariants.{Less, Equal, Greater}
 use mathlib.Core.List.{List}
 use native.Mathlib.Omega.{arith}
 use lib.ListN.{length}
@@ -10,9 +16,8 @@ use borrow.Author.Rules.{rules}
 use Rattle.rewriting.specs.Rules.{Rule, rule}
 use Rattle.rewriting.proofs.Lists.{last_or}
 use Rattle.rewriting.proofs.Ranges.{ranges, rule_at_lem}
-use Rattle.layout.specs.Image.{read}
+use Rattle.image.specs.Sets.{set_of}
 use Rattle.layout.proofs.Image.{valid-in_range}
-use Rattle.trie.proofs.rows.longest.Goals.{else-most-long, then-most-long}
 use Rattle.trie.proofs.rows.longest.Invariants.{NoLongerBefore}
 use Rattle.trie.proofs.rows.longest.Goals as goal
 
@@ -24,46 +29,27 @@ longer i rules n m all h this k l = go (last_or i k (omega arith))
     go (inl before) = omega (arith, all k before)
     go (inr e) = rw e this
 
-pub loop-i-init : goal.loop-i-init
-loop-i-init c = (omega arith, omega arith, (λ k h. absurd (omega arith)), λ m all. omega arith)
+-- what `max` gives is the least number that neither is larger than
+larger : (a b : ℕ) → (a ≤ ord_max nat_cmp a b) × (b ≤ ord_max nat_cmp a b) × ((m : ℕ) → a ≤ m → b ≤ m → ord_max nat_cmp a b ≤ m)
+larger a b = go (ltb b a) (b == a) refl
+  where
+    largest : Bool → Bool → ℕ
+    largest x y = cond (is_lt (cond x Less (cond y Equal Greater))) a b
 
-pub left_length-long-requires : goal.left_length-long-requires
-left_length-long-requires c = record {
-  image_value = c.requires;
-  i_in_bounds = omega (arith, c.rules-i-end.ensures);
-}
-
-pub loop-i-smaller : goal.loop-i-smaller
-loop-i-smaller c = omega arith
+    go : (x y : Bool) → ltb b a ≡ x → (a ≤ largest x y) × (b ≤ largest x y) × ((m : ℕ) → a ≤ m → b ≤ m → largest x y ≤ m)
+    go true y e = (omega arith, omega (arith, ltb-true b a e), λ m h k. h)
+    go false true e = (omega (arith, ltb-false b a e), omega arith, λ m h k. k)
+    go false false e = (omega (arith, ltb-false b a e), omega arith, λ m h k. k)
 
 pub loop-i-preserved : goal.loop-i-preserved
 loop-i-preserved c =
-    let image = c.args.image.now in
+    let set = set_of c.args.image in
     let i = c.loop-i.i in
-    let is_rule : i < length (read image).rules = omega (arith, c.rules-i-end.ensures) in
-    let own = rule_at_lem (read image) (ranges (read image) (valid-in_range image c.requires)) i is_rule in
-    let grown = longer i (read image).rules c.loop-i.most c.if-most-long.most c.loop-i.invariant.2 in
-    let long = c.left_length-long.ensures in
-    elim c.if-most-long.branch [
-      | then-most-long w ↦ (
-        omega arith,
-        omega (arith, own.short_left, long, w.most-is),
-        grown (omega (arith, w.if-most-long.true, w.most-is)) (omega (arith, long, w.most-is)),
-        λ m all. omega (arith, all i (omega arith), long, w.most-is),
-      )
-      | else-most-long w ↦ (
-        omega arith,
-        omega (arith, c.loop-i.invariant.1, w.most-is),
-        grown (omega (arith, w.most-is)) (omega (arith, long, w.if-most-long.false, w.most-is)),
-        λ m all. omega (arith, c.loop-i.invariant.3 m (λ k h. all k (omega arith)), w.most-is),
-      )
-    ]
-
-pub returns : goal.returns
-returns c = (
-  c.loop-i.invariant.1,
-  record {
-    covers = λ i h. c.loop-i.invariant.2 i (omega (arith, c.rules-i-end.ensures));
-    least = λ m all. c.loop-i.invariant.3 m (λ k h. all k (omega (arith, c.rules-i-end.ensures)));
-  },
-)
+    let is_rule : i < length (set).rules = omega (arith, c.rules-i-end.ensures) in
+    let own = rule_at_lem (set) (ranges (set) (valid-in_range c.args.image.bytes.now c.args.image.valid)) i is_rule in
+    let long = c.left_length.ensures in
+    let most = rw (← c.max-most.ensures) at (larger c.loop-i.most c.left_length.result) in (
+      most.2 8 c.loop-i.invariant.0 (omega (arith, own.short_left, long)),
+      longer i (set).rules c.loop-i.most c.max-most.result c.loop-i.invariant.1 most.0 (omega (arith, long, most.1)),
+      λ m all. most.2 m (c.loop-i.invariant.2 m (λ k h. all k (omega arith))) (omega (arith, all i (omega arith), long)),
+    )

@@ -1,8 +1,8 @@
-use Prim.Native.Nat.{ℕ, ◌-◌, ◌≤◌, ◌<◌}
+use Prim.Native.Nat.{ℕ, ◌≤◌, ◌<◌}
 use mathlib.Core.List.{List}
 use lib.ListN.{length}
 use Rattle.rewriting.specs.Rules.{Rule, rule}
-use Rattle.layout.specs.Image.{read}
+use Rattle.image.specs.Sets.{set_of}
 use Rattle.trie.proofs.rows.longest.Given as goal
 
 -- no left side of the rules before i is longer than n
@@ -15,7 +15,4 @@ LeastBefore i rules n = (m : ℕ) → NoLongerBefore i rules m → n ≤ m
 
 abbrev pub invariant-loop-i : goal.invariant-loop-i
 invariant-loop-i l =
-    (l.i ≤ l.i-end) × (l.most ≤ 8) × NoLongerBefore l.i (read l.image).rules l.most × LeastBefore l.i (read l.image).rules l.most
-
-abbrev pub decreases-loop-i : goal.decreases-loop-i
-decreases-loop-i l = l.i-end - l.i
+    (l.most ≤ 8) × NoLongerBefore l.i (set_of l.image).rules l.most × LeastBefore l.i (set_of l.image).rules l.most

@@ -1,12 +1,8 @@
-use Prim.Native.Nat.{ℕ, ◌≤◌, ◌<◌, ◌-◌}
+use Prim.Native.Nat.{ℕ, ◌<◌}
 use mathlib.Core.Path.{◌≡◌}
-use lib.ListN.{length, get_or}
+use lib.ListN.{get_or}
 use Rattle.trie.specs.Nodes.{matched}
 use Rattle.trie.proofs.rows.write_matches.Given as goal
 
 abbrev pub invariant-loop-q : goal.invariant-loop-q
-invariant-loop-q l =
-    (l.q ≤ l.n) × (length l.words ≡ length l.initial.words) × ((k : ℕ) → k < l.q → get_or l.words k 0 ≡ matched l.trie k)
-
-abbrev pub decreases-loop-q : goal.decreases-loop-q
-decreases-loop-q l = l.n - l.q
+invariant-loop-q l = (k : ℕ) → k < l.q → get_or l.words k 0 ≡ matched l.trie k

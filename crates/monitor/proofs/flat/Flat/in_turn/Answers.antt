@@ -1,20 +1,17 @@
 -- `monitor::flat::Flat::in_turn` meets its contract: the invariant is `Offering` (machine/proofs/Offering.antt), and that the answer byte
 -- written last is the head's answer.
-use Prim.Native.Nat.{ℕ, ◌+◌, ◌≤◌}
-use mathlib.Core.Path.{refl, sym, ap, ◌∙◌}
+use Prim.Native.Nat.{◌≤◌}
+use mathlib.Core.Path.{◌≡◌, refl, sym, ap, ◌∙◌}
 use native.Mathlib.Omega.{arith}
 use native.Mathlib.Numerals.{add-one}
 use lib.ListN.{length, get_or}
 use Rattle.layout.specs.Image.{read}
 use Rattle.machine.specs.Areas.{Monitor}
-use Rattle.machine.specs.Lent.{offers_or_goes_on}
+use Rattle.machine.specs.Lent.{offers_or_goes_on, where_offering}
 use Rattle.monitor.specs.Lent.{flat, ran_from}
 use Rattle.layout.specs.Refusals.{refusal_number, refused_by, numbered}
-use Rattle.layout.proofs.Image.{valid-in_range}
 use Rattle.layout.proofs.Refusals.{not_refused}
-use Rattle.layout.proofs.States.{few_states}
-use Rattle.machine.proofs.Stepping.{Held, held, passed_valid, passed_table}
-use Rattle.machine.proofs.TableWords.{table_header, states_in}
+use Rattle.machine.proofs.Stepping.{Held, held}
 use Rattle.machine.proofs.LentRefusal.{answered_passed, answered_refused}
 use Rattle.machine.proofs.Offering.{
   offering_first,
@@ -29,21 +26,13 @@ use Rattle.machine.proofs.Offering.{
   fuel_with,
   calls_length,
 }
-use Rattle.monitor.proofs.flat.Flat.in_turn.Goals.{Start}
+use Rattle.monitor.proofs.flat.Flat.in_turn.Goals.{Start, After-refusal, then-offering, else-offering}
 use Rattle.monitor.proofs.flat.Flat.in_turn.Goals as goal
 
 -- what is lent
 
 abbrev given : Start → Monitor
 given s = flat s.args.self s.args.bytes.now s.args.words.now
-
-header : (s : Start) → 2 ≤ length s.args.table.now
-header s =
-    omega (
-      arith,
-      table_header (read s.args.image.now) s.args.table.now
-          (passed_table (length s.args.bytes.now) s.args.image.now s.args.table.now (given s) s.requires.lent),
-    )
 
 -- the number of calls is that of the events
 
@@ -53,29 +42,6 @@ room s = rw (calls_length s.args.offering s.args.events.now s.args.fuel) s.requi
 
 few : (s : Start) → length (offers_or_goes_on s.args.offering s.args.events.now s.args.fuel) ≤ 65535
 few s = rw (calls_length s.args.offering s.args.events.now s.args.fuel) s.requires.few
-
-pub bounds-table-0 : goal.bounds-table-0
-bounds-table-0 c =
-    let s = (goal.at.bounds-table-0 c).Start in
-    omega (arith, header s)
-
-pub overflow_add-rows : goal.overflow_add-rows
-overflow_add-rows c =
-    let s = (goal.at.overflow_add-rows c).Start in
-    let image = c.args.image.now in
-    let table = c.args.table.now in
-    let capacity = length c.args.bytes.now in
-    omega (
-      arith,
-      c.word-rows.ensures,
-      states_in (read image) table (passed_table capacity image table (given s) c.requires.lent),
-      few_states (read image) (valid-in_range image (passed_valid capacity image table (given s) c.requires.lent)),
-    )
-
-pub bounds-table-1 : goal.bounds-table-1
-bounds-table-1 c =
-    let s = (goal.at.bounds-table-1 c).Start in
-    omega (arith, header s)
 
 pub loop-k-init : goal.loop-k-init
 loop-k-init c = (
@@ -90,13 +56,19 @@ bounds-events-k c =
 
 pub refusal-requires : goal.refusal-requires
 refusal-requires c =
-    let image = c.args.image.now in
+    let image = c.args.rules.table.image.bytes.now in
     let now = flat c.loop-k.head c.loop-k.bytes c.loop-k.words in
     let ok = offering_passed c.loop-k.invariant.0 in
-    let facts : Held (read image) (length c.loop-k.bytes) now = held (length c.loop-k.bytes) image c.args.table.now now ok in record {
-      image = passed_valid (length c.loop-k.bytes) image c.args.table.now now ok;
-      held = omega (arith, facts);
-    }
+    let facts : Held (read image) (length c.loop-k.bytes) now = held (length c.loop-k.bytes) image c.args.rules.table.words.now now ok in
+    omega (arith, facts)
+
+-- the call of event k, as it is made
+made : (c : After-refusal)
+    → c.if-offering.offered ≡ where_offering c.args.offering (get_or c.args.events.now c.loop-k.k 0)
+made c = elim c.if-offering.branch [
+  | then-offering w ↦ rw (w.offered-is, w.if-offering.true)
+  | else-offering w ↦ rw (w.offered-is, w.if-offering.false)
+]
 
 pub returns-in-Err : goal.returns-in-Err
 unfolding refusal_number
@@ -107,7 +79,8 @@ returns-in-Err c =
     let offering = c.args.offering in record {
       calls = offering_refused c.loop-k.invariant.0 (room s) (rw (calls_length offering events fuel) c.loop-k-test.true) _
           (rw (call_at offering events fuel c.loop-k.k c.loop-k-test.true)
-          (answered_refused _ _ (sym c.refusal.ensures ∙ ap numbered c.in-Err.is)));
+          (rw (made (goal.at.returns-in-Err c).After-refusal) at
+          (answered_refused _ _ (sym c.refusal.ensures ∙ ap numbered c.in-Err.is))));
       last = c.loop-k.invariant.1;
     }
 
@@ -119,9 +92,6 @@ call-head-requires c =
     let offering = c.args.offering in
     let more = c.loop-k-test.true in record {
       lent = offering_passed c.loop-k.invariant.0;
-      starts = c.requires.starts;
-      rows = ap (λ (x : ℕ). 2 + x) c.word-rows.ensures;
-      width = c.word-width.ensures;
       accepted = answered_passed _ (sym c.refusal.ensures ∙ ap numbered (not_refused _ c.in_default.not-Err));
       sums = offering_sums c.loop-k.invariant.0 (room s) (rw (calls_length offering events fuel) more) fuel (omega (arith, c.ranges.fuel))
           (few s);
@@ -139,7 +109,7 @@ overflow_cast-answers c =
       c.call-head.ensures.number,
       offering-number c.loop-k.invariant.0 (room s) (rw (calls_length offering events fuel) more)
           {o = (ran_from c.call-head.result c.call-head.new.bytes c.call-head.new.words)}
-          (rw (call_at offering events fuel c.loop-k.k more) c.call-head.ensures.outcome),
+          (rw (call_at offering events fuel c.loop-k.k more) (rw (made (goal.at.overflow_cast-answers c).After-refusal) at c.call-head.ensures.outcome)),
     )
 
 pub bounds-answers-k : goal.bounds-answers-k
@@ -162,8 +132,9 @@ loop-k-preserved c =
           (rw c.call-head.ensures.number at
           (offering-next c.loop-k.invariant.0 (room s) (rw (calls_length offering events fuel) more)
           {o = (ran_from c.call-head.result c.call-head.new.bytes c.call-head.new.words)}
-          (rw (call_at offering events fuel c.loop-k.k more) c.call-head.ensures.outcome)
-          (rw (call_at offering events fuel c.loop-k.k more, fuel_with offering (get_or events c.loop-k.k 0) fuel) (omega (arith, c.ranges.fuel)))
+          (rw (call_at offering events fuel c.loop-k.k more)
+          (rw (made (goal.at.loop-k-preserved c).After-refusal) at c.call-head.ensures.outcome))
+          (rw (call_at offering events fuel c.loop-k.k more, fuel_with (where_offering offering (get_or events c.loop-k.k 0)) fuel) (omega (arith, c.ranges.fuel)))
           refl)),
       written_last c.loop-k.answers c.loop-k.k _ (omega (arith, more, c.loop-k.invariant.0.size, c.requires.room)),
     )

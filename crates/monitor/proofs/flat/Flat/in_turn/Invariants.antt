@@ -8,7 +8,7 @@ use Rattle.monitor.proofs.flat.Flat.in_turn.Given as goal
 
 abbrev pub invariant-loop-k : goal.invariant-loop-k
 invariant-loop-k l =
-    Offering (length l.initial.bytes) l.image l.table (flat l.initial.head l.initial.bytes l.initial.words)
+    Offering (length l.initial.bytes) l.rules.table.image.bytes.now l.rules.table.words.now (flat l.initial.head l.initial.bytes l.initial.words)
     (offers_or_goes_on l.offering l.events l.fuel) l.initial.answers (flat l.head l.bytes l.words) l.answers
     (counts_in l.head) l.k
     × ((j : ℕ) → l.k ≡ suc j → get_or l.answers j 0 ≡ l.head.answer)

@@ -29,7 +29,7 @@ pub returns-then-self-eq0 : goal.returns-then-self-eq0
 unfolding answer_number
 returns-then-self-eq0 c =
     rw c.ended.ensures record {
-      outcome = quiet_at_once c.args.image.now c.args.table.now c.args.bytes.now c.args.words.now c.args.fuel
+      outcome = quiet_at_once c.args.rules.table.image.bytes.now c.args.rules.table.words.now c.args.bytes.now c.args.words.now c.args.fuel
           (counts_in c.args.self) (active_in c.args.self) c.requires.lent refl c.if-self-eq0.true;
       number = refl;
     }
@@ -38,7 +38,7 @@ pub loop-left-init : goal.loop-left-init
 loop-left-init c = (
   omega (arith, c.if-self-eq0.false),
   refl,
-  running_first c.args.image.now c.args.table.now c.args.bytes.now c.args.words.now c.args.fuel
+  running_first c.args.rules.table.image.bytes.now c.args.rules.table.words.now c.args.bytes.now c.args.words.now c.args.fuel
       (counts_in c.args.self) (active_in c.args.self) c.requires.lent,
 )
 
@@ -58,9 +58,6 @@ pub step-next-requires : goal.step-next-requires
 step-next-requires c =
     let k = c.loop-left.invariant.2 in record {
       lent = running_asks k;
-      starts = c.requires.starts;
-      rows = c.requires.rows;
-      width = c.requires.width;
       waiting = c.loop-left.invariant.0;
       sums = omega (arith, c.requires.sums, k.fuel_left, k.few_rewrites, k.few_put, c.if-left-eq0.false);
     }
@@ -89,7 +86,7 @@ overflow_sub-left c =
 
 -- The step is taken: the run from there.
 went : (c : Else-next-eq-FULL)
-    → Running c.args.image.now c.args.table.now c.args.bytes.now c.args.words.now c.args.fuel
+    → Running c.args.rules.table.image.bytes.now c.args.rules.table.words.now c.args.bytes.now c.args.words.now c.args.fuel
     (counts_in c.args.self) (active_in c.args.self) c.step-next.new.bytes c.step-next.new.words
     (flat_in c.step-next.result) (c.loop-left.left - 1) c.step-next.result.rewrites c.step-next.result.put
 went c =

@@ -1,6 +1,6 @@
 -- `monitor::flat::Flat::step` meets its contract: the symbol is settled, or its rule rewrites.
 use Prim.Native.Nat.{ℕ, ◌-◌}
-use mathlib.Core.Path.{◌≡◌, refl, ap}
+use mathlib.Core.Path.{◌≡◌, refl, ap, ◌∙◌}
 use mathlib.Core.Bool.{true, false}
 use mathlib.Core.List.{List, ◌∷◌}
 use native.Mathlib.Omega.{arith}
@@ -11,7 +11,7 @@ use Rattle.machine.specs.Lent.{added_to}
 use Rattle.monitor.specs.Lent.{active}
 use Rattle.machine.proofs.Stepping.{Held, held, waits, settled_step}
 use Rattle.machine.proofs.Running.{added_none, tried_counts}
-use Rattle.machine.proofs.Looking.{no_match_lem, some_match, symbol-is, symbol_small, next_asks, next-is, next_small, match_asks, match_is}
+use Rattle.machine.proofs.Looking.{no_match_lem, some_match, symbol-is, next_asks, next-is, next_small, match_asks, match_is}
 use Rattle.monitor.proofs.flat.Flat.step.Goals.{Start}
 use Rattle.monitor.proofs.flat.Flat.step.Goals as goal
 
@@ -20,17 +20,17 @@ use Rattle.monitor.proofs.flat.Flat.step.Goals as goal
 abbrev given : Start → Monitor
 given s = active s.args.self s.args.bytes.now s.args.words.now
 
-facts : (s : Start) → Held (read s.args.image.now) (length s.args.bytes.now) (given s)
-facts s = held (length s.args.bytes.now) s.args.image.now s.args.table.now (given s) s.requires.lent
+facts : (s : Start) → Held (read s.args.rules.table.image.bytes.now) (length s.args.bytes.now) (given s)
+facts s = held (length s.args.bytes.now) s.args.rules.table.image.bytes.now s.args.rules.table.words.now (given s) s.requires.lent
 
 -- a symbol waits
 
 one : (s : Start) → (a : ℕ) × (q : List ℕ) × ((state_of (given s)).waiting ≡ a ∷ q)
-one s = waits (read s.args.image.now) (length s.args.bytes.now) (given s) (facts s) s.requires.waiting
+one s = waits (read s.args.rules.table.image.bytes.now) (length s.args.bytes.now) (given s) (facts s) s.requires.waiting
 
 symbol : (s : Start) → get_or s.args.bytes.now (length s.args.bytes.now - s.args.self.waiting) 0 ≡ (one s).0
 symbol s =
-    symbol-is (length s.args.bytes.now) s.args.image.now s.args.table.now (given s) s.requires.lent (one s).0 (one s).1 (one s).2 _ refl
+    symbol-is (length s.args.bytes.now) s.args.rules.table.image.bytes.now s.args.rules.table.words.now (given s) s.requires.lent (one s).0 (one s).1 (one s).2 _ refl
 
 pub overflow_sub-first : goal.overflow_sub-first
 overflow_sub-first c =
@@ -47,40 +47,29 @@ word_before-q-requires c =
     let s = (goal.at.word_before-q-requires c).Start in
     omega (arith, facts s, c.requires.waiting)
 
-pub overflow_cast-symbol : goal.overflow_cast-symbol
-overflow_cast-symbol c =
-    let s = (goal.at.overflow_cast-symbol c).Start in
-    omega (
-      arith,
-      symbol s,
-      symbol_small (length c.args.bytes.now) c.args.image.now c.args.table.now (given s) c.requires.lent (one s).0
-          (one s).1 (one s).2,
-    )
-
-pub next_at-next-requires : goal.next_at-next-requires
-next_at-next-requires c =
-    let s = (goal.at.next_at-next-requires c).Start in
-    rw (c.requires.rows, c.requires.width)
-    (next_asks (length c.args.bytes.now) c.args.image.now c.args.table.now (given s) c.requires.lent (one s).0
-    (one s).1 (one s).2 _ _ c.word_before-q.ensures (symbol s)).1
+pub next-next-requires : goal.next-next-requires
+next-next-requires c =
+    let s = (goal.at.next-next-requires c).Start in
+    rw (c.args.rules.table.rows_first, c.args.rules.table.row_width)
+    (next_asks (length c.args.bytes.now) c.args.rules.table.image.bytes.now c.args.rules.table.words.now (given s) c.requires.lent (one s).0
+    (one s).1 (one s).2 _ _ c.word_before-q.ensures (c.from.ensures ∙ symbol s)).1
 
 pub match_word-matched-requires : goal.match_word-matched-requires
 match_word-matched-requires c =
     let s = (goal.at.match_word-matched-requires c).Start in
-    match_asks (length c.args.bytes.now) c.args.image.now c.args.table.now (given s) c.requires.lent (one s).0
+    match_asks (length c.args.bytes.now) c.args.rules.table.image.bytes.now c.args.rules.table.words.now (given s) c.requires.lent (one s).0
     (one s).1 (one s).2 _
-    (next-is (length c.args.bytes.now) c.args.image.now c.args.table.now (given s) c.requires.lent (one s).0
-    (one s).1 (one s).2 _ _ _ c.word_before-q.ensures (symbol s)
-    (rw (c.requires.rows, c.requires.width) at c.next_at-next.ensures))
+    (next-is (length c.args.bytes.now) c.args.rules.table.image.bytes.now c.args.rules.table.words.now (given s) c.requires.lent (one s).0
+    (one s).1 (one s).2 _ _ _ c.word_before-q.ensures (c.from.ensures ∙ symbol s)
+    (rw (c.args.rules.table.rows_first, c.args.rules.table.row_width) at c.next-next.ensures))
 
 pub rewrite-requires : goal.rewrite-requires
 rewrite-requires c =
     let s = (goal.at.rewrite-requires c).Start in
-    let image = c.args.image.now in
-    let table = c.args.table.now in
+    let image = c.args.rules.table.image.bytes.now in
+    let table = c.args.rules.table.words.now in
     let capacity = length c.args.bytes.now in record {
       lent = c.requires.lent;
-      starts = c.requires.starts;
       next = (
         (one s).0,
         (one s).1,
@@ -88,7 +77,7 @@ rewrite-requires c =
         some_match _ _
             (match_is capacity image table (given s) c.requires.lent (one s).0 (one s).1 (one s).2 _
             (next-is capacity image table (given s) c.requires.lent (one s).0 (one s).1 (one s).2 _ _ _
-            c.word_before-q.ensures (symbol s) (rw (c.requires.rows, c.requires.width) at c.next_at-next.ensures)) _
+            c.word_before-q.ensures (c.from.ensures ∙ symbol s) (rw (c.args.rules.table.rows_first, c.args.rules.table.row_width) at c.next-next.ensures)) _
             c.match_word-matched.ensures) c.if-matched-ne0.true,
       );
     }
@@ -111,7 +100,7 @@ overflow_add-result-in-Some c =
     omega (
       arith,
       c.requires.sums,
-      tried_counts (length c.args.bytes.now) c.args.image.now c.args.table.now (given s) c.requires.lent (one s).0 (one s).1 (one s).2 _
+      tried_counts (length c.args.bytes.now) c.args.rules.table.image.bytes.now c.args.rules.table.words.now (given s) c.requires.lent (one s).0 (one s).1 (one s).2 _
           c.in-Some.ensures.tried,
     )
 
@@ -136,14 +125,14 @@ bounds-bytes-settled c =
 pub overflow_cast-words : goal.overflow_cast-words
 overflow_cast-words c =
     let s = (goal.at.overflow_cast-words c).Start in
-    let image = c.args.image.now in
-    let table = c.args.table.now in
+    let image = c.args.rules.table.image.bytes.now in
+    let table = c.args.rules.table.words.now in
     let capacity = length c.args.bytes.now in
     omega (
       arith,
       next_small capacity image table (given s) c.requires.lent (one s).0 (one s).1 (one s).2 _
           (next-is capacity image table (given s) c.requires.lent (one s).0 (one s).1 (one s).2 _ _ _
-          c.word_before-q.ensures (symbol s) (rw (c.requires.rows, c.requires.width) at c.next_at-next.ensures)),
+          c.word_before-q.ensures (c.from.ensures ∙ symbol s) (rw (c.args.rules.table.rows_first, c.args.rules.table.row_width) at c.next-next.ensures)),
     )
 
 pub offset_bounds-words-settled : goal.offset_bounds-words-settled
@@ -165,10 +154,10 @@ pub returns : goal.returns
 returns c =
     let s = (goal.at.returns c).Start in
     let bytes = c.args.bytes.now in
-    let image = c.args.image.now in
-    let table = c.args.table.now in
+    let image = c.args.rules.table.image.bytes.now in
+    let table = c.args.rules.table.words.now in
     let next = next-is (length bytes) image table (given s) c.requires.lent (one s).0 (one s).1 (one s).2 _ _ _
-    c.word_before-q.ensures (symbol s) (rw (c.requires.rows, c.requires.width) at c.next_at-next.ensures) in record {
+    c.word_before-q.ensures (c.from.ensures ∙ symbol s) (rw (c.args.rules.table.rows_first, c.args.rules.table.row_width) at c.next-next.ensures) in record {
       tried = rw (symbol s)
           (added_none true _ _ _ _
           (settled_step (read image) (length bytes) (given s) (facts s) (one s).0 (one s).1 (one s).2

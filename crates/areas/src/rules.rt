@@ -1,0 +1,73 @@
+// What the steps of a call work by: the image, its table, and where each rule's right symbols begin. A look into them costs a step
+// no test: what it asks, the checks of a call have shown, and what they have shown of the table and the starts is in the types.
+ghost use Rattle.std.specs.Prelude.{◌+◌, ◌*◌, ◌<◌, ◌≤◌, ◌≡◌, true, length, get_or};
+ghost use Rattle.rewriting.specs.Lists.{prefix};
+ghost use Rattle.layout.specs.Image.{read};
+ghost use Rattle.layout.specs.Places.{right_at};
+ghost use Rattle.layout.specs.Table.{table_of};
+ghost use Rattle.machine.specs.Lent.{rows_in, width_in, match_in, Starts};
+
+use image::Image;
+
+// An image and words that begin with its table, where the table's rows begin, and how many words each has: a step does not look
+// them up again.
+#[derive(Clone, Copy)]
+pub struct Table<'a> {
+    pub image: Image<'a>,
+    pub words: &'a [u16],
+    pub rows: usize,
+    pub width: usize,
+    ghost right: { prefix (table_of (read image.bytes.now)) words.now ≡ true },
+    ghost rows_first: { rows ≡ rows_in words.now },
+    ghost row_width: { width ≡ width_in words.now },
+}
+
+// The same with the place where each rule's right symbols begin, so that a step need not go through the rules before its own.
+#[derive(Clone, Copy)]
+pub struct Rules<'a> {
+    pub table: Table<'a>,
+    pub starts: &'a [u16],
+    ghost indexed: { Starts table.image.bytes.now starts.now },
+}
+
+impl<'a> Table<'a> {
+    // The table that these words begin with.
+    pub fn new(image: Image<'a>, words: &'a [u16]) -> Self
+        requires { prefix (table_of (read image.bytes.now)) words.now ≡ true }
+        ensures image { result.image.bytes.now ≡ image.entry.bytes.now }
+        ensures words { result.words.now ≡ words.now }
+    {
+        Table {
+            image,
+            words,
+            rows: 2 + usize::from(words[0]),
+            width: usize::from(words[1]),
+        }
+    }
+
+    // The next state of q on symbol a.
+    pub fn next(self, q: usize, a: usize) -> usize
+        requires { self.rows + q * self.width + a < length self.words.now }
+        ensures { result ≡ get_or self.entry.words.now (self.entry.rows + q * self.entry.width + a) 0 }
+    {
+        usize::from(self.words[self.rows + q * self.width + a])
+    }
+
+    // The match word of state q.
+    pub fn match_word(self, q: usize) -> usize
+        requires { 2 + q < length self.words.now }
+        ensures { result ≡ match_in self.entry.words.now q }
+    {
+        usize::from(self.words[2 + q])
+    }
+}
+
+impl Rules<'_> {
+    // Where rule i's right symbols begin in the image.
+    pub fn start(self, i: usize) -> usize
+        requires { i < length (read self.table.image.bytes.now).rules }
+        ensures { result ≡ right_at (read self.entry.table.image.bytes.now) i }
+    {
+        usize::from(self.starts[i])
+    }
+}

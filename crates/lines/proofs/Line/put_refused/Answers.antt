@@ -1,0 +1,24 @@
+-- `Line::put_refused` meets its contract.
+use native.Mathlib.Omega.{arith}
+use Rattle.printing.specs.Ascii.{bytes}
+use Rattle.printing.proofs.Decimals.{decimal-length}
+use Rattle.lines.proofs.Writing.{room_left, writes_then}
+use Rattle.lines.proofs.Line.put_refused.Goals as goal
+
+pub put_decimal-requires : goal.put_decimal-requires
+put_decimal-requires c =
+    omega (arith, c.requires.room, room_left c.put.ensures, decimal-length 9 c.args.n (omega arith))
+
+pub put_byte-requires : goal.put_byte-requires
+put_byte-requires c =
+    omega (
+      arith,
+      c.requires.room,
+      room_left c.put.ensures,
+      decimal-length 9 c.args.n (omega arith),
+      room_left c.put_decimal.ensures,
+    )
+
+pub returns : goal.returns
+unfolding bytes
+returns c = writes_then c.put.ensures (writes_then c.put_decimal.ensures c.put_byte.ensures)

@@ -1,0 +1,53 @@
+-- `Line::put_rules_refused` meets its contract.
+use native.Mathlib.Omega.{arith}
+use Rattle.printing.specs.Ascii.{bytes}
+use Rattle.printing.specs.Lines.{refused_line}
+use Rattle.printing.proofs.Decimals.{decimal-length}
+use Rattle.lines.proofs.Writing.{room_left, writes_then}
+use Rattle.lines.proofs.Line.put_rules_refused.Goals as goal
+
+pub put_decimal-requires : goal.put_decimal-requires
+put_decimal-requires c =
+    omega (arith, c.requires, room_left c.put.ensures, decimal-length 9 c.args.n (omega arith))
+
+pub put_byte-requires : goal.put_byte-requires
+put_byte-requires c =
+    omega (
+      arith,
+      c.requires,
+      room_left c.put.ensures,
+      decimal-length 9 c.args.n (omega arith),
+      room_left c.put_decimal.ensures,
+    )
+
+pub put_decimal-requires-2 : goal.put_decimal-requires-2
+put_decimal-requires-2 c =
+    omega (
+      arith,
+      c.requires,
+      room_left c.put.ensures,
+      decimal-length 9 c.args.n (omega arith),
+      room_left c.put_decimal.ensures,
+      room_left c.put_byte.ensures,
+      decimal-length 19 c.args.place (omega arith),
+    )
+
+pub put_byte-requires-2 : goal.put_byte-requires-2
+put_byte-requires-2 c =
+    omega (
+      arith,
+      c.requires,
+      room_left c.put.ensures,
+      decimal-length 9 c.args.n (omega arith),
+      room_left c.put_decimal.ensures,
+      room_left c.put_byte.ensures,
+      decimal-length 19 c.args.place (omega arith),
+      room_left c.put_decimal-2.ensures,
+    )
+
+pub returns : goal.returns
+unfolding refused_line bytes
+returns c =
+    writes_then c.put.ensures
+    (writes_then c.put_decimal.ensures
+    (writes_then c.put_byte.ensures (writes_then c.put_decimal-2.ensures c.put_byte-2.ensures)))

@@ -1,0 +1,88 @@
+-- `Memory::begin` meets its contract: too long, refused, or ready for the first event.
+use Prim.Native.Nat.{ℕ}
+use mathlib.Core.List.{List}
+use mathlib.Core.Path.{refl, sym, ap, ◌∙◌}
+use native.Mathlib.Omega.{arith}
+use lib.ListN.{length, take}
+use lib.Seq.{length-take-le}
+use Rattle.printing.specs.Ascii.{bytes}
+use Rattle.printing.specs.Lines.{refused_line, too_long_line}
+use Rattle.layout.specs.Image.{read}
+use Rattle.layout.specs.Table.{table_of}
+use Rattle.printing.specs.Watch.{fresh_monitor, rule_text_read}
+use Rattle.printing.specs.Turns.{Events}
+use Rattle.rewriting.specs.Lists.{over}
+use Rattle.lines.specs.Wrote.{Written, area}
+use Rattle.report.specs.Lent.{areas_in}
+use Rattle.printing.proofs.Split.{rule_part_le, rule-text}
+use Rattle.printing.proofs.Starting.{GoodRead, read_bad, read_good, begin_long, begin_bad, begin_good, message-is, ready_is}
+use Rattle.report.proofs.Walking.{line_bytes, line_area, line_kept}
+use Rattle.report.proofs.Memory.begin.Goals as goal
+use Rattle.report.proofs.Memory.begin.Goals.{In-Ok}
+
+pub returns-then-input-gt-INPUT_BYTES-clause-outcome : goal.returns-then-input-gt-INPUT_BYTES-clause-outcome
+unfolding too_long_line bytes
+returns-then-input-gt-INPUT_BYTES-clause-outcome c =
+    let l = areas_in c.args.self.now in
+    let begins = ap (λ (w : Written). w.bytes) c.clear.ensures.line in
+    let there = ap area c.clear.ensures.line in
+    (message-is _ l too_long_line _ _ _ _ (begin_long _ l c.if-input-gt-INPUT_BYTES.true) refl refl
+    (ap length (line_bytes begins c.put.ensures)) (line_area begins c.put.ensures ∙ ap (over too_long_line) there)
+    (line_kept begins c.put.ensures ∙ ap length there) (sym (ap length there) ∙ rw begins c.clear.ensures.room)).0
+
+pub slice_bounds-read_rules-end : goal.slice_bounds-read_rules-end
+slice_bounds-read_rules-end c =
+    sym (length-take-le _ _ (omega (arith, c.rule_length-end.ensures, rule_part_le c.args.input.now)))
+
+-- the rule text is taken
+good_read :
+    (c : In-Ok)
+    → GoodRead (take c.rule_length-end.result c.args.input.now) c.args.self.now.image c.args.self.now.names c.in-Ok.size
+good_read c =
+    read_good _ c.args.self.now.image c.args.self.now.names _ _ (omega arith) (omega arith) c.read_rules.ensures.answer
+    c.in-Ok.is
+
+pub make_ready-requires-clause-inside : goal.make_ready-requires-clause-inside
+make_ready-requires-clause-inside c =
+    let good = good_read (goal.at.make_ready-requires-clause-inside c).In-Ok in
+    omega (arith, good.image_short, c.read_rules.auto.image)
+
+pub make_ready-requires-clause-rules : goal.make_ready-requires-clause-rules
+make_ready-requires-clause-rules c =
+    let good = good_read (goal.at.make_ready-requires-clause-rules c).In-Ok in
+    rw (c.read_rules.ensures.image, good.image_there) good.rules-valid
+
+pub returns-in-Err-clause-outcome : goal.returns-in-Err-clause-outcome
+returns-in-Err-clause-outcome c =
+    let l = areas_in c.args.self.now in
+    let begins = ap (λ (w : Written). w.bytes) c.clear.ensures.line in
+    let there = ap area c.clear.ensures.line in
+    let text = rule-text _ _ c.rule_length-end.ensures in
+    let bad = read_bad _ c.args.self.now.image c.args.self.now.names _ _ (omega arith) (omega arith) c.read_rules.ensures.answer
+    c.in-Err.is in
+    let line = rw c.number.ensures at c.put_rules_refused.ensures in
+    (message-is _ l (refused_line _ _) _ _ _ _
+    (begin_bad _ l _ _ c.if-input-gt-INPUT_BYTES.false (ap rule_text_read (sym text) ∙ bad.bad_text))
+    (c.read_rules.ensures.image ∙ bad.image_stays) (c.read_rules.ensures.names ∙ bad.names_stay)
+    (ap length (line_bytes begins line))
+    (line_area begins line ∙ ap (over (refused_line _ _)) there)
+    (line_kept begins line ∙ ap length there) (sym (ap length there) ∙ rw begins c.clear.ensures.room)).0
+
+pub returns-in-Ok-clause-outcome : goal.returns-in-Ok-clause-outcome
+returns-in-Ok-clause-outcome c =
+    let l = areas_in c.args.self.now in
+    let text = rule-text _ _ c.rule_length-end.ensures in
+    let good = good_read (goal.at.returns-in-Ok-clause-outcome c).In-Ok in
+    let image = c.read_rules.ensures.image in
+    let made = c.make_ready.ensures in
+    let part : List ℕ = take c.in-Ok.size c.read_rules.new.image in
+    let words = length (table_of (read part)) in
+    let there = ap (λ (area : List ℕ). take c.in-Ok.size area) image ∙ good.image_there in
+    let size = good.image_size ∙ sym (ap length there) in
+    let answer = made.answer
+    ∙ ap (λ n. Events (record { head = fresh_monitor.head; at = c.events_start.result; image = n; table = words })) size in
+    let begins = begin_good _ l good.reading c.if-input-gt-INPUT_BYTES.false (ap rule_text_read (sym text) ∙ good.good_text) in
+    let p = ready_is _ l good.reading _ _ part _ _ _ _ _ begins there good.rules_back c.events_start.ensures answer
+    (made.image ∙ image ∙ good.image_over) (made.names ∙ c.read_rules.ensures.names ∙ good.names_over) made.table made.bytes
+    made.words in
+    rw (ap area made.line ∙ ap area c.clear.ensures.line) p.0
