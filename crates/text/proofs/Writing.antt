@@ -6,7 +6,7 @@ use Rattle.std.specs.Prelude.{Some, Result, Ok, Err}
 use mathlib.Core.List.{List, [], ◌∷◌, ◌++◌, append-nil, flat_map}
 use native.Mathlib.Omega.{arith}
 use lib.ListN.{length, set, take, drop, length-append}
-use lib.Seq.{sets-eq, length-sets, paste, take-append_seam, drop-append-add, drop-drop, length-take-le, take_all}
+use lib.Seq.{sets-eq, paste, take-append_seam, drop-append-add, drop-drop, length-take-le, take_all}
 use borrow.Author.Tests.{le-leb, lt-leb}
 use Rattle.rewriting.specs.Lists.{over}
 use Rattle.rewriting.specs.Rules.{symbols_of}
@@ -43,17 +43,14 @@ over-paste p area s at n e fits =
     in
     rw (first, behind)
 
-pub over_first : (area s : List ℕ) (n : ℕ) → n ≤ length s → paste area 0 s n ≡ over (take n s) area
+pub over_front : (p area : List ℕ) (n : ℕ) → n ≡ length p → p ++ drop n area ≡ over p area
 unfolding over
-over_first area s n fits = over-paste [] area s 0 n refl fits
+over_front p area n e = rw e
 
 pub over_four : (area : List ℕ) (w x y z : ℕ) → 4 ≤ length area
     → set (set (set (set area 0 w) 1 x) 2 y) 3 z ≡ over (w ∷ x ∷ y ∷ z ∷ []) area
 unfolding over
 over_four area w x y z room = sets-eq (w ∷ x ∷ y ∷ z ∷ []) area 0 room
-
-pub length_four : (area : List ℕ) (w x y z : ℕ) → length (set (set (set (set area 0 w) 1 x) 2 y) 3 z) ≡ length area
-length_four area w x y z = length-sets area 0 (w ∷ x ∷ y ∷ z ∷ [])
 
 -- The image.
 module _ {s : Reading} {r : Reader} {a b c d : List ℕ} (sound : Sound s) (here : s.place ≡ Between) (k : Keeps s r a b c d) (image : List ℕ)
@@ -93,15 +90,14 @@ module _ {s : Reading} {r : Reader} {a b c d : List ℕ} (sound : Sound s) (here
       (paste
       (set (set (set (set image 0 r.symbols) 1 r.rules) 2 r.words) 3 r.events)
       4
-      c
+      (take (4 * r.rules) c)
       (4 * r.rules))
       (4 + 4 * r.rules)
-      d
+      (take r.bodies d)
       r.bodies
       ≡ over (image_of (rule_set_of s)) image
   unfolding image_of rule_set_of
   image_written =
-      let bounds : Small r = small in
       let head : List ℕ = r.symbols ∷ r.rules ∷ r.words ∷ r.events ∷ [] in
       let n : 4 * r.rules ≡ length (flat_map contents s.rules) =
       omega (arith, rules-number s k.numbers, length-contents s.rules)
@@ -111,13 +107,22 @@ module _ {s : Reading} {r : Reader} {a b c d : List ℕ} (sound : Sound s) (here
       prefix-take (flat_map contents s.rules) c (4 * r.rules) n k.contents_begin
       in
       let all_bodies : take r.bodies d ≡ flat_map body s.rules = prefix-take (bodies_of s) d r.bodies m k.bodies_begin ∙ bodies_there in
+      let size : length (flat_map body s.rules) ≡ r.bodies = omega (arith, m, ap length bodies_there) in
+      let whole_contents : take (4 * r.rules) (flat_map contents s.rules) ≡ flat_map contents s.rules =
+      take_all (4 * r.rules) (flat_map contents s.rules) (omega (arith, n))
+      in
+      let whole_bodies : take r.bodies (flat_map body s.rules) ≡ flat_map body s.rules =
+      take_all r.bodies (flat_map body s.rules) (omega (arith, size))
+      in
       let third : 4 + 4 * r.rules ≡ length (head ++ flat_map contents s.rules) = omega arith in
       rw (
         over_four image r.symbols r.rules r.words r.events (omega arith),
-        over-paste head image c 4 (4 * r.rules) refl (omega (arith, bounds.rules, k.contents_size_lem)),
         all_contents,
-        over-paste (head ++ flat_map contents s.rules) image d (4 + 4 * r.rules) r.bodies third (omega (arith, bounds.bodies, k.bodies_size_lem)),
+        over-paste head image (flat_map contents s.rules) 4 (4 * r.rules) refl (omega (arith, n)),
+        whole_contents,
         all_bodies,
+        over-paste (head ++ flat_map contents s.rules) image (flat_map body s.rules) (4 + 4 * r.rules) r.bodies third (omega (arith, size)),
+        whole_bodies,
       )
       (ap (λ (l : List ℕ). over l image) numbers_there)
     where
@@ -133,13 +138,11 @@ module _ {s : Reading} {r : Reader} {a b c d : List ℕ} (sound : Sound s) (here
 
 -- The name slots.
 pub names_written : (symbols words names : List ℕ) → length symbols ≡ 800 → length words ≡ 400
-    → paste (paste names 0 symbols 800) 800 words 400 ≡ over (symbols ++ words) names
+    → paste (symbols ++ drop 800 names) 800 words 400 ≡ over (symbols ++ words) names
 names_written symbols words names m n =
-    let all_symbols : take 800 symbols ≡ symbols = take_all 800 symbols (omega arith) in
     let all_words : take 400 words ≡ words = take_all 400 words (omega arith) in
     rw (
-      over_first names symbols 800 (omega arith),
-      all_symbols,
+      over_front symbols names 800 (sym m),
       over-paste symbols names words 800 400 (sym m) (omega arith),
       all_words,
     )

@@ -15,22 +15,14 @@ use grammar::{NAMES_BYTES, SYMBOLS_BYTES, TEXT_BYTES, TextError, WORDS_BYTES};
 use layout::{IMAGE_BYTES, Refusal};
 use parser::{BODIES_BYTES, CONTENTS_BYTES, Reader};
 
-// Copies the first n bytes of `from` to the places from `at` on.
-fn copy(from: &[u8], n: usize, to: &mut [u8], at: usize)
-    requires source { n ≤ length from.now }
-    requires room { at + n ≤ length to.old }
-    ensures { to.new ≡ paste to.old at from.now n }
-{
-    for i in 0..n {
-        to[at + i] = from[i];
-    }
-}
-
 // The image of what has been read. Returns its length.
-fn write_image(reader: Reader, contents: &[u8], bodies: &[u8], image: &mut [u8]) -> usize
+fn write_image(
+    reader: Reader,
+    contents: &[u8; CONTENTS_BYTES],
+    bodies: &[u8; BODIES_BYTES],
+    image: &mut [u8],
+) -> usize
     requires small { Small reader }
-    requires contents { length contents.now ≡ contents_size }
-    requires bodies { length bodies.now ≡ bodies_size }
     requires room { image_most ≤ length image.old }
     ensures { (a b : List ℕ) (s : Reading) → Sound s → s.place ≡ Between
         → Keeps s reader a b contents.now bodies.now
@@ -43,20 +35,18 @@ fn write_image(reader: Reader, contents: &[u8], bodies: &[u8], image: &mut [u8])
     image[1] = rules as u8;
     image[2] = reader.words as u8;
     image[3] = reader.events as u8;
-    copy(contents, 4 * rules, image, 4);
-    copy(bodies, size, image, first);
+    image[4..first].copy_from_slice(&contents[..4 * rules]);
+    image[first..first + size].copy_from_slice(&bodies[..size]);
     first + size
 }
 
 // The name slots: 32 of symbols, 16 of words.
-fn write_names(symbols: &[u8], words: &[u8], names: &mut [u8])
-    requires symbols { length symbols.now ≡ symbols_size }
-    requires words { length words.now ≡ words_size }
-    requires room { names_size ≤ length names.old }
+fn write_names(symbols: &[u8; SYMBOLS_BYTES], words: &[u8; WORDS_BYTES], names: &mut [u8])
+    requires { names_size ≤ length names.old }
     ensures { names.new ≡ over (symbols.now ++ words.now) names.old }
 {
-    copy(symbols, SYMBOLS_BYTES, names, 0);
-    copy(words, WORDS_BYTES, names, SYMBOLS_BYTES);
+    names[..SYMBOLS_BYTES].copy_from_slice(symbols);
+    names[SYMBOLS_BYTES..NAMES_BYTES].copy_from_slice(words);
 }
 
 // Reads a rule text: its image into one area, its name slots into the other. Both are made beside them and written when the

@@ -51,8 +51,6 @@ write_image-size-requires c =
     let g = text_good a.text.now a.image.now a.names.now short image_room names_room _ _ _ _ _ _
     c.in_ok-reader.was c.read_tokens.ensures in record {
       small = small g.sound g.complete g.keeps a.image.now image_room;
-      contents = g.keeps.contents_size_lem;
-      bodies = g.keeps.bodies_size_lem;
       room = image_room;
     }
 

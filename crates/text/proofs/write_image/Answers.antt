@@ -1,45 +1,30 @@
 -- `text::write_image` meets its contract.
-use mathlib.Core.Path.{◌∙◌}
+use Prim.Native.Nat.{ℕ, ◌+◌, ◌-◌, ◌*◌}
+use mathlib.Core.Path.{sym, ap, ◌∙◌}
+use mathlib.Core.List.{List}
 use native.Mathlib.Omega.{arith}
-use lib.ListN.{length-set}
-use Rattle.text.proofs.Writing.{length_four, image_size, image_written}
+use lib.ListN.{set, take}
+use lib.Seq.{paste, length-take-le}
+use Rattle.std.proofs.lemmas.Slice.{put_mid-paste}
+use Rattle.text.proofs.Writing.{image_size, image_written}
 use Rattle.text.proofs.write_image.Goals as goal
-
-pub overflow_cast-image : goal.overflow_cast-image
-overflow_cast-image c =
-    omega (arith, c.requires.small.symbols)
-
-pub bounds-image-1 : goal.bounds-image-1
-bounds-image-1 c =
-    rw length-set (omega (arith, c.requires.room))
-
-pub bounds-image-2 : goal.bounds-image-2
-bounds-image-2 c =
-    rw (length-set, length-set) (omega (arith, c.requires.room))
-
-pub bounds-image-3 : goal.bounds-image-3
-bounds-image-3 c =
-    rw (length-set, length-set, length-set) (omega (arith, c.requires.room))
-
-pub copy-requires : goal.copy-requires
-copy-requires c =
-    let q = c.requires in record {
-      source = omega (arith, q.small.rules, q.contents);
-      room = rw (length-set, length-set, length-set, length-set) (omega (arith, q.small.rules, q.room));
-    }
-
-pub copy-requires-2 : goal.copy-requires-2
-copy-requires-2 c =
-    let q = c.requires in record {
-      source = omega (arith, q.small.bodies, q.bodies);
-      room = omega (arith, q.small.rules, q.small.bodies, c.copy.auto.to ∙ length_four c.args.image.now _ _ _ _, q.room);
-    }
 
 pub returns : goal.returns
 returns c =
     let lent = c.args in
     let q = c.requires in
+    let r = lent.reader in
+    let rules : ℕ = r.rules in
+    let size : ℕ = r.bodies in
+    let four : List ℕ = set (set (set (set lent.image.now 0 r.symbols) 1 rules) 2 r.words) 3 r.events in
+    let inner = put_mid-paste 4 (4 + 4 * rules - 4) four _ (take (4 * rules) lent.contents.now) (4 * rules)
+    c.copy_from_slice.ensures.after (omega arith)
+    (sym (length-take-le (4 * rules) lent.contents.now (omega (arith, q.small.rules, c.told-contents)))) in
     λ a b s sound here k. (
       image_size sound here k lent.image.now q.room,
-      rw (c.copy-2.ensures, c.copy.ensures) (image_written sound here k lent.image.now q.room),
+      put_mid-paste (4 + 4 * rules) (4 + 4 * rules + size - (4 + 4 * rules)) _ _ (take size lent.bodies.now) size
+          c.copy_from_slice-2.ensures.after (omega arith)
+          (sym (length-take-le size lent.bodies.now (omega (arith, q.small.bodies, c.told-bodies))))
+          ∙ ap (λ (v : List ℕ). paste v (4 + 4 * rules) (take size lent.bodies.now) size) inner
+          ∙ image_written sound here k lent.image.now q.room,
     )
