@@ -35,7 +35,8 @@ fn chosen(own: u16, other: u16) -> u16
     if own == 0 { other } else { own }
 }
 
-// Each 0 in the row of the root becomes the root's number. Where that is 0 there is nothing to do.
+// Each 0 in the row of the root becomes the root's number. Where that is 0 there is nothing to do. It is not one function with merge,
+// which takes its words from another row of the same slice.
 fn fill_root(rows: &mut [u16], s: usize, root: usize)
     requires own { root * s + s ≤ length rows.old }
     requires low { root ≤ 1 }
