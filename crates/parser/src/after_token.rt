@@ -30,17 +30,7 @@ impl Reader {
               kind = self.kind;
             } }
     {
-        Reader {
-            place: place,
-            symbols: self.symbols,
-            words: self.words,
-            events: self.events,
-            rules: self.rules,
-            bodies: self.bodies,
-            left: self.left,
-            side: self.side,
-            kind: self.kind,
-        }
+        Reader { place, ..self }
     }
 
     // The text's first name.
