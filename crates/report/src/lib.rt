@@ -105,7 +105,8 @@ impl Memory {
         let end = rule_length(input);
         match text::read_rules(&input[..end], &mut self.image, &mut self.names) {
             Err(error) => {
-                self.line.put_rules_refused(error.refusal.number(), error.place);
+                self.line
+                    .put_rules_refused(error.refusal.number(), error.place);
                 None
             }
             Ok(size) => self.make_ready(events_start(input, end), size),
