@@ -6,7 +6,11 @@ use mathlib.Core.List.{List, [], ◌∷◌, ◌++◌, append_assoc, flat_map}
 use native.Mathlib.Omega.{arith}
 use lib.ListN.{length, get_or, take, drop, length-append, length-drop}
 use lib.Seq.{take_all, length-take-le, take-suc}
-use Rattle.rewriting.proofs.Lists.{flat_map_snoc}
+use lib.Dec.{ltb}
+use mathlib.Core.Bool.{true}
+use borrow.Author.Tests.{ltb-true}
+use Rattle.rewriting.specs.Lists.{below}
+use Rattle.rewriting.proofs.Lists.{flat_map_snoc, and_right, all_left, all_right, all_at}
 use Rattle.printing.specs.Lines.{comma, dash, name_in, joined}
 use Rattle.lines.specs.Wrote.{Written, Writes}
 use Rattle.printing.proofs.SlotNames.{name-length}
@@ -91,3 +95,17 @@ string_in a w bytes size =
     take_all (2048 - (2048 - w)) part (omega (arith, length-drop (2048 - w) bytes))
     in
     rw (whole, size)
+
+-- what is behind a string's first symbol has slots too
+pub others_below : (x s : List ℕ) (a : ℕ) → x ≡ a ∷ s → below 48 x ≡ true → below 48 s ≡ true
+others_below x s a e p = and_right (ltb a 48) (below 48 s) (rw e at p)
+
+-- each part of a string, and each of its symbols
+pub settled_below : (settled waiting : List ℕ) → below 48 (settled ++ waiting) ≡ true → below 48 settled ≡ true
+settled_below settled waiting = all_left (λ x. ltb x 48) settled waiting
+
+pub waiting_below : (settled waiting : List ℕ) → below 48 (settled ++ waiting) ≡ true → below 48 waiting ≡ true
+waiting_below settled waiting = all_right (λ x. ltb x 48) settled waiting
+
+pub symbol_below : (symbols : List ℕ) (i : ℕ) → below 48 symbols ≡ true → i < length symbols → get_or symbols i 0 < 48
+symbol_below symbols i p h = ltb-true (get_or symbols i 0) 48 (all_at (λ x. ltb x 48) symbols 0 p i h)

@@ -12,7 +12,7 @@ ghost use Rattle.report.specs.Lent.{areas_in, walk_in, begun_in, watched, turn_f
 
 use grammar::NAMES_BYTES;
 use layout::{IMAGE_BYTES, Refusal, TABLE_WORDS};
-use lines::Line;
+use lines::{LINE_BYTES, Line};
 use machine::CAPACITY;
 use monitor::Head;
 
@@ -30,7 +30,7 @@ pub struct Memory {
     pub table: [u16; TABLE_WORDS],
     pub bytes: [u8; CAPACITY],
     pub words: [u16; CAPACITY],
-    pub line: Line,
+    pub line: Line<LINE_BYTES>,
 }
 
 // The walk over the event names: the monitor's head, where in the input the next name is looked for, and how long the image and

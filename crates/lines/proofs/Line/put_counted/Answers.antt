@@ -47,7 +47,7 @@ all_parts called names bytes size =
     (regrouped (decimal called.counts.steps) (decimal called.counts.rewrites) (joined names string))
 
 pub put_byte-requires : goal.put_byte-requires
-put_byte-requires c =
+put_byte-requires g c =
     omega (
       arith,
       c.requires.room,
@@ -55,39 +55,39 @@ put_byte-requires c =
       room_left c.put_counts.ensures,
     )
 
-pub put_string-requires-clause-slots : goal.put_string-requires-clause-slots
+pub put_string-requires : goal.put_string-requires
 unfolding string_of state_of
-put_string-requires-clause-slots c =
-    rw (string_in c.args.called.head.settled c.args.called.head.waiting c.args.bytes.now c.told-bytes) c.requires.small.slots
-
-pub put_string-requires-clause-some : goal.put_string-requires-clause-some
-put_string-requires-clause-some c =
-    omega (
-      arith,
-      c.requires.room,
-      counts_length _ _ c.requires.small.steps c.requires.small.rewrites,
-      room_left c.put_counts.ensures,
-      room_left c.put_byte.ensures,
-    )
-
-pub put_string-requires-clause-room : goal.put_string-requires-clause-room
-put_string-requires-clause-room c =
-    let bytes = c.args.bytes.now in
-    let a = c.args.called.head.settled in
-    let w = c.args.called.head.waiting in
-    omega (
-      arith,
-      c.requires.room,
-      c.requires.small.string,
-      counts_length _ _ c.requires.small.steps c.requires.small.rewrites,
-      room_left c.put_counts.ensures,
-      room_left c.put_byte.ensures,
-      length-take a bytes,
-      length-take (2048 - (2048 - w)) (drop (2048 - w) bytes),
-    )
+put_string-requires g c = (
+  omega arith,
+  (
+    rw (string_in c.args.called.head.settled c.args.called.head.waiting c.args.bytes.now c.told-bytes) c.requires.small.slots,
+    (
+      omega (
+        arith,
+        c.requires.room,
+        counts_length _ _ c.requires.small.steps c.requires.small.rewrites,
+        room_left c.put_counts.ensures,
+        room_left c.put_byte.ensures,
+      ),
+      let bytes = c.args.bytes.now in
+          let a = c.args.called.head.settled in
+          let w = c.args.called.head.waiting in
+          omega (
+            arith,
+            c.requires.room,
+            c.requires.small.string,
+            counts_length _ _ c.requires.small.steps c.requires.small.rewrites,
+            room_left c.put_counts.ensures,
+            room_left c.put_byte.ensures,
+            length-take a bytes,
+            length-take (2048 - (2048 - w)) (drop (2048 - w) bytes),
+          ),
+    ),
+  ),
+)
 
 pub put_byte-requires-2 : goal.put_byte-requires-2
-put_byte-requires-2 c =
+put_byte-requires-2 g c =
     let bytes = c.args.bytes.now in
     let a = c.args.called.head.settled in
     let w = c.args.called.head.waiting in
@@ -111,6 +111,6 @@ put_byte-requires-2 c =
     )
 
 pub returns : goal.returns
-returns c =
+returns g c =
     writes_as (all_parts c.args.called c.args.names.now c.args.bytes.now c.told-bytes)
     (writes_then c.put_counts.ensures (writes_then c.put_byte.ensures (writes_then c.put_string.ensures c.put_byte-2.ensures)))

@@ -5,15 +5,15 @@ use Rattle.lines.proofs.Writing.{room_left, writes_then}
 use Rattle.lines.proofs.Line.put_counts.Goals as goal
 
 pub put_decimal-requires : goal.put_decimal-requires
-put_decimal-requires c =
+put_decimal-requires g c =
     omega (arith, c.requires.room, decimal-length 3 c.args.steps (omega (arith, c.requires.few.0)))
 
 pub put_byte-requires : goal.put_byte-requires
-put_byte-requires c =
+put_byte-requires g c =
     omega (arith, c.requires.room, decimal-length 3 c.args.steps (omega (arith, c.requires.few.0)), room_left c.put_decimal.ensures)
 
 pub put_decimal-requires-2 : goal.put_decimal-requires-2
-put_decimal-requires-2 c =
+put_decimal-requires-2 g c =
     omega (
       arith,
       c.requires.room,
@@ -24,4 +24,4 @@ put_decimal-requires-2 c =
     )
 
 pub returns : goal.returns
-returns c = writes_then c.put_decimal.ensures (writes_then c.put_byte.ensures c.put_decimal-2.ensures)
+returns g c = writes_then c.put_decimal.ensures (writes_then c.put_byte.ensures c.put_decimal-2.ensures)

@@ -6,11 +6,11 @@ use Rattle.lines.proofs.Writing.{room_left, writes_then}
 use Rattle.lines.proofs.Line.put_refused.Goals as goal
 
 pub put_decimal-requires : goal.put_decimal-requires
-put_decimal-requires c =
+put_decimal-requires g c =
     omega (arith, c.requires.room, room_left c.put.ensures, decimal-length 9 c.args.n (omega arith))
 
 pub put_byte-requires : goal.put_byte-requires
-put_byte-requires c =
+put_byte-requires g c =
     omega (
       arith,
       c.requires.room,
@@ -21,4 +21,4 @@ put_byte-requires c =
 
 pub returns : goal.returns
 unfolding bytes
-returns c = writes_then c.put.ensures (writes_then c.put_decimal.ensures c.put_byte.ensures)
+returns g c = writes_then c.put.ensures (writes_then c.put_decimal.ensures c.put_byte.ensures)

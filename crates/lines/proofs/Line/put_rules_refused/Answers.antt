@@ -7,11 +7,11 @@ use Rattle.lines.proofs.Writing.{room_left, writes_then}
 use Rattle.lines.proofs.Line.put_rules_refused.Goals as goal
 
 pub put_decimal-requires : goal.put_decimal-requires
-put_decimal-requires c =
+put_decimal-requires g c =
     omega (arith, c.requires, room_left c.put.ensures, decimal-length 9 c.args.n (omega arith))
 
 pub put_byte-requires : goal.put_byte-requires
-put_byte-requires c =
+put_byte-requires g c =
     omega (
       arith,
       c.requires,
@@ -21,7 +21,7 @@ put_byte-requires c =
     )
 
 pub put_decimal-requires-2 : goal.put_decimal-requires-2
-put_decimal-requires-2 c =
+put_decimal-requires-2 g c =
     omega (
       arith,
       c.requires,
@@ -33,7 +33,7 @@ put_decimal-requires-2 c =
     )
 
 pub put_byte-requires-2 : goal.put_byte-requires-2
-put_byte-requires-2 c =
+put_byte-requires-2 g c =
     omega (
       arith,
       c.requires,
@@ -47,7 +47,7 @@ put_byte-requires-2 c =
 
 pub returns : goal.returns
 unfolding refused_line bytes
-returns c =
+returns g c =
     writes_then c.put.ensures
     (writes_then c.put_decimal.ensures
     (writes_then c.put_byte.ensures (writes_then c.put_decimal-2.ensures c.put_byte-2.ensures)))

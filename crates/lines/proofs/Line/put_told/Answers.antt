@@ -16,29 +16,31 @@ abbrev refused : Result Answer Refusal → Option ℕ
 refused r = refused_by (numbered r)
 
 pub put_byte-requires : goal.put_byte-requires
-put_byte-requires c =
+put_byte-requires g c =
     omega (arith, c.requires.room, answer_length c.args.names.now (Ok c.in-Ok.answer), room_left c.put_answer.ensures)
 
-pub put_counted-requires-clause-small : goal.put_counted-requires-clause-small
+pub put_counted-requires : goal.put_counted-requires
 unfolding refused_by
-put_counted-requires-clause-small c = c.requires.small (ap refused c.in-Ok.is)
-
-pub put_counted-requires-clause-room : goal.put_counted-requires-clause-room
-put_counted-requires-clause-room c =
+put_counted-requires g c = (
+  omega arith,
+  (
+    c.requires.small (ap refused c.in-Ok.is),
     omega (
       arith,
       c.requires.room,
       answer_length c.args.names.now (Ok c.in-Ok.answer),
       room_left c.put_answer.ensures,
       room_left c.put_byte.ensures,
-    )
+    ),
+  ),
+)
 
 pub returns-in-Err : goal.returns-in-Err
 unfolding answer_word told
-returns-in-Err c =
+returns-in-Err g c =
     rw c.in-Err.is (rw c.number.ensures at c.put_refused.ensures)
 
 pub returns-in-Ok : goal.returns-in-Ok
 unfolding told counted
-returns-in-Ok c =
+returns-in-Ok g c =
     rw c.in-Ok.is (writes_then c.put_answer.ensures (writes_then c.put_byte.ensures c.put_counted.ensures))

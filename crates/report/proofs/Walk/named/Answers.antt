@@ -27,21 +27,23 @@ pub overflow_cast-a : goal.overflow_cast-a
 overflow_cast-a c =
     omega (arith, lookup_below _ _ _ (sym c.symbol.ensures ∙ c.in-Some.is))
 
-pub put_told-requires-clause-slot : goal.put_told-requires-clause-slot
-put_told-requires-clause-slot c = made_slot _ _ _ _ _ _ _ c.offer-called.ensures
-
-pub put_told-requires-clause-small : goal.put_told-requires-clause-small
-put_told-requires-clause-small c = made_small _ _ _ _ _ _ _ c.offer-called.ensures
-
-pub put_told-requires-clause-room : goal.put_told-requires-clause-room
-put_told-requires-clause-room c =
-    omega (
-      arith,
-      c.requires.room,
-      named_short _ _ _ (sym c.symbol.ensures ∙ c.in-Some.is),
-      room_left c.put.ensures,
-      room_left c.put_byte.ensures,
-    )
+pub put_told-requires : goal.put_told-requires
+put_told-requires c = (
+  omega arith,
+  (
+    made_slot _ _ _ _ _ _ _ c.offer-called.ensures,
+    (
+      made_small _ _ _ _ _ _ _ c.offer-called.ensures,
+      omega (
+        arith,
+        c.requires.room,
+        named_short _ _ _ (sym c.symbol.ensures ∙ c.in-Some.is),
+        room_left c.put.ensures,
+        room_left c.put_byte.ensures,
+      ),
+    ),
+  ),
+)
 
 pub returns-in-None-clause-turn : goal.returns-in-None-clause-turn
 unfolding offering offered_name offered
