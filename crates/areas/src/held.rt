@@ -106,17 +106,15 @@ pub fn move_left(bytes: &mut [u8], from: usize)
     }
 }
 
-// Where each rule's right symbols begin, so that a step need not go through the rules before its own. Rules are counted, since a proof
-// knows nothing of what a loop over `iter_mut().enumerate()` has written.
+// Where each rule's right symbols begin, so that a step need not go through the rules before its own.
 pub fn index(image: Image<'_>, starts: &mut [u16])
     requires { length (set_of image).rules ≤ length starts.old }
     ensures { Starts image.entry.bytes.now starts.new }
 {
     let rules = image.rules();
     let mut at = 4 + 4 * rules;
-    for i in 0..rules {
-        let left = image.left_length(i);
-        starts[i] = (at + left) as u16;
+    for (i, start) in starts[..rules].iter_mut().enumerate() {
+        *start = (at + image.left_length(i)) as u16;
         at += image.body_length(i);
     }
 }

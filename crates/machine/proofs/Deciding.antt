@@ -3,7 +3,7 @@
 use Prim.Native.Nat.{ℕ, ◌+◌, ◌-◌, ◌≤◌, ◌<◌}
 use mathlib.Core.Path.{◌≡◌, refl, sym, ap, ◌∙◌, subst}
 use mathlib.Core.Bool.{true, false}
-use Rattle.std.specs.Prelude.{None, Some, Option, is_none, IfSome}
+use Rattle.std.specs.Prelude.{None, Some, Option, is_none, is_some, IfSome}
 use mathlib.Core.List.{List, [], ◌∷◌, ◌++◌, append-nil}
 use native.Mathlib.Omega.{arith}
 use lib.Dec.{eqb}
@@ -17,7 +17,6 @@ use Rattle.layout.specs.Image.{read, valid}
 use Rattle.layout.specs.Refusals.{Check, refusal}
 use Rattle.layout.proofs.Image.{valid-in_range}
 use Rattle.layout.proofs.Refusals.{refusal_passed, refusal_rest, refusal_append_some}
-use Rattle.machine.specs.declared.Counts.{Counts}
 use Rattle.machine.specs.Areas.{Head, Monitor, head_of, monitor_of, state_of}
 use Rattle.machine.specs.State.{State, empty}
 use Rattle.machine.specs.Run.{fits, run}
@@ -46,7 +45,6 @@ use Rattle.machine.specs.Lent.{
   appended,
   taken,
   bytes_with,
-  upon,
   offer_or_go_on,
   event_allowed,
   event_fits,
@@ -62,6 +60,15 @@ pub is_refused : (set : RuleSet) (capacity : ℕ) (m : Monitor) (c : Call) (chec
     → refusal_of n m ≡ decided set capacity m checks c
 unfolding decided outcome
 is_refused set capacity m c checks n e = rw e
+
+-- whether a verdict stands
+pub is-some : (v : Option ℕ) → is_some v ≡ true → (x : ℕ) × (v ≡ Some x)
+is-some (Some x) e = (x, refl)
+is-some None e = let z : ◌≡◌ {A = ℕ} 0 1 = cc in absurd (omega arith)
+
+pub is-nothing : (v : Option ℕ) → is_some v ≡ false → v ≡ None
+is-nothing None e = refl
+is-nothing (Some x) e = let z : ◌≡◌ {A = ℕ} 0 1 = cc in absurd (omega arith)
 
 -- An offer refuses 12, 13, 14 and 15, in this order, and a go-on 13 and 14.
 module _ (set : RuleSet) (capacity : ℕ) (head : Head) (fuel : ℕ) where
@@ -118,12 +125,12 @@ module _ (set : RuleSet) (capacity : ℕ) (head : Head) (fuel : ℕ) where
       (refusal_passed _ _ _ (refusal_rest _ _ _ (refusal_rest _ _ _ (refusal_rest _ _ _ e)))))
   accepted_room None e = tt
 
--- the call runs, behind others with the counts before
-pub is-run : (set : RuleSet) (capacity : ℕ) (m m' : Monitor) (c : Call) (checks : List Check) (s : State) (before : Counts) (o : Outcome)
-    → refusal checks ≡ None → s ≡ offered (state_of m) c → o ≡ upon before (outcome set capacity m' None (run set.rules capacity (fuel_of c) s))
-    → o ≡ upon before (decided set capacity m checks c)
+-- the call runs
+pub is-run : (set : RuleSet) (capacity : ℕ) (m m' : Monitor) (c : Call) (checks : List Check) (s : State) (o : Outcome)
+    → refusal checks ≡ None → s ≡ offered (state_of m) c → o ≡ outcome set capacity m' None (run set.rules capacity (fuel_of c) s)
+    → o ≡ decided set capacity m checks c
 unfolding decided outcome
-is-run set capacity m m' c checks s before o e f g = rw e (g ∙ rw f)
+is-run set capacity m m' c checks s o e f g = rw e (g ∙ rw f)
 
 -- "the event becomes the last waiting symbol"
 module _ (capacity : ℕ) (image table : List ℕ) (m : Monitor) (ok : Passed capacity image table m) (event fuel from : ℕ)

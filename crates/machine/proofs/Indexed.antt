@@ -4,11 +4,11 @@ use Prim.Native.Nat.{ℕ, suc, ◌+◌, ◌*◌, ◌≤◌, ◌<◌}
 use mathlib.Core.Path.{◌≡◌, ◌∙◌}
 use mathlib.Core.Bool.{true}
 use mathlib.Core.Logic.{⊎_elim}
-use mathlib.Core.List.{List}
+use mathlib.Core.List.{List, ◌++◌}
 use native.Mathlib.Omega.{arith}
 use native.Mathlib.Numerals.{add-one}
 use native.Mathlib.Nat.{not-suc-le-zero}
-use lib.ListN.{length, get_or, set, length-set}
+use lib.ListN.{length, get_or, set, length-set, length-append, get_or-append}
 use lib.Seq.{get_or-set_same, get_or-set_other}
 use Rattle.rewriting.specs.Rules.{rule}
 use Rattle.layout.specs.Image.{body, read, valid}
@@ -65,5 +65,9 @@ indexing_next b starts at i left size k h e f =
           (last_or i j l);
     })
 
-pub indexing_last : (b starts : List ℕ) (at i : ℕ) → Indexing b starts at i → length (read b).rules ≤ i → Starts b starts
-indexing_last b starts at i k all = λ j h. (omega (arith, k.room), k.done j (omega arith))
+-- all rules have theirs, whatever stands behind
+pub indexing_last : (b starts more : List ℕ) (at i : ℕ) → Indexing b starts at i → length (read b).rules ≤ i → Starts b (starts ++ more)
+indexing_last b starts more at i k all =
+    λ j h.
+    let within : j < length starts = omega (arith, h, k.room) in
+    (rw length-append (omega (arith, within)), get_or-append starts more 0 j within ∙ k.done j (omega arith))

@@ -13,14 +13,12 @@ pub mod Stepping
 pub mod Looking
 pub mod Running
 pub mod Deciding
-pub mod Single
 pub mod Calls
 pub mod Logs
 pub mod CallTheorem
 pub mod FreshTheorem
 pub mod ListTheorem
 pub mod BatchTheorem
-pub mod ByNumber
 pub mod AnswerNumbers
 pub mod Offering
 pub mod BatchChecks

@@ -10,7 +10,6 @@ use lib.ListN.{length, get_or}
 use borrow.Author.Tests.{ltb-true}
 use Rattle.rewriting.specs.Lists.{below}
 use Rattle.rewriting.proofs.Lists.{and_left, all_right}
-use Rattle.rewriting.proofs.Ranges.{ranges}
 use Rattle.layout.specs.Image.{read}
 use Rattle.layout.proofs.Image.{valid-in_range}
 use Rattle.layout.specs.States.{states, number, mark, after, next, matching}
@@ -46,9 +45,6 @@ module _ (capacity : ℕ) (image table : List ℕ) (m : Monitor) (ok : Passed ca
       ltb-true a (read image).symbols
       (and_left (ltb a (read image).symbols) (below (read image).symbols q)
       (all_right (λ x. ltb x (read image).symbols) (state_of m).settled (a ∷ q) (rw w at h.legal.symbols)))
-
-  pub symbol_small : a < 32
-  symbol_small = omega (arith, symbol_low, (ranges (read image) (valid-in_range image (passed_valid capacity image table m ok))).few_symbols)
 
   -- the state before it, in the table
   state-is : (p : ℕ) → p ≡ word_before m.words m.head.settled

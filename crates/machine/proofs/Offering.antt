@@ -1,8 +1,7 @@
 -- Calls one by one: what is so after k of them, and what they come to where they end.
 -- Assumes nothing.
 use Prim.Native.Nat.{ℕ, suc, ◌+◌, ◌*◌, ◌≤◌, ◌<◌}
-use mathlib.Core.Path.{◌≡◌, refl, sym, ap, ◌∙◌, subst}
-use mathlib.Core.Bool.{Bool}
+use mathlib.Core.Path.{◌≡◌, refl, sym, ap, ◌∙◌}
 use Rattle.std.specs.Prelude.{Option, None, Some}
 use mathlib.Core.List.{List, [], ◌∷◌, ◌++◌, append-nil}
 use native.Mathlib.Omega.{arith}
@@ -10,24 +9,24 @@ use native.Mathlib.Nat.{suc-mul, mul-le-mul}
 use native.Mathlib.Numerals.{add-one}
 use lib.Dec.{eqb}
 use lib.ListN.{length, get_or, set, take, drop, length-set, take-append-drop, drop_of_length-le, length-map}
-use lib.Seq.{length-take-le, append_snoc, drop-cons, drop-drop, drop-set-lt, take-suc-set, get_or-set_same}
+use lib.Seq.{length-take-le, append_snoc, drop-cons, drop-drop, drop-set-lt, take-suc-set}
 use borrow.Author.Tests.{eqb-true}
 use Rattle.rewriting.specs.Lists.{over}
 use Rattle.rewriting.proofs.Lists.{and_left, and_right, get_d_map}
 use Rattle.layout.specs.Image.{read}
-use Rattle.layout.specs.Refusals.{refusal, refused_by}
+use Rattle.layout.specs.Refusals.{refused_by}
 use Rattle.machine.specs.declared.Counts.{Counts}
 use Rattle.machine.specs.Run.{no_counts, plus}
 use Rattle.machine.specs.Areas.{Monitor}
-use Rattle.machine.specs.Calls.{Call, GoOn, Outcome, sized, call_checks, decided, fuel_of, call_of, refusal_of, answer_number}
+use Rattle.machine.specs.Calls.{Call, Offer, GoOn, Outcome, sized, call_checks, decided, fuel_of, call_of, answer_number}
 use Rattle.machine.specs.Batch.{Offers, stopped, and_then, in_turn, batched}
-use Rattle.machine.specs.Lent.{Passed, upon, offer_or_go_on, offers_or_goes_on, where_offering}
+use Rattle.machine.specs.Play.{offers_of}
+use Rattle.machine.specs.Lent.{Passed, offer_or_go_on}
 use Rattle.machine.specs.Promise.{Ended}
 use Rattle.machine.proofs.Stepping.{passed_sized}
 use Rattle.machine.proofs.Sums.{none-plus, plus_none, plus_assoc}
 use Rattle.machine.proofs.Calls.{holding_passes, replies, next}
 use Rattle.machine.proofs.CallTheorem.{call_theorem}
-use Rattle.machine.proofs.Deciding.{is_refused}
 use Rattle.machine.proofs.AnswerNumbers.{Lent, passed_lent, answer_number-below}
 
 -- the calls b behind accepted ones with these answers and counts
@@ -120,11 +119,11 @@ module _ {capacity : ℕ} {image table : List ℕ} {m : Monitor} {calls : List C
 
   module _ (room : length calls ≤ length answers) where
     -- No further call is accepted.
-    offering_end : (x : ℕ) → in_turn capacity image table n (drop k calls) ≡ stopped x n
-        → record { refused = None; stop = x; accepted = k; counts = c; answers = b; monitor = n }
+    offering_end : (x : ℕ) (last : Monitor) → in_turn capacity image table n (drop k calls) ≡ stopped x last
+        → record { refused = None; stop = x; accepted = k; counts = c; answers = b; monitor = last }
         ≡ batched None m answers (in_turn capacity image table m calls)
     unfolding batched behind stopped over
-    offering_end x e =
+    offering_end x last e =
         let short : k ≤ length b = omega (arith, now.few, now.size, room) in
         let count : length (take k b) ≡ k = length-take-le k b short in
         let all : ◌≡◌ {A = List ℕ} (take k b ++ []) (take k b) = append-nil (take k b) in
@@ -137,102 +136,85 @@ module _ {capacity : ℕ} {image table : List ℕ} {m : Monitor} {calls : List C
     unfolding in_turn
     offering_all h =
         let same : length calls ≡ k = omega (arith, h, now.few) in
-        rw same (offering_end 0 (rw (drop_of_length-le calls h)))
+        rw same (offering_end 0 n (rw (drop_of_length-le calls h)))
 
     -- There is a next call.
     module _ (more : k < length calls) where
       abbrev call : Call
       call = get_or calls k (GoOn 0)
 
+      -- what it comes to
+      abbrev one : Outcome
+      one = call_of capacity image table n call
+
       -- It is refused.
-      pub offering_refused : (x : ℕ) → refusal (call_checks (read image) (length n.bytes) n.head call) ≡ Some x
-          → record { refused = None; stop = x; accepted = k; counts = c; answers = b; monitor = n }
+      pub offering_refused : (x : ℕ) → refused_by one.answer ≡ Some x
+          → record { refused = None; stop = x; accepted = k; counts = c; answers = b; monitor = one.monitor }
           ≡ batched None m answers (in_turn capacity image table m calls)
-      unfolding in_turn and_then refused_by
-      offering_refused x e =
-          let is : refusal_of x n ≡ call_of capacity image table n call =
-          passed_call capacity image table n call (refusal_of x n) now.passed
-          (is_refused (read image) capacity n call _ x (rw now.bytes at e))
-          in
-          offering_end x (rw (drop-cons calls k (GoOn 0) more, ← is))
+      unfolding in_turn and_then
+      offering_refused x e = offering_end x one.monitor (rw (drop-cons calls k (GoOn 0) more, e))
+
+      done : Ended (read image).rules capacity n call one
+      done = call_theorem capacity image table n call
 
       -- The sums have room for it.
-      pub offering_sums : (fuel : ℕ) → fuel ≤ 4294967295 → length calls ≤ 65535
-          → c.steps + c.rewrites + c.put + 10 * fuel < 18446744073709551616
-      offering_sums fuel h few =
-          let product : k * 4294967295 ≤ 65535 * 4294967295 = mul-le-mul {n₂ = 65535} {m₂ = 4294967295} (omega arith) (omega arith) in
-          omega (arith, now.steps, now.rewrites, now.put)
+      pub offering_sums : fuel_of call ≤ 4294967295 → length calls ≤ 65535
+          → (c.steps + one.counts.steps < 18446744073709551616)
+          × (c.rewrites + one.counts.rewrites < 18446744073709551616)
+          × (c.put + one.counts.put < 18446744073709551616)
+      offering_sums h few =
+          let product : k * 4294967295 ≤ 65535 * 4294967295 = mul-le-mul {n₂ = 65535} {m₂ = 4294967295} (omega arith) (omega arith) in (
+            omega (arith, now.steps, done.steps),
+            omega (arith, now.steps, now.rewrites, done.steps, done.rewrites),
+            omega (arith, now.steps, now.rewrites, now.put, done.steps, done.rewrites, done.put),
+          )
 
-      -- It is accepted, and has the outcome o behind the counts so far.
-      module _ {o : Outcome}
-          (made : o ≡ upon c (decided (read image) (length n.bytes) n (call_checks (read image) (length n.bytes) n.head call) call)) where
-        abbrev one : Outcome
-        one = call_of capacity image table n call
+      -- Its answer's number fits a byte.
+      pub offering-number : answer_number one.answer < 256
+      offering-number = answer_number-below capacity image table n call
 
-        is : o ≡ upon c one
-        is =
-            rw now.bytes at made
-            ∙ ap (upon c)
-            (passed_call capacity image table n call (decided (read image) capacity n (call_checks (read image) capacity n.head call) call)
-            now.passed refl)
+      -- It is accepted.
+      pub offering-next : fuel_of call ≤ 4294967295 → refused_by one.answer ≡ None
+          → Offering capacity image table m calls answers one.monitor (set b k (answer_number one.answer)) (plus c one.counts) (suc k)
+      unfolding in_turn and_then plus
+      offering-next h e =
+          let after : Passed capacity image table one.monitor = passed_next capacity image table n call now.passed in
+          let long : k < length b = omega (arith, more, now.size, room) in
+          let rest : Offers = in_turn capacity image table one.monitor (drop (suc k) calls) in
+          record {
+            few = omega arith;
+            passed = after;
+            bytes = (passed_sizes capacity image table one.monitor after).0;
+            words =
+                (passed_sizes capacity image table one.monitor after).1
+                ∙ sym (passed_sizes capacity image table n now.passed).1
+                ∙ now.words;
+            size = length-set b k _ ∙ now.size;
+            later =
+                drop-set-lt (suc k) b k (answer_number one.answer) (omega arith)
+                ∙ drop_more k b
+                ∙ ap (λ (l : List ℕ). drop 1 l) now.later
+                ∙ sym (drop_more k answers);
+            whole =
+                now.whole
+                ∙ rw (drop-cons calls k (GoOn 0) more, e, take-suc-set b k (answer_number one.answer) long)
+                (behind_more (take k b) c (answer_number one.answer) one.counts rest);
+            steps = rw suc-mul (omega (arith, now.steps, done.steps, h));
+            rewrites = omega (arith, now.rewrites, done.rewrites);
+            put = omega (arith, now.put, done.put);
+          }
 
-        done : Ended (read image).rules capacity n call one
-        done = call_theorem capacity image table n call
+-- The call of event k, among the offers of all events.
+pub call_at : (events : List ℕ) (fuel k : ℕ) → k < length events
+    → get_or (offers_of events fuel) k (GoOn 0) ≡ Offer (get_or events k 0) fuel
+unfolding offers_of
+call_at events fuel k h = get_d_map (λ event. Offer event fuel) events k 0 (GoOn 0) h
 
-        pub offering-number : answer_number o.answer < 256
-        offering-number = rw is (answer_number-below capacity image table n call)
-
-        next_one : fuel_of call ≤ 4294967295 → refused_by one.answer ≡ None
-            → Offering capacity image table m calls answers one.monitor (set b k (answer_number one.answer)) (plus c one.counts) (suc k)
-        unfolding in_turn and_then plus
-        next_one h e =
-            let after : Passed capacity image table one.monitor = passed_next capacity image table n call now.passed in
-            let long : k < length b = omega (arith, more, now.size, room) in
-            let rest : Offers = in_turn capacity image table one.monitor (drop (suc k) calls) in
-            record {
-              few = omega arith;
-              passed = after;
-              bytes = (passed_sizes capacity image table one.monitor after).0;
-              words =
-                  (passed_sizes capacity image table one.monitor after).1
-                  ∙ sym (passed_sizes capacity image table n now.passed).1
-                  ∙ now.words;
-              size = length-set b k _ ∙ now.size;
-              later =
-                  drop-set-lt (suc k) b k (answer_number one.answer) (omega arith)
-                  ∙ drop_more k b
-                  ∙ ap (λ (l : List ℕ). drop 1 l) now.later
-                  ∙ sym (drop_more k answers);
-              whole =
-                  now.whole
-                  ∙ rw (drop-cons calls k (GoOn 0) more, e, take-suc-set b k (answer_number one.answer) long)
-                  (behind_more (take k b) c (answer_number one.answer) one.counts rest);
-              steps = rw suc-mul (omega (arith, now.steps, done.steps, h));
-              rewrites = omega (arith, now.rewrites, done.rewrites);
-              put = omega (arith, now.put, done.put);
-            }
-
-        pub offering-next : fuel_of call ≤ 4294967295 → refused_by o.answer ≡ None
-            → Offering capacity image table m calls answers o.monitor (set b k (answer_number o.answer)) o.counts (suc k)
-        offering-next h e =
-            subst (λ (x : Outcome). Offering capacity image table m calls answers x.monitor (set b k (answer_number x.answer)) x.counts (suc k))
-            (sym is) (next_one h (rw is at e))
-
--- the answer byte that was written last
-pub written_last : (b : List ℕ) (k a : ℕ) → k < length b → (j : ℕ) → k + 1 ≡ suc j → get_or (set b k a) j 0 ≡ a
-written_last b k a h j e =
-    let same : j ≡ k = omega arith in
-    rw same (get_or-set_same b k a 0 h)
-
--- The call of event k, among those of all events.
-pub call_at : (offering : Bool) (events : List ℕ) (fuel k : ℕ) → k < length events
-    → get_or (offers_or_goes_on offering events fuel) k (GoOn 0) ≡ offer_or_go_on (where_offering offering (get_or events k 0)) fuel
-call_at offering events fuel k h = get_d_map (λ event. offer_or_go_on (where_offering offering event) fuel) events k 0 (GoOn 0) h
+pub calls_length : (events : List ℕ) (fuel : ℕ) → length (offers_of events fuel) ≡ length events
+unfolding offers_of
+calls_length events fuel = length-map events (λ event. Offer event fuel)
 
 pub fuel_with : (offered : Option ℕ) (fuel : ℕ) → fuel_of (offer_or_go_on offered fuel) ≡ fuel
 unfolding offer_or_go_on fuel_of
 fuel_with (Some event) fuel = refl
 fuel_with None fuel = refl
-
-pub calls_length : (offering : Bool) (events : List ℕ) (fuel : ℕ) → length (offers_or_goes_on offering events fuel) ≡ length events
-calls_length offering events fuel = length-map events (λ event. offer_or_go_on (where_offering offering event) fuel)

@@ -6,7 +6,6 @@ use mathlib.Core.Bool.{Bool, true, false, cond}
 use Rattle.std.specs.Prelude.{None, Some, Ok}
 use mathlib.Core.List.{List, [], ◌∷◌}
 use native.Mathlib.Omega.{arith}
-use native.Mathlib.Nat.{add-zero}
 use lib.ListN.{length}
 use Rattle.rewriting.specs.Lists.{prefix}
 use Rattle.rewriting.specs.Rules.{Rule}
@@ -18,11 +17,10 @@ use Rattle.machine.specs.Areas.{Head, Monitor, monitor_of, state_of}
 use Rattle.machine.specs.declared.Answer.{Answer}
 use Rattle.machine.specs.declared.Counts.{Counts}
 use Rattle.machine.specs.State.{State, Step, step}
-use Rattle.machine.specs.Run.{Run, plus, counts_of, ended, counted, fits, proceed, tests, run}
+use Rattle.machine.specs.Run.{Run, no_counts, plus, counts_of, ended, counted, fits, proceed, tests, run}
 use Rattle.machine.specs.Calls.{Outcome, outcome}
-use Rattle.machine.specs.Lent.{monitor_in, Passed, step_waiting, step_of, Tried, tried, added_to, upon, answer_from, standing_after}
-use Rattle.machine.proofs.Sums.{plus_none, plus_assoc}
-use Rattle.machine.proofs.ByNumber.{verdict_from, stands_from}
+use Rattle.machine.specs.Lent.{monitor_in, Passed, step_waiting, step_of, Tried, tried}
+use Rattle.machine.proofs.Sums.{none-plus, plus_none, plus_assoc}
 use Rattle.machine.proofs.Machine.{step_counts}
 use Rattle.machine.proofs.Legal.{legal_active, legal_step}
 use Rattle.machine.proofs.Areas.{state_back}
@@ -53,10 +51,10 @@ unfolding run tests step_waiting
 run_step rules capacity fuel s a q e w = rw (e, w)
 
 -- What a step that was tried tells: it does not fit, and nothing changed, ..
-tried_no : (rules : List Rule) (capacity : ℕ) (m : Monitor) (t : Step) (rewrites put : ℕ) (to : Tried) → to.taken ≡ false
-    → to ≡ added_to rewrites put (tried rules capacity m t) → (fits capacity t.to ≡ false) × (to.monitor ≡ m)
+tried_no : (rules : List Rule) (capacity : ℕ) (m : Monitor) (t : Step) (to : Tried) → to.taken ≡ false
+    → to ≡ tried rules capacity m t → (fits capacity t.to ≡ false) × (to.monitor ≡ m)
 unfolding tried
-tried_no rules capacity m t rewrites put to e p = go (fits capacity t.to) refl
+tried_no rules capacity m t to e p = go (fits capacity t.to) refl
   where
     go : (b : Bool) → fits capacity t.to ≡ b → (fits capacity t.to ≡ false) × (to.monitor ≡ m)
     go false f = (f, ap (λ (x : Tried). x.monitor) (rw f at p))
@@ -66,18 +64,18 @@ tried_no rules capacity m t rewrites put to e p = go (fits capacity t.to) refl
         absurd (omega arith)
 
 -- .. or it fits, and was taken.
-record Taken (rules : List Rule) (capacity : ℕ) (t : Step) (before put : ℕ) (to : Tried) : Type 0 where
+record Taken (rules : List Rule) (capacity : ℕ) (t : Step) (to : Tried) : Type 0 where
   fit : fits capacity t.to ≡ true
   monitor : to.monitor ≡ monitor_of rules capacity t.to
-  rewritten : to.rewrites ≡ before + t.rewrites
-  put_back : to.put ≡ put + t.put
+  rewritten : to.rewrites ≡ t.rewrites
+  put_back : to.put ≡ t.put
 
-tried_yes : (rules : List Rule) (capacity : ℕ) (m : Monitor) (t : Step) (rewrites put : ℕ) (to : Tried) → to.taken ≡ true
-    → to ≡ added_to rewrites put (tried rules capacity m t) → Taken rules capacity t rewrites put to
+tried_yes : (rules : List Rule) (capacity : ℕ) (m : Monitor) (t : Step) (to : Tried) → to.taken ≡ true
+    → to ≡ tried rules capacity m t → Taken rules capacity t to
 unfolding tried
-tried_yes rules capacity m t rewrites put to e p = go (fits capacity t.to) refl
+tried_yes rules capacity m t to e p = go (fits capacity t.to) refl
   where
-    go : (b : Bool) → fits capacity t.to ≡ b → Taken rules capacity t rewrites put to
+    go : (b : Bool) → fits capacity t.to ≡ b → Taken rules capacity t to
     go true f =
         record {
           fit = f;
@@ -89,14 +87,6 @@ tried_yes rules capacity m t rewrites put to e p = go (fits capacity t.to) refl
         let z : to.taken ≡ false = ap (λ (x : Tried). x.taken) (rw f at p) in
         let y : ◌≡◌ {A = ℕ} 0 1 = cc in
         absurd (omega arith)
-
--- A step without a rewrite adds nothing.
-pub added_none : (taken : Bool) (rewrites put : ℕ) (m : Monitor) (to : Tried)
-    → record { taken = taken; monitor = m; rewrites = 0; put = 0 } ≡ to
-    → record { taken = taken; monitor = m; rewrites = rewrites; put = put } ≡ added_to rewrites put to
-added_none taken rewrites put m to e =
-    (λ i. record { taken = taken; monitor = m; rewrites = sym (add-zero rewrites) i; put = sym (add-zero put) i })
-    ∙ ap (added_to rewrites put) e
 
 -- A step that was tried makes at most one rewrite, and puts back at most 8 symbols.
 pub tried_counts : (capacity : ℕ) (image table : List ℕ) (m : Monitor) → Passed capacity image table m → (a : ℕ) (q : List ℕ)
@@ -125,43 +115,46 @@ tried_counts capacity image table m ok a q w to e = rw e (go (fits capacity t.to
 abbrev ahead : Counts → Run → Run
 ahead c r = record { answer = r.answer; counts = plus c r.counts; state = r.state }
 
--- the counts of a run that began with the counts c, with so much fuel left
-abbrev pub so_far : Counts → ℕ → ℕ → ℕ → ℕ → Counts
-so_far c fuel left rewrites put = record { steps = c.steps + (fuel - left); rewrites = rewrites; put = put }
-
--- the head of the same counts with no verdict
+-- the head with no verdict
 abbrev pub opened : Head → Head
 opened head = record { settled = head.settled; waiting = head.waiting; verdict = None; rule = 0 }
 
--- the loop's invariant: c₀ are the counts before the run
-pub record Running (image table bytes₀ words₀ : List ℕ) (fuel : ℕ) (c₀ : Counts) (head₀ : Head) (bytes words : List ℕ) (head : Head)
-    (left rewrites put : ℕ) : Type 0 where
+-- what a run gives back that ends here, with the counts c
+abbrev ends : Answer → Counts → Monitor → Outcome
+ends answer c m = record { answer = Ok answer; counts = c; monitor = m }
+
+-- The loop's invariant: the run is the counts so far and then the run with the fuel that is left.
+pub record Running (image table bytes₀ words₀ : List ℕ) (fuel : ℕ) (head₀ : Head) (bytes words : List ℕ) (head : Head) (c : Counts) : Type 0 where
   pub bytes_kept : length bytes ≡ length bytes₀
   pub words_kept : length words ≡ length words₀
   pub passed : Passed (length bytes₀) image table (monitor_in head bytes words)
-  pub fuel_left : left ≤ fuel
-  pub few_rewrites : rewrites ≤ c₀.rewrites + (fuel - left)
-  pub few_put : put ≤ c₀.put + 8 * (fuel - left)
-  pub rest : ahead c₀ (run (read image).rules (length bytes₀) fuel (state_of (monitor_in head₀ bytes₀ words₀)))
-      ≡ ahead (so_far c₀ fuel left rewrites put) (run (read image).rules (length bytes₀) left (state_of (monitor_in head bytes words)))
+  pub few_steps : c.steps ≤ fuel
+  pub few_rewrites : c.rewrites ≤ c.steps
+  pub few_put : c.put ≤ 8 * c.steps
+  pub rest : run (read image).rules (length bytes₀) fuel (state_of (monitor_in head₀ bytes₀ words₀))
+      ≡ ahead c (run (read image).rules (length bytes₀) (fuel - c.steps) (state_of (monitor_in head bytes words)))
 
-pub running_first : (image table bytes words : List ℕ) (fuel : ℕ) (c₀ : Counts) (head : Head) → Passed (length bytes) image table (monitor_in head bytes words)
-    → Running image table bytes words fuel c₀ head bytes words head fuel c₀.rewrites c₀.put
-running_first image table bytes words fuel c₀ head ok =
-    let r : Run = run (read image).rules (length bytes) fuel (state_of (monitor_in head bytes words)) in
-    let n : c₀.steps ≡ c₀.steps + (fuel - fuel) = omega arith in
+pub running_first : (image table bytes words : List ℕ) (fuel : ℕ) (head : Head) → Passed (length bytes) image table (monitor_in head bytes words)
+    → Running image table bytes words fuel head bytes words head no_counts
+unfolding no_counts
+running_first image table bytes words fuel head ok =
+    let s : State = state_of (monitor_in head bytes words) in
+    let r : Run = run (read image).rules (length bytes) fuel s in
+    let all : fuel ≡ fuel - 0 = omega arith in
     record {
       bytes_kept = refl;
       words_kept = refl;
       passed = ok;
-      fuel_left = omega arith;
+      few_steps = omega arith;
       few_rewrites = omega arith;
       few_put = omega arith;
-      rest = λ i. ahead (record { steps = n i; rewrites = c₀.rewrites; put = c₀.put }) r;
+      rest =
+          (λ i. record { answer = r.answer; counts = sym (none-plus r.counts) i; state = r.state })
+          ∙ ap (λ (f : ℕ). ahead no_counts (run (read image).rules (length bytes) f s)) all;
     }
 
-module _ {image table bytes₀ words₀ : List ℕ} {fuel : ℕ} {c₀ : Counts} {head₀ : Head} {bytes words : List ℕ} {head : Head} {left rewrites put : ℕ}
-    (k : Running image table bytes₀ words₀ fuel c₀ head₀ bytes words head left rewrites put) where
+module _ {image table bytes₀ words₀ : List ℕ} {fuel : ℕ} {head₀ : Head} {bytes words : List ℕ} {head : Head} {c : Counts}
+    (k : Running image table bytes₀ words₀ fuel head₀ bytes words head c) where
   -- what a step asks
   pub running_asks : Passed (length bytes) image table (monitor_in head bytes words)
   running_asks = rw k.bytes_kept k.passed
@@ -170,118 +163,97 @@ module _ {image table bytes₀ words₀ : List ℕ} {fuel : ℕ} {c₀ : Counts}
   facts = held (length bytes₀) image table (monitor_in head bytes words) k.passed
 
   -- with no verdict the rule is 0
-  pub running_open : head.verdict ≡ None
-      → Running image table bytes₀ words₀ fuel c₀ head₀ bytes words (opened head) left rewrites put
-  running_open e =
+  pub is_open : head.verdict ≡ None → head ≡ opened head
+  is_open e =
       let z : head.rule ≡ 0 = zero-rule (length bytes₀) image table (monitor_in head bytes words) k.passed e in
-      let is : head ≡ opened head = λ i. record { settled = head.settled; waiting = head.waiting; verdict = e i; rule = z i } in
-      subst (λ (x : Head). Running image table bytes₀ words₀ fuel c₀ head₀ bytes words x left rewrites put) is k
+      λ i. record { settled = head.settled; waiting = head.waiting; verdict = e i; rule = z i }
+
+  pub running_open : head.verdict ≡ None → Running image table bytes₀ words₀ fuel head₀ bytes words (opened head) c
+  running_open e = subst (λ (x : Head). Running image table bytes₀ words₀ fuel head₀ bytes words x c) (is_open e) k
+
+  abbrev came : Outcome
+  came =
+      outcome (read image) (length bytes₀) (monitor_in head₀ bytes₀ words₀) None
+      (run (read image).rules (length bytes₀) fuel (state_of (monitor_in head₀ bytes₀ words₀)))
 
   -- The run ends here.
   ended_here : (answer : Answer)
-      → run (read image).rules (length bytes₀) left (state_of (monitor_in head bytes words)) ≡ ended answer (state_of (monitor_in head bytes words))
-      → ◌≡◌ {A = Outcome} (record { answer = Ok answer; counts = so_far c₀ fuel left rewrites put; monitor = monitor_in head bytes words })
-      (upon c₀ (outcome (read image) (length bytes₀) (monitor_in head₀ bytes₀ words₀) None
-      (run (read image).rules (length bytes₀) fuel (state_of (monitor_in head₀ bytes₀ words₀)))))
+      → run (read image).rules (length bytes₀) (fuel - c.steps) (state_of (monitor_in head bytes words))
+      ≡ ended answer (state_of (monitor_in head bytes words))
+      → ends answer c (monitor_in head bytes words) ≡ came
   unfolding outcome ended
   ended_here answer e =
-      let c : Counts = so_far c₀ fuel left rewrites put in
       let r : Run = run (read image).rules (length bytes₀) fuel (state_of (monitor_in head₀ bytes₀ words₀)) in
       let written : monitor_of (read image).rules (length bytes₀) (state_of (monitor_in head bytes words)) ≡ monitor_in head bytes words =
       passed_written (length bytes₀) image table (monitor_in head bytes words) k.passed
       in
-      let whole : ahead c₀ r ≡ ahead c (ended answer (state_of (monitor_in head bytes words))) = k.rest ∙ ap (ahead c) e in
+      let whole : r ≡ ahead c (ended answer (state_of (monitor_in head bytes words))) = k.rest ∙ ap (ahead c) e in
       sym
       (ap (λ (x : Run). outcome (read image) (length bytes₀) (monitor_in head₀ bytes₀ words₀) None x) whole
-      ∙ (λ i. record { answer = Ok answer; counts = plus_none c i; monitor = written i }))
+      ∙ (λ i. ends answer (plus_none c i) (written i)))
 
-  -- A verdict stands: the answer's number is 16 or more.
-  pub verdict_ends : (n : ℕ) → 16 ≤ n → head.verdict ≡ standing_after n
-      → ◌≡◌ {A = Outcome} (record { answer = Ok (answer_from n); counts = so_far c₀ fuel left rewrites put; monitor = monitor_in head bytes words })
-      (upon c₀ (outcome (read image) (length bytes₀) (monitor_in head₀ bytes₀ words₀) None
-      (run (read image).rules (length bytes₀) fuel (state_of (monitor_in head₀ bytes₀ words₀)))))
+  pub verdict_ends : (v : ℕ) → head.verdict ≡ Some v → ends (Answer.Verdict v) c (monitor_in head bytes words) ≡ came
   unfolding state_of
-  verdict_ends n h e =
-      ended_here (answer_from n)
-      (run_verdict (read image).rules (length bytes₀) left (state_of (monitor_in head bytes words)) (n - 16) (e ∙ stands_from n h)
-      ∙ ap (λ (a : Answer). ended a (state_of (monitor_in head bytes words))) (sym (verdict_from n h)))
+  verdict_ends v e =
+      ended_here (Answer.Verdict v)
+      (run_verdict (read image).rules (length bytes₀) (fuel - c.steps) (state_of (monitor_in head bytes words)) v e)
 
-  pub quiet_ends : head.verdict ≡ None → head.waiting ≡ 0
-      → ◌≡◌ {A = Outcome} (record { answer = Ok Answer.Quiet; counts = so_far c₀ fuel left rewrites put; monitor = monitor_in head bytes words })
-      (upon c₀ (outcome (read image) (length bytes₀) (monitor_in head₀ bytes₀ words₀) None
-      (run (read image).rules (length bytes₀) fuel (state_of (monitor_in head₀ bytes₀ words₀)))))
+  pub quiet_ends : head.verdict ≡ None → head.waiting ≡ 0 → ends Answer.Quiet c (monitor_in head bytes words) ≡ came
   unfolding state_of
   quiet_ends e z =
       ended_here Answer.Quiet
-      (run_quiet (read image).rules (length bytes₀) left (state_of (monitor_in head bytes words)) e
+      (run_quiet (read image).rules (length bytes₀) (fuel - c.steps) (state_of (monitor_in head bytes words)) e
       (empty (state_of (monitor_in head bytes words)).waiting (sym facts.waiting_count ∙ z)))
     where
       empty : (l : List ℕ) → length l ≡ 0 → l ≡ []
       empty [] p = refl
       empty (x ∷ l) p = absurd (omega arith)
 
-  pub spent_ends : head.verdict ≡ None → 0 < head.waiting → left ≡ 0
-      → ◌≡◌ {A = Outcome}
-      (record { answer = Ok Answer.Spent; counts = record { steps = c₀.steps + fuel; rewrites = rewrites; put = put }; monitor = monitor_in head bytes words })
-      (upon c₀ (outcome (read image) (length bytes₀) (monitor_in head₀ bytes₀ words₀) None
-      (run (read image).rules (length bytes₀) fuel (state_of (monitor_in head₀ bytes₀ words₀)))))
+  pub spent_ends : head.verdict ≡ None → 0 < head.waiting → fuel ≤ c.steps
+      → ends Answer.Spent c (monitor_in head bytes words) ≡ came
   unfolding state_of
   spent_ends e z l =
       let w = waits (read image) (length bytes₀) (monitor_in head bytes words) facts z in
-      let all : fuel ≡ fuel - left = omega (arith, l) in
-      ap (λ (n : ℕ). record {
-        answer = Ok Answer.Spent;
-        counts = record { steps = c₀.steps + n; rewrites = rewrites; put = put };
-        monitor = monitor_in head bytes words;
-      }) all
-      ∙ (ended_here Answer.Spent
-      (rw l (run_spent (read image).rules (length bytes₀) (state_of (monitor_in head bytes words)) w.0 w.1 e w.2)))
+      let none_left : fuel - c.steps ≡ 0 = omega (arith, l) in
+      ended_here Answer.Spent
+      (rw none_left (run_spent (read image).rules (length bytes₀) (state_of (monitor_in head bytes words)) w.0 w.1 e w.2))
 
   -- A step is tried. It does not fit, ..
-  pub full_ends : head.verdict ≡ None → 0 < head.waiting → (left ≡ 0 → ⊥) → (to : Tried) → to.taken ≡ false
+  pub full_ends : head.verdict ≡ None → 0 < head.waiting → c.steps < fuel → (to : Tried) → to.taken ≡ false
       → to
-      ≡ added_to rewrites put
-      (tried (read image).rules (length bytes) (monitor_in head bytes words) (step_of (read image).rules (state_of (monitor_in head bytes words))))
-      → ◌≡◌ {A = Outcome} (record {
-        answer = Ok Answer.Full;
-        counts = so_far c₀ fuel left rewrites put;
-        monitor = monitor_in head to.monitor.bytes to.monitor.words;
-      })
-      (upon c₀ (outcome (read image) (length bytes₀) (monitor_in head₀ bytes₀ words₀) None
-      (run (read image).rules (length bytes₀) fuel (state_of (monitor_in head₀ bytes₀ words₀)))))
+      ≡ tried (read image).rules (length bytes) (monitor_in head bytes words) (step_of (read image).rules (state_of (monitor_in head bytes words)))
+      → ends Answer.Full c (monitor_in head to.monitor.bytes to.monitor.words) ≡ came
   unfolding state_of proceed
   full_ends e z l to untaken t =
       let s : State = state_of (monitor_in head bytes words) in
       let w = waits (read image) (length bytes₀) (monitor_in head bytes words) facts z in
-      let n : left ≡ suc (left - 1) = omega (arith, l) in
-      let u = tried_no (read image).rules (length bytes₀) (monitor_in head bytes words) (step_of (read image).rules s) rewrites put to untaken
-      (t ∙ ap (λ (n : ℕ). added_to rewrites put (tried (read image).rules n (monitor_in head bytes words) (step_of (read image).rules s))) k.bytes_kept) in
-      let here : run (read image).rules (length bytes₀) left s ≡ ended Answer.Full s =
+      let n : fuel - c.steps ≡ suc (fuel - c.steps - 1) = omega (arith, l) in
+      let u = tried_no (read image).rules (length bytes₀) (monitor_in head bytes words) (step_of (read image).rules s) to untaken
+      (t ∙ ap (λ (n : ℕ). tried (read image).rules n (monitor_in head bytes words) (step_of (read image).rules s)) k.bytes_kept) in
+      let here : run (read image).rules (length bytes₀) (fuel - c.steps) s ≡ ended Answer.Full s =
       ap (λ (f : ℕ). run (read image).rules (length bytes₀) f s) n
-      ∙ run_step (read image).rules (length bytes₀) (left - 1) s w.0 w.1 e w.2
+      ∙ run_step (read image).rules (length bytes₀) (fuel - c.steps - 1) s w.0 w.1 e w.2
       ∙ rw u.0
       in
-      ap
-      (λ (x : Monitor). record { answer = Ok Answer.Full; counts = so_far c₀ fuel left rewrites put; monitor = monitor_in head x.bytes x.words })
-      u.1
+      ap (λ (x : Monitor). ends Answer.Full c (monitor_in head x.bytes x.words)) u.1
       ∙ ended_here Answer.Full here
 
   -- .. or the run goes on.
-  pub running_next : head.verdict ≡ None → 0 < head.waiting → (left ≡ 0 → ⊥) → (to : Tried) → to.taken ≡ true
+  pub running_next : head.verdict ≡ None → 0 < head.waiting → c.steps < fuel → (to : Tried) → to.taken ≡ true
       → to
-      ≡ added_to rewrites put
-      (tried (read image).rules (length bytes) (monitor_in head bytes words) (step_of (read image).rules (state_of (monitor_in head bytes words))))
+      ≡ tried (read image).rules (length bytes) (monitor_in head bytes words) (step_of (read image).rules (state_of (monitor_in head bytes words)))
       → length to.monitor.bytes ≡ length bytes → length to.monitor.words ≡ length words
-      → Running image table bytes₀ words₀ fuel c₀ head₀ to.monitor.bytes to.monitor.words to.monitor.head (left - 1) to.rewrites to.put
+      → Running image table bytes₀ words₀ fuel head₀ to.monitor.bytes to.monitor.words to.monitor.head
+      (plus c (record { steps = 1; rewrites = to.rewrites; put = to.put }))
   unfolding state_of step_waiting proceed counted plus counts_of
   running_next e z l to taken t nb nw =
       record {
         bytes_kept = nb ∙ k.bytes_kept;
         words_kept = nw ∙ k.words_kept;
         passed = holding_passes (length bytes₀) image table good right to.monitor holding;
-        fuel_left = omega (arith, k.fuel_left);
-        few_rewrites = omega (arith, l, k.fuel_left, k.few_rewrites, u.rewritten, counts.0);
-        few_put = omega (arith, l, k.fuel_left, k.few_put, u.put_back, counts.0, counts.1);
+        few_steps = omega (arith, l);
+        few_rewrites = omega (arith, k.few_rewrites, u.rewritten, counts.0);
+        few_put = omega (arith, k.few_put, u.put_back, counts.0, counts.1);
         rest = k.rest ∙ on;
       }
     where
@@ -297,9 +269,9 @@ module _ {image table bytes₀ words₀ : List ℕ} {fuel : ℕ} {c₀ : Counts}
       w : (a : ℕ) × (q : List ℕ) × (s.waiting ≡ a ∷ q)
       w = waits (read image) (length bytes₀) (monitor_in head bytes words) facts z
 
-      u : Taken rules (length bytes₀) t' rewrites put to
-      u = tried_yes rules (length bytes₀) (monitor_in head bytes words) t' rewrites put to taken
-          (t ∙ ap (λ (n : ℕ). added_to rewrites put (tried rules n (monitor_in head bytes words) t')) k.bytes_kept)
+      u : Taken rules (length bytes₀) t' to
+      u = tried_yes rules (length bytes₀) (monitor_in head bytes words) t' to taken
+          (t ∙ ap (λ (n : ℕ). tried rules n (monitor_in head bytes words) t') k.bytes_kept)
 
       good : valid image ≡ true
       good = passed_valid (length bytes₀) image table (monitor_in head bytes words) k.passed
@@ -325,54 +297,32 @@ module _ {image table bytes₀ words₀ : List ℕ} {fuel : ℕ} {c₀ : Counts}
       counts : (t'.rewrites ≤ 1) × (t'.put ≤ 8 * t'.rewrites)
       counts = rw is-step (step_counts (read image) in_range_lem s.settled w.0 w.1)
 
-      on : ahead (so_far c₀ fuel left rewrites put) (run rules (length bytes₀) left s)
-          ≡ ahead (so_far c₀ fuel (left - 1) to.rewrites to.put) (run rules (length bytes₀) (left - 1) (state_of to.monitor))
+      c' : Counts
+      c' = plus c (record { steps = 1; rewrites = to.rewrites; put = to.put })
+
+      on : ahead c (run rules (length bytes₀) (fuel - c.steps) s)
+          ≡ ahead c' (run rules (length bytes₀) (fuel - (c.steps + 1)) (state_of to.monitor))
       on =
-          ap (ahead c) (ap (λ (f : ℕ). run rules (length bytes₀) f s) n ∙ run_step rules (length bytes₀) (left - 1) s w.0 w.1 e w.2 ∙ rw u.fit)
+          ap (ahead c) (ap (λ (f : ℕ). run rules (length bytes₀) f s) n ∙ run_step rules (length bytes₀) left s w.0 w.1 e w.2 ∙ rw u.fit)
           ∙ (λ i. record {
             answer = r.answer;
             counts =
-                (sym (plus_assoc c (counts_of t') r.counts) ∙ ap (λ (d : Counts). plus d r.counts) sum) i;
+                (sym (plus_assoc c (counts_of t') r.counts) ∙ ap (λ (d : Counts). plus (plus c d) r.counts) one) i;
             state = r.state;
           })
-          ∙ ap (λ (x : State). ahead c' (run rules (length bytes₀) (left - 1) x)) (sym back)
+          ∙ ap (λ (x : State). ahead c' (run rules (length bytes₀) left x)) (sym back)
         where
-          n : left ≡ suc (left - 1)
+          left : ℕ
+          left = fuel - (c.steps + 1)
+
+          n : fuel - c.steps ≡ suc left
           n = omega (arith, l)
 
-          c : Counts
-          c = so_far c₀ fuel left rewrites put
-
-          c' : Counts
-          c' = so_far c₀ fuel (left - 1) to.rewrites to.put
-
           r : Run
-          r = run rules (length bytes₀) (left - 1) t'.to
+          r = run rules (length bytes₀) left t'.to
 
-          one_more : c₀.steps + (fuel - left) + 1 ≡ c₀.steps + (fuel - (left - 1))
-          one_more = omega (arith, l, k.fuel_left)
-
-          sum : plus c (counts_of t') ≡ c'
-          sum = λ i. record { steps = one_more i; rewrites = sym u.rewritten i; put = sym u.put_back i }
+          one : counts_of t' ≡ record { steps = 1; rewrites = to.rewrites; put = to.put }
+          one = λ i. record { steps = 1; rewrites = sym u.rewritten i; put = sym u.put_back i }
 
           back : state_of to.monitor ≡ t'.to
           back = rw u.monitor (state_back rules (length bytes₀) t'.to)
-
--- A run that has nothing to do.
-pub quiet_at_once : (image table bytes words : List ℕ) (fuel : ℕ) (c₀ : Counts) (head : Head) → Passed (length bytes) image table (monitor_in head bytes words)
-    → head.verdict ≡ None → head.waiting ≡ 0
-    → ◌≡◌ {A = Outcome} (record {
-      answer = Ok Answer.Quiet;
-      counts = record { steps = c₀.steps + 0; rewrites = c₀.rewrites; put = c₀.put };
-      monitor = monitor_in head bytes words;
-    })
-    (upon c₀ (outcome (read image) (length bytes) (monitor_in head bytes words) None
-    (run (read image).rules (length bytes) fuel (state_of (monitor_in head bytes words)))))
-quiet_at_once image table bytes words fuel c₀ head ok e z =
-    let n : 0 ≡ fuel - fuel = omega arith in
-    (λ i. record {
-      answer = Ok Answer.Quiet;
-      counts = record { steps = c₀.steps + n i; rewrites = c₀.rewrites; put = c₀.put };
-      monitor = monitor_in head bytes words;
-    })
-    ∙ quiet_ends (running_first image table bytes words fuel c₀ head ok) e z

@@ -1,5 +1,6 @@
 -- How the code speaks of these definitions: what it is lent, what it gives back, and what its functions read and keep.
-use Rattle.std.specs.Prelude.{ℕ, zero, suc, ◌+◌, ◌*◌, ◌-◌, ◌<◌, ◌≡◌, Bool, true, false, not, cond, List, [], ◌∷◌, map, eqb, ltb, length, get_or, set, drop, Option, None, Some}
+use Rattle.std.specs.Prelude.{ℕ, zero, suc, ◌+◌, ◌*◌, ◌-◌, ◌<◌, ◌≡◌, Bool, true, false, not, cond, eqb, ltb}
+use Rattle.std.specs.Prelude.{List, [], ◌∷◌, map, length, get_or, set, drop, Option, None, Some}
 use Rattle.std.proofs.Math.Seq.{paste}
 use Rattle.rewriting.specs.Lists.{below}
 use Rattle.rewriting.specs.Rules.{Rule, RuleSet}
@@ -8,11 +9,9 @@ use Rattle.layout.specs.Places.{right_at}
 use Rattle.layout.specs.Refusals.{refusal}
 use Rattle.layout.specs.States.{states, number, after, next, matching}
 use Rattle.machine.specs.Areas.{Head, Monitor, states_after, monitor_of, unmatched}
-use Rattle.machine.specs.declared.Answer.{Answer}
 use Rattle.machine.specs.State.{State, Step, step}
-use Rattle.machine.specs.declared.Counts.{Counts}
-use Rattle.machine.specs.Run.{plus, fits}
-use Rattle.machine.specs.Calls.{Call, Offer, GoOn, Outcome, lent_checks}
+use Rattle.machine.specs.Run.{fits}
+use Rattle.machine.specs.Calls.{Call, Offer, GoOn, lent_checks}
 
 -- the monitor of this head and these areas
 abbrev pub monitor_in : Head → List ℕ → List ℕ → Monitor
@@ -84,27 +83,10 @@ tried rules capacity m t =
     (record { taken = true; monitor = monitor_of rules capacity t.to; rewrites = t.rewrites; put = t.put })
     (record { taken = false; monitor = m; rewrites = 0; put = 0 })
 
--- the same, behind others with these rewrites and symbols put back
-abbrev pub added_to : ℕ → ℕ → Tried → Tried
-added_to rewrites put t =
-    record { taken = t.taken; monitor = t.monitor; rewrites = rewrites + t.rewrites; put = put + t.put }
-
--- a call behind others with these counts
-abbrev pub upon : Counts → Outcome → Outcome
-upon c o = record { answer = o.answer; counts = plus c o.counts; monitor = o.monitor }
-
 -- an offer of the event, or a go-on
 unfoldable pub offer_or_go_on : Option ℕ → ℕ → Call
 offer_or_go_on (Some event) fuel = Offer event fuel
 offer_or_go_on None fuel = GoOn fuel
-
--- the event, where it is offered
-abbrev pub where_offering : Bool → ℕ → Option ℕ
-where_offering offering event = cond offering (Some event) None
-
--- a call for each event: its offer or, where they are not offered, a go-on
-abbrev pub offers_or_goes_on : Bool → List ℕ → ℕ → List Call
-offers_or_goes_on offering events fuel = map (λ event. offer_or_go_on (where_offering offering event) fuel) events
 
 -- the event of an offer is one of so many, ..
 abbrev pub event_allowed : Option ℕ → ℕ → Bool
@@ -132,12 +114,3 @@ taken offered head =
 abbrev pub bytes_with : Option ℕ → ℕ → ℕ → List ℕ → List ℕ
 bytes_with (Some event) capacity waiting bytes = appended capacity event (capacity - waiting) bytes
 bytes_with None capacity waiting bytes = bytes
-
--- the answer with a number, among those that `answer_number` gives to calls that are not refused
-abbrev pub answer_from : ℕ → Answer
-answer_from n =
-    cond (eqb n 0) Answer.Quiet (cond (eqb n 1) Answer.Spent (cond (eqb n 2) Answer.Full (cond (ltb n 16) Answer.Quiet (Answer.Verdict (n - 16)))))
-
--- the verdict that stands after the answer with a number
-abbrev pub standing_after : ℕ → Option ℕ
-standing_after n = cond (ltb n 16) None (Some (n - 16))

@@ -19,15 +19,6 @@ pub enum Answer {
     Verdict(u64),
 }
 
-// Answers as numbers. A verdict's is 16 + its own.
-pub const QUIET: u64 = 0;
-
-pub const SPENT: u64 = 1;
-
-pub const FULL: u64 = 2;
-
-pub const VERDICT: u64 = 16;
-
 // Steps, rewrites and symbols put back, of a call or summed over several.
 #[derive(Clone, Copy)]
 pub struct Counts {

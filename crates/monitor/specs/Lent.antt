@@ -1,19 +1,18 @@
 -- How the code speaks of the definitions of the crate machine: what it is lent, and what it gives back.
-use Rattle.std.specs.Prelude.{ℕ, not, List, eqb, None, Option, option_map, Ok}
+use Rattle.std.specs.Prelude.{ℕ, true, false, List, Option, None, Some, option_map}
 use Rattle.monitor.specs.declared.Head.{Head}
 use Rattle.monitor.specs.declared.Begun.{Begun}
 use Rattle.monitor.specs.declared.Returned.{Returned}
 use Rattle.monitor.specs.declared.BatchReturned.{BatchReturned}
-use Rattle.monitor.specs.declared.flat.Flat.{Flat}
 use Rattle.monitor.specs.declared.decide.Series.{Series}
+use Rattle.monitor.specs.declared.steps.Stepped.{Stepped}
 use Rattle.layout.specs.Refusals.{refusal_number, refused_by, number, numbered}
 use Rattle.layout.specs.declared.Refusal.{Refusal}
 use Rattle.machine.specs.Areas as Areas
 use Rattle.machine.specs.Areas.{Monitor}
 use Rattle.machine.specs.Calls.{Fresh, Outcome}
 use Rattle.machine.specs.Batch.{Batched}
-use Rattle.machine.specs.declared.Counts.{Counts}
-use Rattle.machine.specs.Lent.{Tried, answer_from, standing_after}
+use Rattle.machine.specs.Lent.{monitor_with, Tried}
 
 -- the head, as the definitions have it
 abbrev pub head_in : Head → Areas.Head
@@ -49,32 +48,15 @@ batch_from r bytes words answers =
       monitor = lent r.head bytes words;
     }
 
--- A head in numbers: the head that they are, ..
-abbrev pub flat_in : Flat → Areas.Head
-flat_in f = record { settled = f.settled; waiting = f.waiting; verdict = standing_after f.answer; rule = f.rule }
+-- the monitor with no verdict, from which a step or a run begins
+abbrev pub active : Head → List ℕ → List ℕ → Monitor
+active head bytes words = monitor_with head.settled head.waiting None 0 bytes words
 
--- .. the monitor with it, ..
-abbrev pub flat : Flat → List ℕ → List ℕ → Monitor
-flat f bytes words = record { head = flat_in f; bytes = bytes; words = words }
-
--- .. that with no verdict, from which a step or a run begins, ..
-abbrev pub active_in : Flat → Areas.Head
-active_in f = record { settled = f.settled; waiting = f.waiting; verdict = None; rule = 0 }
-
-abbrev pub active : Flat → List ℕ → List ℕ → Monitor
-active f bytes words = record { head = active_in f; bytes = bytes; words = words }
-
--- .. and the counts.
-abbrev pub counts_in : Flat → Counts
-counts_in f = record { steps = f.steps; rewrites = f.rewrites; put = f.put }
-
--- What a step, a run and a list of calls gave back, with the areas at their exit. A step was taken unless its answer is Full.
-abbrev pub stepped_from : Flat → List ℕ → List ℕ → Tried
-stepped_from f bytes words =
-    record { taken = not (eqb f.answer 2); monitor = flat f bytes words; rewrites = f.rewrites; put = f.put }
-
-abbrev pub ran_from : Flat → List ℕ → List ℕ → Outcome
-ran_from f bytes words = record { answer = Ok (answer_from f.answer); counts = counts_in f; monitor = flat f bytes words }
+-- What a step and a list of offers gave back, with the areas at their exit. A step that is not taken leaves the head as it was.
+abbrev pub stepped_from : Head → Option Stepped → List ℕ → List ℕ → Tried
+stepped_from head None bytes words = record { taken = false; monitor = active head bytes words; rewrites = 0; put = 0 }
+stepped_from head (Some s) bytes words =
+    record { taken = true; monitor = lent s.head bytes words; rewrites = s.counts.rewrites; put = s.counts.put }
 
 abbrev pub series_from : Series → List ℕ → List ℕ → List ℕ → Batched
 series_from r bytes words answers =
@@ -82,7 +64,7 @@ series_from r bytes words answers =
       refused = None;
       stop = stop_number r.stop;
       accepted = r.accepted;
-      counts = counts_in r.head;
+      counts = r.counts;
       answers = answers;
-      monitor = flat r.head bytes words;
+      monitor = lent r.head bytes words;
     }

@@ -2,12 +2,12 @@
 // to it; the promise about every list of calls is proved of those definitions in machine/proofs/ListTheorem.antt.
 #![tactic(auto)]
 
-ghost use Rattle.std.specs.Prelude.{◌≡◌, None, Some, Err, MatchResult};
+ghost use Rattle.std.specs.Prelude.{◌≡◌, None, Some, Ok, Err, MatchResult};
 ghost use Rattle.layout.specs.Refusals.{refusal, number};
 ghost use Rattle.machine.specs.Areas.{document_capacity};
 ghost use Rattle.machine.specs.Run.{no_counts};
-ghost use Rattle.machine.specs.Calls.{fresh_of, lent_checks, offer_of, go_on_of};
-ghost use Rattle.machine.specs.Lent.{Passed};
+ghost use Rattle.machine.specs.Calls.{fresh_of, lent_checks, call_of, offer_of, go_on_of};
+ghost use Rattle.machine.specs.Lent.{Passed, offer_or_go_on};
 ghost use Rattle.machine.specs.Batch.{batch_of};
 ghost use Rattle.monitor.specs.Lent.{lent, fresh_from, outcome_from, batch_from};
 
@@ -19,7 +19,6 @@ pub use machine::{Answer, Counts};
 use machine::{CAPACITY, EVENTS_MOST, FUEL_MOST};
 
 mod decide;
-mod flat;
 mod steps;
 
 // The monitor's head: how many symbols are settled, how many wait, the verdict or none, and that verdict's rule (0 with none).
@@ -83,6 +82,17 @@ impl Head {
         rule: 0,
     };
 
+    // What a run gives back that ends here.
+    fn ended(self, answer: Answer, counts: Counts) -> Returned
+        ensures { result ≡ record { head = self; answer = Ok answer; counts = counts } }
+    {
+        Returned {
+            head: self,
+            answer: Ok(answer),
+            counts,
+        }
+    }
+
     // A refusal: the head as given, and no counts.
     fn refused(self, refusal: Refusal) -> Returned
         ensures { result ≡ record { head = self; answer = Err refusal; counts = no_counts } }
@@ -107,7 +117,9 @@ impl Head {
         }
     }
 
-    // The checks of what is lent: refusals 7, 9, 10 and 11. Where they pass, there is the table.
+    // The checks of what is lent: refusals 7, 9, 10 and 11. Where they pass, there is the table, which in line is not handed on through
+    // memory.
+    #[inline(always)]
     fn check_lent<'a>(
         self,
         image: &'a [u8],
@@ -141,8 +153,35 @@ impl Head {
         Ok(table)
     }
 
-    // The event becomes the last waiting symbol, and the call runs. It has a body of its own: with one function for it and go_on an
-    // offer where nothing is held takes a twentieth longer.
+    // One call, an offer of the event or a go-on. In line in both, it tests in neither which of them it is.
+    #[inline(always)]
+    fn once(
+        self,
+        image: &[u8],
+        table: &[u16],
+        bytes: &mut [u8],
+        words: &mut [u16],
+        offered: Option<u8>,
+        fuel: u32,
+    ) -> Returned
+        ensures { outcome_from result bytes.new words.new
+            ≡ call_of document_capacity image.now table.now (lent self bytes.old words.old) (offer_or_go_on offered fuel) }
+    {
+        let table = match self.check_lent(image, table, bytes, words) {
+            Err(refusal) => return self.refused(refusal),
+            Ok(table) => table,
+        };
+        let mut starts = [0u16; 64];
+        held::index(table.image, &mut starts);
+        let rules = Rules {
+            table,
+            starts: &starts,
+        };
+        self.call(rules, bytes, words, offered, fuel)
+    }
+
+    // The event becomes the last waiting symbol, and the call runs.
+    #[tactic(auto, unfolding(machine::specs::Calls::offer_of, machine::specs::Lent::offer_or_go_on))]
     pub fn offer(
         self,
         image: &[u8],
@@ -155,21 +194,11 @@ impl Head {
         ensures { outcome_from result bytes.new words.new
             ≡ offer_of document_capacity image.now table.now (lent self bytes.old words.old) event fuel }
     {
-        match self.check_lent(image, table, bytes, words) {
-            Err(refusal) => self.refused(refusal),
-            Ok(table) => {
-                let mut starts = [0u16; 64];
-                held::index(table.image, &mut starts);
-                let rules = Rules {
-                    table,
-                    starts: &starts,
-                };
-                self.once(rules, bytes, words, Some(event), fuel)
-            }
-        }
+        self.once(image, table, bytes, words, Some(event), fuel)
     }
 
     // The call runs on.
+    #[tactic(auto, unfolding(machine::specs::Calls::go_on_of, machine::specs::Lent::offer_or_go_on))]
     pub fn go_on(
         self,
         image: &[u8],
@@ -181,18 +210,7 @@ impl Head {
         ensures { outcome_from result bytes.new words.new
             ≡ go_on_of document_capacity image.now table.now (lent self bytes.old words.old) fuel }
     {
-        match self.check_lent(image, table, bytes, words) {
-            Err(refusal) => self.refused(refusal),
-            Ok(table) => {
-                let mut starts = [0u16; 64];
-                held::index(table.image, &mut starts);
-                let rules = Rules {
-                    table,
-                    starts: &starts,
-                };
-                self.once(rules, bytes, words, None, fuel)
-            }
-        }
+        self.once(image, table, bytes, words, None, fuel)
     }
 
     // The offers of all events, up to the first that is refused, with the dear checks made once.
@@ -226,16 +244,13 @@ impl Head {
             table,
             starts: &starts,
         };
-        let r = self
-            .flat()
-            .in_turn(rules, bytes, words, true, events, fuel, answers);
-        let last = r.head;
+        let series = self.in_turn(rules, bytes, words, events, fuel, answers);
         BatchReturned {
-            head: last.head(),
+            head: series.head,
             answer: Ok(()),
-            stop: r.stop,
-            accepted: r.accepted,
-            counts: last.counts(),
+            stop: series.stop,
+            accepted: series.accepted,
+            counts: series.counts,
         }
     }
 }

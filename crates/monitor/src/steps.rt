@@ -1,137 +1,132 @@
-// One step, and a call's run.
+// One step, and a call's run. They are in line in their callers: a run that is fast keeps the head in registers, from step to step and,
+// in a batch, from call to call.
 // The module is private: what its functions ask, the checks of a call have shown.
-ghost use Rattle.std.specs.Prelude.{◌+◌, ◌*◌, ◌<◌, ◌≡◌, length, None, Ok};
-ghost use Rattle.machine.specs.Run.{run};
+ghost use Rattle.std.specs.Prelude.{◌+◌, ◌*◌, ◌<◌, ◌≡◌, length, None, IfSome};
+ghost use Rattle.machine.specs.Run.{plus, run};
 ghost use Rattle.machine.specs.Areas.{state_of};
-ghost use Rattle.machine.specs.Calls.{outcome, answer_number};
-ghost use Rattle.machine.specs.Lent.{step_of, tried, added_to, upon, answer_from};
+ghost use Rattle.machine.specs.Calls.{outcome};
+ghost use Rattle.machine.specs.Lent.{step_of, tried};
 ghost use Rattle.areas.specs.Lent.{set_by, PassedWith};
-ghost use Rattle.monitor.specs.Lent.{active, counts_in, stepped_from, ran_from};
+ghost use Rattle.monitor.specs.Lent.{lent, active, stepped_from, outcome_from};
 
-use crate::flat::{Flat, number_of};
+use crate::{Head, Returned};
 use areas::held;
 use areas::rules::Rules;
-use machine::{FULL, QUIET, SPENT, VERDICT};
+use machine::{Answer, Counts};
 
-impl Flat {
-    // The next step: the head after it, where its answer is 16 + the verdict that it set, else 0. Where the step does not fit the answer
-    // is 2 (Full), and nothing has changed. It counts its rewrite and what it put back; the run counts the steps.
-    fn step(self, rules: Rules<'_>, bytes: &mut [u8], words: &mut [u16]) -> Flat
+// What a step that was taken leads to, and its counts.
+#[derive(Clone, Copy)]
+pub struct Stepped {
+    pub head: Head,
+    pub counts: Counts,
+}
+
+// The counts of one and then another.
+#[tactic(auto, unfolding(machine::specs::Run::plus))]
+pub(crate) fn plus(c: Counts, d: Counts) -> Counts
+    requires steps { c.steps + d.steps < 18446744073709551616 }
+    requires rewrites { c.rewrites + d.rewrites < 18446744073709551616 }
+    requires put { c.put + d.put < 18446744073709551616 }
+    ensures { result ≡ plus c d }
+{
+    Counts {
+        steps: c.steps + d.steps,
+        rewrites: c.rewrites + d.rewrites,
+        put: c.put + d.put,
+    }
+}
+
+impl Head {
+    // The next step, where no verdict stands. One that does not fit is not taken, and nothing has changed.
+    #[inline(always)]
+    fn step(self, rules: Rules<'_>, bytes: &mut [u8], words: &mut [u16]) -> Option<Stepped>
         requires lent { PassedWith rules (active self bytes.old words.old) }
         requires waiting { 0 < self.waiting }
-        requires sums { self.rewrites + self.put + 9 < 18446744073709551616 }
-        ensures tried { stepped_from result bytes.new words.new
-            ≡ added_to self.rewrites self.put
-            (tried (set_by rules.entry).rules (length bytes.old) (active self bytes.old words.old)
-            (step_of (set_by rules.entry).rules (state_of (active self bytes.old words.old)))) }
-        ensures steps { result.steps ≡ self.steps }
+        ensures tried { stepped_from self result bytes.new words.new
+            ≡ tried (set_by rules.entry).rules (length bytes.old) (active self bytes.old words.old)
+            (step_of (set_by rules.entry).rules (state_of (active self bytes.old words.old))) }
+        ensures one { IfSome result (λ s. s.counts.steps ≡ 1) }
     {
-        let settled = self.settled;
-        let first = bytes.len() - self.waiting;
+        let Head {
+            settled,
+            waiting,
+            ..
+        } = self;
+        let first = bytes.len() - waiting;
         let symbol = bytes[first];
         let q = held::word_before(words, settled);
         let next = rules.table.next(q, usize::from(symbol));
         let matched = rules.table.match_word(next);
         if matched != 0 {
-            return match areas::rewrite(settled, self.waiting, rules, bytes, words, matched - 1) {
-                None => Flat {
-                    settled: settled,
-                    waiting: self.waiting,
-                    answer: FULL,
-                    rule: 0,
-                    steps: self.steps,
-                    rewrites: self.rewrites,
-                    put: self.put,
-                },
-                Some(rewritten) => Flat {
+            let rewritten = areas::rewrite(settled, waiting, rules, bytes, words, matched - 1)?;
+            return Some(Stepped {
+                head: Head {
                     settled: rewritten.settled,
                     waiting: rewritten.waiting,
-                    answer: number_of(rewritten.verdict),
+                    verdict: rewritten.verdict,
                     rule: rewritten.rule,
-                    steps: self.steps,
-                    rewrites: self.rewrites + 1,
-                    put: self.put + rewritten.put,
                 },
-            };
+                counts: Counts {
+                    steps: 1,
+                    rewrites: 1,
+                    put: rewritten.put,
+                },
+            });
         }
         bytes[first] = 0;
         bytes[settled] = symbol;
         words[settled] = next as u16;
-        Flat {
-            settled: settled + 1,
-            waiting: self.waiting - 1,
-            answer: 0,
-            rule: 0,
-            steps: self.steps,
-            rewrites: self.rewrites,
-            put: self.put,
-        }
-    }
-
-    // The end of a run that took these steps.
-    fn ended(self, answer: u64, rule: usize, steps: u32) -> Flat
-        requires { self.steps + steps < 18446744073709551616 }
-        ensures { result
-            ≡ record {
-              settled = self.settled;
-              waiting = self.waiting;
-              answer = answer;
-              rule = rule;
-              steps = self.steps + steps;
-              rewrites = self.rewrites;
-              put = self.put;
-            } }
-    {
-        Flat {
-            settled: self.settled,
-            waiting: self.waiting,
-            answer: answer,
-            rule: rule,
-            steps: self.steps + (steps as u64),
-            rewrites: self.rewrites,
-            put: self.put,
-        }
+        Some(Stepped {
+            head: Head {
+                settled: settled + 1,
+                waiting: waiting - 1,
+                verdict: None,
+                rule: 0,
+            },
+            counts: Counts {
+                steps: 1,
+                rewrites: 0,
+                put: 0,
+            },
+        })
     }
 
     // A call's run, where no verdict stands: document 01's tests in their order. Before the first step that is whether a symbol waits;
     // the tests that follow a step stand behind it, where the compiler knows which of them its branch decides.
+    #[inline(always)]
     pub(crate) fn run(
         self,
         rules: Rules<'_>,
         bytes: &mut [u8],
         words: &mut [u16],
         fuel: u32,
-    ) -> Flat
-        requires lent { PassedWith rules (active self bytes.old words.old) }
-        requires sums { self.steps + self.rewrites + self.put + 10 * fuel < 18446744073709551616 }
-        ensures outcome { ran_from result bytes.new words.new
-            ≡ upon (counts_in self) (outcome (set_by rules.entry) (length bytes.old)
-            (active self bytes.old words.old) None
-            (run (set_by rules.entry).rules (length bytes.old) fuel
-            (state_of (active self bytes.old words.old)))) }
-        ensures number { answer_number (Ok (answer_from result.answer)) ≡ result.answer }
+    ) -> Returned
+        requires lent { PassedWith rules (lent self bytes.old words.old) }
+        requires undecided { self.verdict ≡ None }
+        ensures { outcome_from result bytes.new words.new
+            ≡ outcome (set_by rules.entry) (length bytes.old) (lent self bytes.old words.old) None
+            (run (set_by rules.entry).rules (length bytes.old) fuel (state_of (lent self bytes.old words.old))) }
     {
-        if self.waiting == 0 {
-            return self.ended(QUIET, 0, 0);
-        }
         let mut head = self;
-        let mut left = fuel;
-        loop {
-            if left == 0 {
-                return head.ended(SPENT, 0, fuel);
+        let mut counts = Counts::NONE;
+        if head.waiting == 0 {
+            return head.ended(Answer::Quiet, counts);
+        }
+        for _ in 0..fuel {
+            match head.step(rules, bytes, words) {
+                None => return head.ended(Answer::Full, counts),
+                Some(stepped) => {
+                    head = stepped.head;
+                    counts = plus(counts, stepped.counts);
+                }
             }
-            let next = head.step(rules, bytes, words);
-            if next.answer == FULL {
-                return head.ended(FULL, 0, fuel - left);
-            }
-            head = next;
-            left -= 1;
-            if VERDICT <= head.answer {
-                return head.ended(head.answer, head.rule, fuel - left);
+            if let Some(v) = head.verdict {
+                return head.ended(Answer::Verdict(v), counts);
             }
             if head.waiting == 0 {
-                return head.ended(QUIET, 0, fuel - left);
+                return head.ended(Answer::Quiet, counts);
             }
         }
+        head.ended(Answer::Spent, counts)
     }
 }

@@ -1,12 +1,9 @@
 -- `monitor::Head::batch` meets its contract: refused by the first of its checks that fails, or the offers one after another.
 use Rattle.std.proofs.Common.{length, ◌∙◌}
 use Rattle.machine.specs.Areas.{document_capacity, Monitor}
-use Rattle.machine.specs.Lent.{Passed, offer_or_go_on}
+use Rattle.machine.specs.Lent.{Passed}
 use Rattle.monitor.specs.Lent.{lent}
 use Rattle.layout.specs.Refusals.{refusal_number, refused_by}
-use Rattle.machine.specs.Play.{offers_of}
-use Rattle.machine.specs.Batch.{offers}
-use Rattle.machine.proofs.AnswerNumbers.{passed_verdict}
 use Rattle.machine.proofs.Offering.{passed_sizes}
 use Rattle.machine.proofs.BatchChecks.{
   passed_image,
@@ -70,34 +67,27 @@ index-requires c =
     let t = c.in-Ok.table in
     (passed_image document_capacity t.image.bytes.now t.words.now (given s) c.in-Ok.ensures.2).1
 
-pub flat-requires : goal.flat-requires
-flat-requires c =
-    let s = (goal.at.flat-requires c).Start in
-    let t = c.in-Ok.table in
-    passed_verdict document_capacity t.image.bytes.now t.words.now (given s) c.in-Ok.ensures.2
-
-pub in_turn-r-requires : goal.in_turn-r-requires
-in_turn-r-requires c =
-    let s = (goal.at.in_turn-r-requires c).Start in
+pub in_turn-series-requires : goal.in_turn-series-requires
+in_turn-series-requires c =
+    let s = (goal.at.in_turn-series-requires c).Start in
     let t = c.in-Ok.table in
     let passed : Passed (length c.args.bytes.now) t.image.bytes.now t.words.now (given s) =
     rw (passed_sizes document_capacity t.image.bytes.now t.words.now (given s) c.in-Ok.ensures.2).0 c.in-Ok.ensures.2
     in
     record {
-      lent = rw c.flat.ensures.head passed;
-      counts = c.flat.ensures.counts;
+      lent = passed;
       few = c.if-events-gt-EVENTS_MOST.false;
       room = c.if-answers-events.false;
     }
 
 pub returns : goal.returns
-unfolding refusal_number refused_by offers offers_of offer_or_go_on
+unfolding refusal_number refused_by
 returns c =
     let s = (goal.at.returns c).Start in
     let image = c.in-Ok.table.image.bytes.now in
     let table = c.in-Ok.table.words.now in
     let ok = c.in-Ok.ensures.2 in
-    rw (c.head.ensures, c.counts.ensures, ← c.in-Ok.ensures.0, ← c.in-Ok.ensures.1)
-    (rw ((passed_sizes document_capacity image table (given s) ok).0, c.flat.ensures.head) at c.in_turn-r.ensures.calls
+    rw (← c.in-Ok.ensures.0, ← c.in-Ok.ensures.1)
+    (rw (passed_sizes document_capacity image table (given s) ok).0 at c.in_turn-series.ensures
     ∙ batch-taken document_capacity image table (given s) c.args.events.now c.args.fuel c.args.answers.now ok
     c.if-fuel-gt-FUEL_MOST.false c.if-events-gt-EVENTS_MOST.false c.if-answers-events.false)

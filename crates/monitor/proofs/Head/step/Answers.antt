@@ -1,19 +1,16 @@
--- `monitor::flat::Flat::step` meets its contract: the symbol is settled, or its rule rewrites.
+-- `monitor::Head::step` meets its contract: the symbol is settled, or its rule rewrites.
 use Prim.Native.Nat.{ℕ, ◌-◌}
-use mathlib.Core.Path.{◌≡◌, refl, ap, ◌∙◌}
-use mathlib.Core.Bool.{true, false}
+use mathlib.Core.Path.{◌≡◌, refl, ◌∙◌}
 use mathlib.Core.List.{List, ◌∷◌}
 use native.Mathlib.Omega.{arith}
 use lib.ListN.{length, get_or, length-set}
 use Rattle.layout.specs.Image.{read}
 use Rattle.machine.specs.Areas.{Monitor, state_of}
-use Rattle.machine.specs.Lent.{added_to}
 use Rattle.monitor.specs.Lent.{active}
 use Rattle.machine.proofs.Stepping.{Held, held, waits, settled_step}
-use Rattle.machine.proofs.Running.{added_none, tried_counts}
 use Rattle.machine.proofs.Looking.{no_match_lem, some_match, symbol-is, next_asks, next-is, next_small, match_asks, match_is}
-use Rattle.monitor.proofs.flat.Flat.step.Goals.{Start}
-use Rattle.monitor.proofs.flat.Flat.step.Goals as goal
+use Rattle.monitor.proofs.Head.step.Goals.{Start}
+use Rattle.monitor.proofs.Head.step.Goals as goal
 
 -- what is lent
 
@@ -63,54 +60,21 @@ match_word-matched-requires c =
     (one s).1 (one s).2 _ _ _ c.word_before-q.ensures (c.from.ensures ∙ symbol s)
     (rw (c.args.rules.table.rows_first, c.args.rules.table.row_width) at c.next-next.ensures))
 
-pub rewrite-requires : goal.rewrite-requires
-rewrite-requires c =
-    let s = (goal.at.rewrite-requires c).Start in
+pub rewrite-requires-clause-next : goal.rewrite-requires-clause-next
+rewrite-requires-clause-next c =
+    let s = (goal.at.rewrite-requires-clause-next c).Start in
     let image = c.args.rules.table.image.bytes.now in
     let table = c.args.rules.table.words.now in
-    let capacity = length c.args.bytes.now in record {
-      lent = c.requires.lent;
-      next = (
-        (one s).0,
-        (one s).1,
-        (one s).2,
-        some_match _ _
-            (match_is capacity image table (given s) c.requires.lent (one s).0 (one s).1 (one s).2 _
-            (next-is capacity image table (given s) c.requires.lent (one s).0 (one s).1 (one s).2 _ _ _
-            c.word_before-q.ensures (c.from.ensures ∙ symbol s) (rw (c.args.rules.table.rows_first, c.args.rules.table.row_width) at c.next-next.ensures)) _
-            c.match_word-matched.ensures) c.if-matched-ne0.true,
-      );
-    }
-
-pub returns-in-None : goal.returns-in-None
-returns-in-None c = record {
-  tried = added_none false _ _ _ _ c.in-None.ensures.tried;
-  steps = refl;
-}
-
-pub number_of-requires : goal.number_of-requires
-number_of-requires c = c.in-Some.ensures.verdict
-
-pub overflow_add-result : goal.overflow_add-result
-overflow_add-result c = omega (arith, c.requires.sums)
-
-pub overflow_add-result-in-Some : goal.overflow_add-result-in-Some
-overflow_add-result-in-Some c =
-    let s = (goal.at.overflow_add-result-in-Some c).Start in
-    omega (
-      arith,
-      c.requires.sums,
-      tried_counts (length c.args.bytes.now) c.args.rules.table.image.bytes.now c.args.rules.table.words.now (given s) c.requires.lent (one s).0 (one s).1 (one s).2 _
-          c.in-Some.ensures.tried,
+    let capacity = length c.args.bytes.now in (
+      (one s).0,
+      (one s).1,
+      (one s).2,
+      some_match _ _
+          (match_is capacity image table (given s) c.requires.lent (one s).0 (one s).1 (one s).2 _
+          (next-is capacity image table (given s) c.requires.lent (one s).0 (one s).1 (one s).2 _ _ _
+          c.word_before-q.ensures (c.from.ensures ∙ symbol s) (rw (c.args.rules.table.rows_first, c.args.rules.table.row_width) at c.next-next.ensures)) _
+          c.match_word-matched.ensures) c.if-matched-ne0.true,
     )
-
-pub returns-in-Some : goal.returns-in-Some
-returns-in-Some c = record {
-  tried =
-      rw (c.number_of.ensures.stands, c.number_of.ensures.fits)
-      (ap (added_to c.args.self.rewrites c.args.self.put) c.in-Some.ensures.tried);
-  steps = refl;
-}
 
 pub bounds-bytes-first-2 : goal.bounds-bytes-first-2
 bounds-bytes-first-2 c =
@@ -145,25 +109,22 @@ bounds-words-settled c =
     let s = (goal.at.bounds-words-settled c).Start in
     omega (arith, facts s, c.requires.waiting)
 
-pub overflow_add-result-2 : goal.overflow_add-result-2
-overflow_add-result-2 c =
-    let s = (goal.at.overflow_add-result-2 c).Start in
+pub overflow_add-result : goal.overflow_add-result
+overflow_add-result c =
+    let s = (goal.at.overflow_add-result c).Start in
     omega (arith, facts s, c.requires.waiting)
 
-pub returns : goal.returns
-returns c =
-    let s = (goal.at.returns c).Start in
+pub returns-clause-tried : goal.returns-clause-tried
+returns-clause-tried c =
+    let s = (goal.at.returns-clause-tried c).Start in
     let bytes = c.args.bytes.now in
     let image = c.args.rules.table.image.bytes.now in
     let table = c.args.rules.table.words.now in
     let next = next-is (length bytes) image table (given s) c.requires.lent (one s).0 (one s).1 (one s).2 _ _ _
-    c.word_before-q.ensures (c.from.ensures ∙ symbol s) (rw (c.args.rules.table.rows_first, c.args.rules.table.row_width) at c.next-next.ensures) in record {
-      tried = rw (symbol s)
-          (added_none true _ _ _ _
-          (settled_step (read image) (length bytes) (given s) (facts s) (one s).0 (one s).1 (one s).2
-          (no_match_lem _ _
-          (match_is (length bytes) image table (given s) c.requires.lent (one s).0 (one s).1 (one s).2 _ next _
-          c.match_word-matched.ensures)
-          c.if-matched-ne0.false) _ _ refl next));
-      steps = refl;
-    }
+    c.word_before-q.ensures (c.from.ensures ∙ symbol s) (rw (c.args.rules.table.rows_first, c.args.rules.table.row_width) at c.next-next.ensures) in
+    rw (symbol s)
+    (settled_step (read image) (length bytes) (given s) (facts s) (one s).0 (one s).1 (one s).2
+    (no_match_lem _ _
+    (match_is (length bytes) image table (given s) c.requires.lent (one s).0 (one s).1 (one s).2 _ next _
+    c.match_word-matched.ensures)
+    c.if-matched-ne0.false) _ _ refl next)
