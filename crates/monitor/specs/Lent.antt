@@ -1,5 +1,5 @@
 -- How the code speaks of the definitions of the crate machine: what it is lent, and what it gives back.
-use Rattle.std.specs.Prelude.{ℕ, true, false, List, Option, None, Some, option_map}
+use Rattle.std.specs.Prelude.{ℕ, true, false, List, Option, None, Some, option_map, Result, Ok, Err}
 use Rattle.monitor.specs.declared.Head.{Head}
 use Rattle.monitor.specs.declared.Begun.{Begun}
 use Rattle.monitor.specs.declared.Returned.{Returned}
@@ -12,6 +12,7 @@ use Rattle.machine.specs.Areas as Areas
 use Rattle.machine.specs.Areas.{Monitor}
 use Rattle.machine.specs.Calls.{Fresh, Outcome}
 use Rattle.machine.specs.Batch.{Batched}
+use Rattle.machine.specs.Run.{no_counts}
 use Rattle.machine.specs.Lent.{monitor_with, Tried}
 
 -- the head, as the definitions have it
@@ -67,4 +68,17 @@ series_from r bytes words answers =
       counts = r.counts;
       answers = answers;
       monitor = lent r.head bytes words;
+    }
+
+-- The same, or the refusal of a batch, which leaves the head as it was.
+abbrev pub offers_from : Head → Result Series Refusal → List ℕ → List ℕ → List ℕ → Batched
+offers_from head (Ok r) bytes words answers = series_from r bytes words answers
+offers_from head (Err refusal) bytes words answers =
+    record {
+      refused = Some (number refusal);
+      stop = 0;
+      accepted = 0;
+      counts = no_counts;
+      answers = answers;
+      monitor = lent head bytes words;
     }

@@ -9,10 +9,11 @@ ghost use Rattle.machine.specs.Run.{no_counts};
 ghost use Rattle.machine.specs.Calls.{fresh_of, lent_checks, call_of, offer_of, go_on_of};
 ghost use Rattle.machine.specs.Lent.{Passed, offer_or_go_on};
 ghost use Rattle.machine.specs.Batch.{batch_of};
-ghost use Rattle.monitor.specs.Lent.{lent, fresh_from, outcome_from, batch_from};
+ghost use Rattle.monitor.specs.Lent.{lent, fresh_from, outcome_from, offers_from, batch_from};
 
 use areas::rules::{Rules, Table};
 use areas::{described, held};
+use decide::Series;
 use image::Image;
 use layout::Refusal;
 pub use machine::{Answer, Counts};
@@ -100,19 +101,6 @@ impl Head {
         Returned {
             head: self,
             answer: Err(refusal),
-            counts: Counts::NONE,
-        }
-    }
-
-    // A refusal of a batch.
-    fn batch_refused(self, refusal: Refusal) -> BatchReturned
-        ensures { result ≡ record { head = self; answer = Err refusal; stop = None; accepted = 0; counts = no_counts } }
-    {
-        BatchReturned {
-            head: self,
-            answer: Err(refusal),
-            stop: None,
-            accepted: 0,
             counts: Counts::NONE,
         }
     }
@@ -213,7 +201,40 @@ impl Head {
         self.once(image, table, bytes, words, None, fuel)
     }
 
-    // The offers of all events, up to the first that is refused, with the dear checks made once.
+    // The offers of a batch, up to the first that is refused, with the dear checks made once; or the refusal of the batch.
+    #[inline(always)]
+    fn offers(
+        self,
+        image: &[u8],
+        table: &[u16],
+        bytes: &mut [u8],
+        words: &mut [u16],
+        events: &[u8],
+        fuel: u32,
+        answers: &mut [u8],
+    ) -> Result<Series, Refusal>
+        ensures { offers_from self result bytes.new words.new answers.new
+            ≡ batch_of document_capacity image.now table.now (lent self bytes.old words.old)
+            events.now fuel answers.old }
+    {
+        let table = self.check_lent(image, table, bytes, words)?;
+        if FUEL_MOST < fuel {
+            return Err(Refusal::TooMuchFuel);
+        }
+        if EVENTS_MOST < events.len() || answers.len() < events.len() {
+            return Err(Refusal::BatchLength);
+        }
+        let mut starts = [0u16; 64];
+        held::index(table.image, &mut starts);
+        let rules = Rules {
+            table,
+            starts: &starts,
+        };
+        Ok(self.in_turn(rules, bytes, words, events, fuel, answers))
+    }
+
+    // The offers of all events, up to the first that is refused.
+    #[tactic(auto, unfolding(layout::specs::Refusals::refused_by, layout::specs::Refusals::refusal_number, machine::specs::Run::no_counts))]
     pub fn batch(
         self,
         image: &[u8],
@@ -228,29 +249,21 @@ impl Head {
             ≡ batch_of document_capacity image.now table.now (lent self bytes.old words.old)
             events.now fuel answers.old }
     {
-        let table = match self.check_lent(image, table, bytes, words) {
-            Err(refusal) => return self.batch_refused(refusal),
-            Ok(table) => table,
-        };
-        if FUEL_MOST < fuel {
-            return self.batch_refused(Refusal::TooMuchFuel);
-        }
-        if EVENTS_MOST < events.len() || answers.len() < events.len() {
-            return self.batch_refused(Refusal::BatchLength);
-        }
-        let mut starts = [0u16; 64];
-        held::index(table.image, &mut starts);
-        let rules = Rules {
-            table,
-            starts: &starts,
-        };
-        let series = self.in_turn(rules, bytes, words, events, fuel, answers);
-        BatchReturned {
-            head: series.head,
-            answer: Ok(()),
-            stop: series.stop,
-            accepted: series.accepted,
-            counts: series.counts,
+        match self.offers(image, table, bytes, words, events, fuel, answers) {
+            Ok(series) => BatchReturned {
+                head: series.head,
+                answer: Ok(()),
+                stop: series.stop,
+                accepted: series.accepted,
+                counts: series.counts,
+            },
+            Err(refusal) => BatchReturned {
+                head: self,
+                answer: Err(refusal),
+                stop: None,
+                accepted: 0,
+                counts: Counts::NONE,
+            },
         }
     }
 }
