@@ -17,7 +17,7 @@ use Rattle.std.specs.declared.ops.Range.{Range}
 use Rattle.grammar.specs.Tokens.{unbroken}
 use Rattle.grammar.specs.FirstRun.{gap, first_run}
 use Rattle.grammar.proofs.Runs.{unbroken-take, run_end}
-use Rattle.std.specs.Prelude.{Some}
+use Rattle.std.specs.Prelude.{None, Some, Option, option_map}
 use Rattle.std.specs.List.{position, position_or_len}
 use Rattle.std.specs.Option.{unwrap_or}
 use Rattle.std.proofs.lemmas.List.Recursion.{is_position_or_len}
@@ -26,10 +26,12 @@ use Rattle.machine.specs.Calls.{Outcome}
 use Rattle.lines.specs.Wrote.{Written, Writes, area, empty}
 use Rattle.printing.specs.Lines.{space, newline, answer_word, told, event_line}
 use Rattle.printing.specs.Watch.{percent, rule_part, Watch, offered_name, line_for}
-use Rattle.printing.specs.Turns.{Next, nothing, offering, named, first_named, next_of, Turn, turn_of}
-use Rattle.report.specs.declared.Memory.{Memory}
+use Rattle.printing.specs.Turns as Turns
+use Rattle.printing.specs.Turns.{Next, Events, nothing, offering, named, first_named, next_of, Turn, turn_of}
+use Rattle.report.specs.declared.RuleAreas.{RuleAreas}
+use Rattle.report.specs.declared.MonitorAreas.{MonitorAreas}
 use Rattle.report.specs.declared.Walk.{Walk}
-use Rattle.report.specs.Lent.{walk_in, watched, turn_from}
+use Rattle.report.specs.Lent.{walk_in, begun_in, watched, turn_from}
 
 -- the rule text ends where the first `%` is found
 rule_none : length (rule_part []) ≡ 0
@@ -70,7 +72,8 @@ next_end w input at h = rw (drop_of_length-le input h) (go (leb (length input) 2
     go false = refl
 
 -- The first run from a place on, as it is found in that part of the input.
-module _ (input : List ℕ) (at : ℕ) (r : Range ℕ) (found : r ≡ first_run (take (length input - at) (drop at input))) (inside : at < length input) where
+module _ (input : List ℕ) (at : ℕ) (r : Range ℕ) (found : r ≡ first_run (take (length input - at) (drop at input)))
+    (inside : at < length input) where
   abbrev pub name_there : List ℕ
   name_there = unbroken (drop (gap (drop at input)) (drop at input))
 
@@ -94,7 +97,8 @@ module _ (input : List ℕ) (at : ℕ) (r : Range ℕ) (found : r ≡ first_run 
   run-bytes =
       let size : at + r.end - (at + r.start) ≡ length name_there = omega (arith, run-starts, run_ends) in
       let place : at + r.start ≡ at + gap (drop at input) = omega (arith, run-starts) in
-      rw (size, place, ← drop-drop (gap (drop at input)) at input) (sym (unbroken-take (drop (gap (drop at input)) (drop at input))))
+      rw (size, place, ← drop-drop (gap (drop at input)) at input)
+      (sym (unbroken-take (drop (gap (drop at input)) (drop at input))))
 
   pub run_short : length input ≤ 20480 → length (take (at + r.end - (at + r.start)) (drop (at + r.start) input)) ≤ 20480
   run_short h = rw run-bytes (omega (arith, run_ends, run_inside.1))
@@ -166,27 +170,32 @@ turn_is n walk head bytes words a line is there monitor i =
 
 -- .. or nothing, where no name is left
 pub turn_nothing :
-    (n : Next) (walk : Walk) (m : Memory) (line : Written) → n ≡ nothing (watched walk m) walk.at → line ≡ empty (area m.line)
-    → (record { walk = walk_in walk; length = length line.bytes; bytes = m.bytes; words = m.words; buffer = area line })
-    ≡ turn_of (walk_in walk) n (area m.line)
+    (n : Next) (walk : Walk) (r : RuleAreas) (m : MonitorAreas) (line left : Written) → n ≡ nothing (watched walk r m) walk.at
+    → left ≡ empty (area line) → turn_from walk None m left ≡ turn_of (walk_in walk) n (area line)
 unfolding turn_of over nothing
-turn_nothing n walk m line e cleared = rw (e, cleared) refl
+turn_nothing n walk r m line left e cleared = rw (e, cleared) refl
 
 -- the walk goes on where the name ends, and the line has a byte
 pub turn_place :
-    (w : Watch) (walk next : Walk) (end : ℕ) (x a : List ℕ) (m : Memory)
-    → turn_from walk (Some next) m ≡ turn_of (walk_in walk) (offering w end x) a → next.at ≡ end
+    (w : Watch) (walk next : Walk) (end : ℕ) (x a : List ℕ) (m : MonitorAreas) (line : Written)
+    → turn_from walk (Some next) m line ≡ turn_of (walk_in walk) (offering w end x) a → next.at ≡ end
 unfolding turn_of offering
-turn_place w walk next end x a m e = ap (λ (t : Turn). t.walk.at) e
+turn_place w walk next end x a m line e = ap (λ (t : Turn). t.walk.at) e
 
 pub turn_some :
-    (w : Watch) (walk next : Walk) (end : ℕ) (x a : List ℕ) (m : Memory)
-    → turn_from walk (Some next) m ≡ turn_of (walk_in walk) (offering w end x) a → 0 < length m.line.bytes
+    (w : Watch) (walk next : Walk) (end : ℕ) (x a : List ℕ) (m : MonitorAreas) (line : Written)
+    → turn_from walk (Some next) m line ≡ turn_of (walk_in walk) (offering w end x) a → 0 < length line.bytes
 unfolding turn_of offering line_for event_line
-turn_some w walk next end x a m e =
+turn_some w walk next end x a m line e =
     let o : Outcome = offered_name w x in
     let behind : List ℕ = answer_word w.names o.answer ++ space ∷ (told w.names o o.answer ++ newline ∷ []) in
     omega (arith, ap (λ (t : Turn). t.length) e, length-append x (space ∷ behind))
+
+-- a walk that is begun
+pub begun_events :
+    (r : Option Walk) (w : Turns.Walk) (line : Written) → option_map walk_in r ≡ Some w → begun_in r line ≡ Events w
+begun_events None w line e = cc
+begun_events (Some walk) w line e = cc
 
 -- the first part of an area, as the code takes it
 pub first_part : (n most : ℕ) (area : List ℕ) → length area ≡ most → take (min n most) area ≡ take n area

@@ -8,7 +8,7 @@ use grammar::NAMES_BYTES;
 use layout::{IMAGE_BYTES, TABLE_WORDS};
 use lines::{LINE_BYTES, Line};
 use machine::CAPACITY;
-use report::{INPUT_BYTES, Memory, Walk};
+use report::{INPUT_BYTES, MonitorAreas, RuleAreas, Walk};
 use std::io::{Read, Write};
 
 // Reads until the buffer is full, the input ends or a read fails, and tells how many bytes there are: the library's
@@ -27,10 +27,17 @@ fn read_full<R: Read>(from: &mut R, buf: &mut [u8]) -> usize
 }
 
 // Writes the lines of the events, up to the last or to the first that cannot be written.
-fn write_lines<W: Write>(to: &mut W, first: Walk, input: &[u8], memory: &mut Memory) {
+fn write_lines<W: Write>(
+    to: &mut W,
+    first: Walk,
+    input: &[u8],
+    rules: &RuleAreas,
+    areas: &mut MonitorAreas,
+    line: &mut Line<LINE_BYTES>,
+) {
     let mut walk = first;
-    while let Some(next) = walk.next(input, memory) {
-        if to.write_all(memory.line.bytes()).is_err() {
+    while let Some(next) = walk.next(input, rules, areas, line) {
+        if to.write_all(line.bytes()).is_err() {
             break;
         }
         walk = next;
@@ -40,19 +47,21 @@ fn write_lines<W: Write>(to: &mut W, first: Walk, input: &[u8], memory: &mut Mem
 fn main(rt: HostRuntime) {
     let mut input = [0u8; INPUT_BYTES + 1];
     let n = read_full(&mut rt.stdin(), &mut input);
-    let mut memory = Memory {
+    let mut rules = RuleAreas {
         image: [0; IMAGE_BYTES],
         names: [0; NAMES_BYTES],
         table: [0; TABLE_WORDS],
+    };
+    let mut areas = MonitorAreas {
         bytes: [0; CAPACITY],
         words: [0; CAPACITY],
-        line: Line::new([0; LINE_BYTES]),
     };
+    let mut line = Line::new([0; LINE_BYTES]);
     let mut out = rt.stdout();
-    match memory.begin(&input[..n]) {
+    match report::begin(&input[..n], &mut rules, &mut areas, &mut line) {
         None => {
-            let _ = out.write_all(memory.line.bytes());
+            let _ = out.write_all(line.bytes());
         }
-        Some(walk) => write_lines(&mut out, walk, &input[..n], &mut memory),
+        Some(walk) => write_lines(&mut out, walk, &input[..n], &rules, &mut areas, &mut line),
     }
 }

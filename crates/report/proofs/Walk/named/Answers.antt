@@ -48,7 +48,7 @@ put_told-requires c = (
 pub returns-in-None-clause-turn : goal.returns-in-None-clause-turn
 unfolding offering offered_name offered
 returns-in-None-clause-turn c =
-    let w = watched c.args.self c.args.memory.now in
+    let w = watched c.args.self c.args.rules.now c.args.areas.now in
     let unknown = sym c.symbol.ensures ∙ c.in-None.is in
     let line = writes_as (line_unknown w c.args.x.now unknown)
     (writes_then c.put.ensures (writes_then c.put_byte.ensures (rw c.number.ensures at c.put_refused.ensures))) in
@@ -58,10 +58,10 @@ pub returns-in-Some-clause-turn : goal.returns-in-Some-clause-turn
 unfolding offering offered_name offered
 returns-in-Some-clause-turn c =
     let self = c.args.self in
-    let memory = c.args.memory.now in
-    let w = watched self memory in
-    let image = first_part self.image 1284 memory.image (omega arith) in
-    let table = first_part self.table 16964 memory.table (omega arith) in
+    let rules = c.args.rules.now in
+    let w = watched self rules c.args.areas.now in
+    let image = first_part self.image 1284 rules.image (omega arith) in
+    let table = first_part self.table 16964 rules.table (omega arith) in
     let known = sym c.symbol.ensures ∙ c.in-Some.is in
     let made = rw (c.min.ensures, c.min-in-Some.ensures, image, table) at c.offer-called.ensures in
     let line = writes_as (line_offered w c.args.x.now _ _ _ _ known made)

@@ -18,11 +18,13 @@ use Rattle.report.proofs.Walk.next.Goals as goal
 
 pub returns-then-input-gt-INPUT_BYTES-clause-turn : goal.returns-then-input-gt-INPUT_BYTES-clause-turn
 returns-then-input-gt-INPUT_BYTES-clause-turn c =
-    turn_nothing _ c.args.self c.args.memory.now _ (next_long _ _ _ c.if-input-gt-INPUT_BYTES.true) c.clear.ensures.line
+    turn_nothing _ c.args.self c.args.rules.now c.args.areas.now c.args.line.now _
+    (next_long _ _ _ c.if-input-gt-INPUT_BYTES.true) c.clear.ensures.line
 
 pub returns-then-input-at-clause-turn : goal.returns-then-input-at-clause-turn
 returns-then-input-at-clause-turn c =
-    turn_nothing _ c.args.self c.args.memory.now _ (next_end _ _ _ c.if-input-at.true) c.clear.ensures.line
+    turn_nothing _ c.args.self c.args.rules.now c.args.areas.now c.args.line.now _
+    (next_end _ _ _ c.if-input-at.true) c.clear.ensures.line
 
 pub overflow_add-from : goal.overflow_add-from
 overflow_add-from c =
@@ -39,7 +41,7 @@ overflow_add-to c =
 
 pub returns-then-from-to-clause-turn : goal.returns-then-from-to-clause-turn
 returns-then-from-to-clause-turn c =
-    turn_nothing _ c.args.self c.args.memory.now _
+    turn_nothing _ c.args.self c.args.rules.now c.args.areas.now c.args.line.now _
     (next-none c.args.input.now c.args.self.at _ c.first_run-run.ensures c.if-input-at.false _ c.if-input-gt-INPUT_BYTES.false
     c.if-from-to.true) c.clear.ensures.line
 
@@ -63,7 +65,7 @@ pub returns-clause-turn : goal.returns-clause-turn
 returns-clause-turn c =
     let input = c.args.input.now in
     let self = c.args.self in
-    let w = watched self c.args.memory.now in
+    let w = watched self c.args.rules.now c.args.areas.now in
     let next = next-some input self.at _ c.first_run-run.ensures c.if-input-at.false w c.if-input-gt-INPUT_BYTES.false
     c.if-from-to.false in
     let bytes = run-bytes input self.at _ c.first_run-run.ensures c.if-input-at.false in
@@ -73,8 +75,8 @@ pub returns-clause-onward : goal.returns-clause-onward
 returns-clause-onward c =
     let input = c.args.input.now in
     let self = c.args.self in
-    let place = turn_place _ _ _ _ _ _ c.named.new.memory c.named.ensures.turn in
+    let place = turn_place _ _ _ _ _ _ c.named.new.areas c.named.new.line c.named.ensures.turn in
     let onward = run_onward input self.at _ c.first_run-run.ensures c.if-input-at.false c.if-from-to.false in (
-      turn_some _ _ _ _ _ _ c.named.new.memory c.named.ensures.turn,
+      turn_some _ _ _ _ _ _ c.named.new.areas c.named.new.line c.named.ensures.turn,
       (omega (arith, place, onward.0), omega (arith, place, onward.1)),
     )

@@ -1,4 +1,4 @@
--- `Memory::begin` meets its contract: too long, refused, or ready for the first event.
+-- `begin` meets its contract: too long, refused, or ready for the first event.
 use Prim.Native.Nat.{ℕ}
 use mathlib.Core.List.{List}
 use mathlib.Core.Path.{refl, sym, ap, ◌∙◌}
@@ -7,23 +7,20 @@ use lib.ListN.{length, take}
 use lib.Seq.{length-take-le}
 use Rattle.printing.specs.Ascii.{bytes}
 use Rattle.printing.specs.Lines.{refused_line, too_long_line}
-use Rattle.layout.specs.Image.{read}
-use Rattle.layout.specs.Table.{table_of}
-use Rattle.printing.specs.Watch.{fresh_monitor, rule_text_read}
-use Rattle.printing.specs.Turns.{Events}
+use Rattle.printing.specs.Watch.{rule_text_read}
 use Rattle.rewriting.specs.Lists.{over}
 use Rattle.lines.specs.Wrote.{Written, area}
 use Rattle.report.specs.Lent.{areas_in}
 use Rattle.printing.proofs.Split.{rule_part_le, rule-text}
 use Rattle.printing.proofs.Starting.{GoodRead, read_bad, read_good, begin_long, begin_bad, begin_good, message-is, ready_is}
-use Rattle.report.proofs.Walking.{line_bytes, line_area, line_kept}
-use Rattle.report.proofs.Memory.begin.Goals as goal
-use Rattle.report.proofs.Memory.begin.Goals.{In-Ok}
+use Rattle.report.proofs.Walking.{begun_events, line_bytes, line_area, line_kept}
+use Rattle.report.proofs.begin.Goals as goal
+use Rattle.report.proofs.begin.Goals.{In-Ok}
 
 pub returns-then-input-gt-INPUT_BYTES-clause-outcome : goal.returns-then-input-gt-INPUT_BYTES-clause-outcome
 unfolding too_long_line bytes
 returns-then-input-gt-INPUT_BYTES-clause-outcome c =
-    let l = areas_in c.args.self.now in
+    let l = areas_in c.args.rules.now c.args.areas.now c.args.message.now in
     let begins = ap (λ (w : Written). w.bytes) c.clear.ensures.line in
     let there = ap area c.clear.ensures.line in
     (message-is _ l too_long_line _ _ _ _ (begin_long _ l c.if-input-gt-INPUT_BYTES.true) refl refl
@@ -37,28 +34,28 @@ slice_bounds-read_rules-end c =
 -- the rule text is taken
 good_read :
     (c : In-Ok)
-    → GoodRead (take c.rule_length-end.result c.args.input.now) c.args.self.now.image c.args.self.now.names c.in-Ok.size
+    → GoodRead (take c.rule_length-end.result c.args.input.now) c.args.rules.now.image c.args.rules.now.names c.in-Ok.size
 good_read c =
-    read_good _ c.args.self.now.image c.args.self.now.names _ _ (omega arith) (omega arith) c.read_rules.ensures.answer
+    read_good _ c.args.rules.now.image c.args.rules.now.names _ _ (omega arith) (omega arith) c.read_rules.ensures.answer
     c.in-Ok.is
 
-pub make_ready-requires-clause-inside : goal.make_ready-requires-clause-inside
-make_ready-requires-clause-inside c =
-    let good = good_read (goal.at.make_ready-requires-clause-inside c).In-Ok in
+pub shared_ref_as_front-make_ready : goal.shared_ref_as_front-make_ready
+shared_ref_as_front-make_ready c =
+    let good = good_read (goal.at.shared_ref_as_front-make_ready c).In-Ok in
     omega (arith, good.image_short, c.read_rules.auto.image)
 
-pub make_ready-requires-clause-rules : goal.make_ready-requires-clause-rules
-make_ready-requires-clause-rules c =
-    let good = good_read (goal.at.make_ready-requires-clause-rules c).In-Ok in
+pub make_ready-requires : goal.make_ready-requires
+make_ready-requires c =
+    let good = good_read (goal.at.make_ready-requires c).In-Ok in
     rw (c.read_rules.ensures.image, good.image_there) good.rules-valid
 
 pub returns-in-Err-clause-outcome : goal.returns-in-Err-clause-outcome
 returns-in-Err-clause-outcome c =
-    let l = areas_in c.args.self.now in
+    let l = areas_in c.args.rules.now c.args.areas.now c.args.message.now in
     let begins = ap (λ (w : Written). w.bytes) c.clear.ensures.line in
     let there = ap area c.clear.ensures.line in
     let text = rule-text _ _ c.rule_length-end.ensures in
-    let bad = read_bad _ c.args.self.now.image c.args.self.now.names _ _ (omega arith) (omega arith) c.read_rules.ensures.answer
+    let bad = read_bad _ c.args.rules.now.image c.args.rules.now.names _ _ (omega arith) (omega arith) c.read_rules.ensures.answer
     c.in-Err.is in
     let line = rw c.number.ensures at c.put_rules_refused.ensures in
     (message-is _ l (refused_line _ _) _ _ _ _
@@ -70,19 +67,15 @@ returns-in-Err-clause-outcome c =
 
 pub returns-in-Ok-clause-outcome : goal.returns-in-Ok-clause-outcome
 returns-in-Ok-clause-outcome c =
-    let l = areas_in c.args.self.now in
+    let l = areas_in c.args.rules.now c.args.areas.now c.args.message.now in
     let text = rule-text _ _ c.rule_length-end.ensures in
     let good = good_read (goal.at.returns-in-Ok-clause-outcome c).In-Ok in
     let image = c.read_rules.ensures.image in
     let made = c.make_ready.ensures in
-    let part : List ℕ = take c.in-Ok.size c.read_rules.new.image in
-    let words = length (table_of (read part)) in
     let there = ap (λ (area : List ℕ). take c.in-Ok.size area) image ∙ good.image_there in
-    let size = good.image_size ∙ sym (ap length there) in
-    let answer = made.answer
-    ∙ ap (λ n. Events (record { head = fresh_monitor.head; at = c.events_start.result; image = n; table = words })) size in
     let begins = begin_good _ l good.reading c.if-input-gt-INPUT_BYTES.false (ap rule_text_read (sym text) ∙ good.good_text) in
-    let p = ready_is _ l good.reading _ _ part _ _ _ _ _ begins there good.rules_back c.events_start.ensures answer
-    (made.image ∙ image ∙ good.image_over) (made.names ∙ c.read_rules.ensures.names ∙ good.names_over) made.table made.bytes
+    let p = ready_is _ l good.reading _ _ _ _ _ _ _ _ begins there good.rules_back c.events_start.ensures
+    (begun_events _ _ c.clear.new.self made.answer)
+    (image ∙ good.image_over) (c.read_rules.ensures.names ∙ good.names_over) made.table made.bytes
     made.words in
-    rw (ap area made.line ∙ ap area c.clear.ensures.line) p.0
+    rw (ap area c.clear.ensures.line) p.0
