@@ -195,7 +195,7 @@ impl<const N: usize> Line<N> {
         self.put_byte(b'\n');
     }
 
-    // What is told of a call that is refused: the number.
+    // What is told of a call that is refused: the number. It may be any number: a `Refusal` here would ask more of callers.
     pub fn put_refused(&mut self, n: u32)
         requires room { 40 ≤ length self.old.behind }
         ensures { Writes (refused_word ++ space ∷ (decimal n ++ newline ∷ [])) self.old self.new }
@@ -224,7 +224,7 @@ impl<const N: usize> Line<N> {
         }
     }
 
-    // The line for a rule text that is refused.
+    // The line for a rule text that is refused: any number and any place, where a `TextError` would ask more of callers.
     pub fn put_rules_refused(&mut self, n: u32, place: usize)
         requires { 80 ≤ length self.old.behind }
         ensures { Writes (refused_line n place) self.old self.new }

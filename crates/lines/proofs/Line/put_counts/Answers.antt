@@ -10,7 +10,12 @@ put_decimal-requires g c =
 
 pub put_byte-requires : goal.put_byte-requires
 put_byte-requires g c =
-    omega (arith, c.requires.room, decimal-length 3 c.args.steps (omega (arith, c.requires.few.0)), room_left c.put_decimal.ensures)
+    omega (
+      arith,
+      c.requires.room,
+      decimal-length 3 c.args.steps (omega (arith, c.requires.few.0)),
+      room_left c.put_decimal.ensures,
+    )
 
 pub put_decimal-requires-2 : goal.put_decimal-requires-2
 put_decimal-requires-2 g c =

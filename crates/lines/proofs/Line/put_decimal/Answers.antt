@@ -7,4 +7,5 @@ pub returns : goal.returns
 returns g c =
     let made = c.write_decimal-digits.ensures in
     rw (← c.self.view_is)
-    (writes_behind _ _ _ _ _ (omega (arith, c.self.invariant, c.self.told)) (rw (← c.self.view_is) at c.requires) made.digits made.line)
+    (writes_behind _ _ _ _ _ (omega (arith, c.self.invariant, c.self.told)) (rw (← c.self.view_is) at c.requires) made.digits
+    made.line)

@@ -2,7 +2,8 @@
 use native.Mathlib.Omega.{arith}
 use Rattle.printing.proofs.SlotNames.{name-length}
 use Rattle.lines.proofs.Writing.{room_left, writes_then, writes_as}
-use Rattle.lines.proofs.Joining.{commas_length, joined_left, joined_right, joined_none, others_below, settled_below, waiting_below}
+use Rattle.lines.proofs.Joining.{commas_length, joined_left, joined_right, joined_none}
+use Rattle.lines.proofs.Joining.{others_below, settled_below, waiting_below}
 use Rattle.lines.proofs.Line.put_string.Goals as goal
 
 pub put_symbols-requires : goal.put_symbols-requires
@@ -46,7 +47,8 @@ pub put_symbols-requires-in-Some-split_first : goal.put_symbols-requires-in-Some
 put_symbols-requires-in-Some-split_first g c = (
   omega arith,
   (
-    others_below _ _ _ c.in-Some-split_first.ensures.cases.0 (waiting_below c.args.settled.now c.args.waiting.now c.requires.slots),
+    others_below _ _ _ c.in-Some-split_first.ensures.cases.0
+        (waiting_below c.args.settled.now c.args.waiting.now c.requires.slots),
     omega (
       arith,
       c.requires.room,
