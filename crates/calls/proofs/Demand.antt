@@ -34,7 +34,12 @@ module _ (capacity : ℕ) (image table bytes words numbers : List ℕ) where
   module _ (list : encodes numbers ≡ true) (f : Fresh) (is : f ≡ fresh_of capacity bytes words) where
     -- 10, from fresh
     pub not-fresh : (n : ℕ) → f.refused ≡ Some n
-        → record { refused = Some n; monitor = monitor_in (head_of empty) f.monitor.bytes f.monitor.words; accepted = 0; counts = no_counts }
+        → record {
+          refused = Some n;
+          monitor = monitor_in (head_of empty) f.monitor.bytes f.monitor.words;
+          accepted = 0;
+          counts = no_counts;
+        }
         ≡ play_of capacity image table bytes words numbers
     unfolding play_of play_ended play_checks fresh_of freshened refusal
     not-fresh n e = rw list (rw is (go (sized capacity bytes words) (ap (λ (x : Fresh). x.refused) (sym is) ∙ e)))
@@ -48,20 +53,25 @@ module _ (capacity : ℕ) (image table bytes words numbers : List ℕ) where
               counts = no_counts;
             }
             ≡ play_ended (cond b None (Some 10)) bytes words
-            (play capacity image table (no_calls (freshened capacity bytes words (cond b None (Some 10))).monitor) (decoded_calls numbers))
+            (play capacity image table (no_calls (freshened capacity bytes words (cond b None (Some 10))).monitor)
+            (decoded_calls numbers))
         go true p = let z : ◌≡◌ {A = ℕ} 0 1 = cc in absurd (omega arith)
         go false p = rw p
 
     -- none: the list is played
     pub is_played : f.refused ≡ None
-        → logged (play capacity image table (no_calls f.monitor) (decoded_calls numbers)) ≡ play_of capacity image table bytes words numbers
+        → logged (play capacity image table (no_calls f.monitor) (decoded_calls numbers))
+        ≡ play_of capacity image table bytes words numbers
     unfolding play_of play_ended play_checks fresh_of freshened refusal
     is_played e = rw list (rw is (go (sized capacity bytes words) (ap (λ (x : Fresh). x.refused) (sym is) ∙ e)))
       where
         go : (b : Bool) → (freshened capacity bytes words (cond b None (Some 10))).refused ≡ None
-            → logged (play capacity image table (no_calls (freshened capacity bytes words (cond b None (Some 10))).monitor) (decoded_calls numbers))
+            → logged
+            (play capacity image table (no_calls (freshened capacity bytes words (cond b None (Some 10))).monitor)
+            (decoded_calls numbers))
             ≡ play_ended (cond b None (Some 10)) bytes words
-            (play capacity image table (no_calls (freshened capacity bytes words (cond b None (Some 10))).monitor) (decoded_calls numbers))
+            (play capacity image table (no_calls (freshened capacity bytes words (cond b None (Some 10))).monitor)
+            (decoded_calls numbers))
         go true p = refl
         go false p = let z : ◌≡◌ {A = ℕ} 0 1 = cc in absurd (omega arith)
 
@@ -72,7 +82,8 @@ kept true true p q k = k
 kept true false p q k = let z : ◌≡◌ {A = ℕ} 0 1 = cc in absurd (omega arith)
 kept false t p q k = let z : ◌≡◌ {A = ℕ} 0 1 = cc in absurd (omega arith)
 
-pub demand : (capacity : ℕ) (image table bytes words : List ℕ) (calls : List Call) (r : Played) (bytes' words' : List ℕ) (f : Fresh)
+pub demand :
+    (capacity : ℕ) (image table bytes words : List ℕ) (calls : List Call) (r : Played) (bytes' words' : List ℕ) (f : Fresh)
     → f ≡ fresh_of capacity bytes words → f.refused ≡ None
     → played_from r bytes' words' ≡ logged (play capacity image table (no_calls f.monitor) calls)
     → DemandThreeOf capacity image table bytes words calls r bytes' words'
@@ -93,7 +104,9 @@ demand capacity image table bytes words calls r bytes' words' f is fresh gives =
     g : Log
     g = play capacity image table (no_calls (fresh_of capacity bytes words).monitor) calls
 
-    promise : Promise (valid image) (prefix (table_of (read image)) table) capacity image table (fresh_of capacity bytes words).monitor calls
+    promise :
+        Promise (valid image) (prefix (table_of (read image)) table) capacity image table
+        (fresh_of capacity bytes words).monitor calls
     promise = list_theorem capacity image table bytes words calls (ap (λ (x : Fresh). x.refused) (sym is) ∙ fresh)
 
     e : played_from r bytes' words' ≡ logged g

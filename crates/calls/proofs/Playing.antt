@@ -17,7 +17,8 @@ use Rattle.layout.proofs.Refusals.{refusal_passed, refusal_rest, refusal_none_ri
 use Rattle.machine.specs.declared.Counts.{Counts}
 use Rattle.machine.specs.Run.{Run, no_counts, plus, run}
 use Rattle.machine.specs.Areas.{Head, Monitor, state_of}
-use Rattle.machine.specs.Calls.{Call, Offer, GoOn, Outcome, fuel_of, lent_checks, fuel_check, call_checks, offered, outcome, decided, call_of}
+use Rattle.machine.specs.Calls.{Call, Offer, GoOn, Outcome, fuel_of, lent_checks, fuel_check, call_checks, offered, outcome}
+use Rattle.machine.specs.Calls.{decided, call_of}
 use Rattle.machine.specs.Play.{Log, no_calls, events_of, logged, play}
 use Rattle.machine.specs.Promise.{Ended}
 use Rattle.machine.proofs.Runs.{ran}
@@ -35,7 +36,9 @@ fuel_taken set capacity head (Offer event fuel) e = leb-true _ _ (refusal_passed
 fuel_taken set capacity head (GoOn fuel) e = leb-true _ _ (refusal_passed _ _ _ e)
 
 -- the steps of any call
-call_steps : (capacity : ℕ) (image table : List ℕ) (m : Monitor) (c : Call) → (call_of capacity image table m c).counts.steps ≤ 65535
+call_steps :
+    (capacity : ℕ) (image table : List ℕ) (m : Monitor) (c : Call)
+    → (call_of capacity image table m c).counts.steps ≤ 65535
 unfolding call_of decided outcome no_counts
 call_steps capacity image table m c = go (refusal checks) refl
   where
@@ -71,7 +74,8 @@ unfolding play
 play_call capacity image table g c calls = refl
 
 -- The numbers before place k have been played from the monitor m: it is n now, a events are accepted, the sums are c.
-pub record Playing (capacity : ℕ) (image table : List ℕ) (m : Monitor) (numbers : List ℕ) (n : Monitor) (a : ℕ) (c : Counts) (k : ℕ) : Type 0 where
+pub record Playing (capacity : ℕ) (image table : List ℕ) (m : Monitor) (numbers : List ℕ) (n : Monitor) (a : ℕ) (c : Counts)
+    (k : ℕ) : Type 0 where
   pub short : length numbers ≤ 8589934590
   pub left : pairs (drop k numbers) ≡ true
   pub within : k ≤ length numbers
@@ -129,7 +133,9 @@ module _ {capacity : ℕ} {image table : List ℕ} {m : Monitor} {numbers : List
     module _ {call : Call} (reads : call ≡ decoded_call (get_or numbers k 0) (get_or numbers (k + 1) 0))
         {o : Outcome} (is : o ≡ call_of capacity image table n call) where
       done : Ended (read image).rules capacity n call o
-      done = subst (λ (p : Outcome). Ended (read image).rules capacity n call p) (sym is) (call_theorem capacity image table n call)
+      done =
+          subst (λ (p : Outcome). Ended (read image).rules capacity n call p) (sym is)
+          (call_theorem capacity image table n call)
 
       few_steps : o.counts.steps ≤ 65535
       few_steps = rw is (call_steps capacity image table n call)

@@ -61,7 +61,8 @@ gave_back g r bytes words =
 
 -- Demand 3 of what the code gave back, r with the areas bytes' and words', for the calls that it made from the head and areas
 -- that fresh leaves.
-pub record DemandThreeOf (capacity : ℕ) (image table bytes words : List ℕ) (calls : List Call) (r : Played) (bytes' words' : List ℕ) : Type 0 where
+pub record DemandThreeOf (capacity : ℕ) (image table bytes words : List ℕ) (calls : List Call) (r : Played)
+    (bytes' words' : List ℕ) : Type 0 where
   -- The list's log: its monitor, its number of accepted events and its sums are the code's.
   pub log : Log
   pub logs : play capacity image table (no_calls (fresh_of capacity bytes words).monitor) calls ≡ log

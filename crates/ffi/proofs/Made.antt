@@ -43,7 +43,8 @@ fresh_made_lem {f = f} e r head p q =
     ∙ ap fresh_made e
 
 -- a call
-pub call_words_lem : (capacity : ℕ) (image table : List ℕ) (m : Monitor) (c : Call) (o : Outcome) → o ≡ call_of capacity image table m c
+pub call_words_lem :
+    (capacity : ℕ) (image table : List ℕ) (m : Monitor) (c : Call) (o : Outcome) → o ≡ call_of capacity image table m c
     → (answer_number o.answer < 256) × (refused_by o.answer ≡ None → standing_word o.monitor.head.verdict ≤ 16)
 call_words_lem capacity image table m c o e = rw e (
   answer_number-below capacity image table m c,

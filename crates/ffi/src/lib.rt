@@ -12,7 +12,8 @@ ghost use Rattle.machine.specs.Calls.{fresh_of, offer_of, go_on_of, answer_numbe
 ghost use Rattle.machine.specs.Batch.{batch_of};
 ghost use Rattle.monitor.specs.Lent.{head_in, lent, stop_number};
 ghost use Rattle.ffi.specs.Numbers.{read_number, read_words, refused_number};
-ghost use Rattle.ffi.specs.Heads.{standing_word, head_from, head_words, head_after, call_words, fresh_made, call_made, batch_made};
+ghost use Rattle.ffi.specs.Heads.{standing_word, head_from, head_words, head_after, call_words};
+ghost use Rattle.ffi.specs.Heads.{fresh_made, call_made, batch_made};
 
 use layout::Refusal;
 use machine::Answer;

@@ -14,4 +14,5 @@ call_told-requires c =
 pub returns : goal.returns
 returns c =
     let given = c.head_from.ensures in
-    call_made_lem _ (rw given at c.offer-called.ensures) _ _ _ c.call_told.ensures.refusal c.call_told.ensures.head c.call_told.ensures.out
+    call_made_lem _ (rw given at c.offer-called.ensures) _ _ _ c.call_told.ensures.refusal c.call_told.ensures.head
+    c.call_told.ensures.out
