@@ -1,15 +1,14 @@
 -- The walk over the names of an input: the next name, as the code finds it, and what a turn gives back.
 -- Assumes nothing.
-use Prim.Native.Nat.{ℕ, zero, suc, ◌+◌, ◌-◌, ◌≤◌, ◌<◌, min}
+use Prim.Native.Nat.{ℕ, ◌+◌, ◌-◌, ◌≤◌, ◌<◌, min}
 use mathlib.Core.Path.{◌≡◌, refl, sym, ap, ◌∙◌}
-use mathlib.Core.Bool.{Bool, true, false, cond}
+use mathlib.Core.Bool.{Bool, true, false, cond, not}
 use mathlib.Core.List.{List, [], ◌∷◌, ◌++◌}
 use native.Mathlib.Omega.{arith}
 use lib.Dec.{eqb, leb, ltb}
 use lib.ListN.{length, take, drop, length-append, length-drop, drop_of_length-le}
-use lib.Seq.{take_all, drop-drop}
+use lib.Seq.{take_all}
 use borrow.Author.Tests.{le-leb, lt-leb, ltb-true, ltb-false}
-use borrow.Author.Rules.{part_to_end}
 use Rattle.rewriting.specs.Lists.{over}
 use Rattle.monitor.specs.declared.Head.{Head}
 use Rattle.monitor.specs.Lent.{lent}
@@ -20,6 +19,8 @@ use Rattle.grammar.proofs.Runs.{unbroken-take, run_end}
 use Rattle.std.specs.Prelude.{None, Some, Option, option_map}
 use Rattle.std.specs.List.{position, position_or_len}
 use Rattle.std.specs.Option.{unwrap_or}
+use Rattle.std.specs.Ordering.{is_lt, nat_cmp}
+use Rattle.std.proofs.Common.{Less, Equal, Greater}
 use Rattle.std.proofs.lemmas.List.Recursion.{is_position_or_len}
 use Rattle.printing.proofs.Split.{rule_part_le}
 use Rattle.machine.specs.Calls.{Outcome}
@@ -71,64 +72,71 @@ next_end w input at h = rw (drop_of_length-le input h) (go (leb (length input) 2
     go true = refl
     go false = refl
 
--- The first run from a place on, as it is found in that part of the input.
-module _ (input : List ℕ) (at : ℕ) (r : Range ℕ) (found : r ≡ first_run (take (length input - at) (drop at input)))
-    (inside : at < length input) where
+-- a range is empty where it does not begin before its end
+less : (a b : ℕ) → is_lt (nat_cmp a b) ≡ ltb a b
+less a b = go (ltb a b) (eqb a b)
+  where
+    go : (p q : Bool) → is_lt (cond p Less (cond q Equal Greater)) ≡ p
+    go true q = refl
+    go false true = refl
+    go false false = refl
+
+pub no_byte : (a b : ℕ) → not (is_lt (nat_cmp a b)) ≡ true → b ≤ a
+no_byte a b e = ltb-false a b (go (ltb a b) (rw (less a b) at e))
+  where
+    go : (p : Bool) → not p ≡ true → p ≡ false
+    go true e = sym e
+    go false e = refl
+
+pub some_byte : (a b : ℕ) → not (is_lt (nat_cmp a b)) ≡ false → a < b
+some_byte a b e = ltb-true a b (go (ltb a b) (rw (less a b) at e))
+  where
+    go : (p : Bool) → not p ≡ false → p ≡ true
+    go true e = refl
+    go false e = sym e
+
+-- The first run of the rest of an input, from a place on.
+module _ (input : List ℕ) (at : ℕ) (rest : List ℕ) (r : Range ℕ) (found : r ≡ first_run rest) where
   abbrev pub name_there : List ℕ
-  name_there = unbroken (drop (gap (drop at input)) (drop at input))
+  name_there = unbroken (drop (gap rest) rest)
 
-  pub run-starts : r.start ≡ gap (drop at input)
+  pub run-starts : r.start ≡ gap rest
   unfolding first_run
-  run-starts = rw (found, part_to_end)
+  run-starts = rw found
 
-  pub run_ends : r.end ≡ gap (drop at input) + length name_there
+  pub run_ends : r.end ≡ gap rest + length name_there
   unfolding first_run
-  run_ends = rw (found, part_to_end)
+  run_ends = rw found
 
-  -- it is inside the input
-  pub run_inside : (r.start ≤ r.end) × (at + r.end ≤ length input)
-  run_inside = (
-    omega (arith, run-starts, run_ends),
-    omega (arith, run_ends, run_end (drop at input), length-drop at input, inside),
-  )
+  -- it is inside the rest
+  pub run_inside : r.end ≤ length rest
+  run_inside = omega (arith, run_ends, run_end rest)
 
-  -- its bytes, as the code takes them from the input
-  pub run-bytes : take (at + r.end - (at + r.start)) (drop (at + r.start) input) ≡ name_there
+  -- its bytes, as the code takes them from the rest
+  pub run-bytes : take (r.end - r.start) (drop r.start rest) ≡ name_there
   run-bytes =
-      let size : at + r.end - (at + r.start) ≡ length name_there = omega (arith, run-starts, run_ends) in
-      let place : at + r.start ≡ at + gap (drop at input) = omega (arith, run-starts) in
-      rw (size, place, ← drop-drop (gap (drop at input)) at input)
-      (sym (unbroken-take (drop (gap (drop at input)) (drop at input))))
+      let size : r.end - r.start ≡ length name_there = omega (arith, run-starts, run_ends) in
+      rw (size, run-starts) (sym (unbroken-take (drop (gap rest) rest)))
 
-  pub run_short : length input ≤ 20480 → length (take (at + r.end - (at + r.start)) (drop (at + r.start) input)) ≤ 20480
-  run_short h = rw run-bytes (omega (arith, run_ends, run_inside.1))
-
-  -- where it ends is behind the place
-  pub run_onward : (at + r.start ≡ at + r.end → ⊥) → (at < at + r.end) × (at + r.end ≤ length input)
-  run_onward some_byte = (onward r.start r.end run_inside.0 some_byte, run_inside.1)
-    where
-      onward : (a b : ℕ) → a ≤ b → (at + a ≡ at + b → ⊥) → at < at + b
-      onward a zero h some_byte = absurd (some_byte (omega arith))
-      onward a (suc b) h some_byte = omega arith
-
-  pub next-none : (w : Watch) → length input ≤ 20480 → at + r.start ≡ at + r.end → next_of w input at ≡ nothing w at
+  pub next-none : (w : Watch) → rest ≡ drop at input → length input ≤ 20480 → r.end ≤ r.start → next_of w input at ≡ nothing w at
   unfolding next_of first_named named
-  next-none w h e = rw (le-leb (length input) 20480 h) (go name_there (omega (arith, run-starts, run_ends)))
+  next-none w behind h e = rw (le-leb (length input) 20480 h, ← behind) (go name_there (omega (arith, run-starts, run_ends, e)))
     where
-      go : (x : List ℕ) → length x ≡ 0 → named w at (at + (gap (drop at input) + length x)) x ≡ nothing w at
+      go : (x : List ℕ) → length x ≡ 0 → named w at (at + (gap rest + length x)) x ≡ nothing w at
       go [] z = refl
       go (b ∷ x) z = absurd (omega arith)
 
   pub next-some :
-      (w : Watch) → length input ≤ 20480 → (at + r.start ≡ at + r.end → ⊥)
+      (w : Watch) → rest ≡ drop at input → length input ≤ 20480 → r.start < r.end
       → next_of w input at ≡ offering w (at + r.end) name_there
   unfolding next_of first_named named
-  next-some w h e = rw (le-leb (length input) 20480 h, run_ends) (go name_there (λ z. e (omega (arith, run-starts, run_ends))))
+  next-some w behind h e =
+      rw (le-leb (length input) 20480 h, run_ends, ← behind) (go name_there (omega (arith, run-starts, run_ends, e)))
     where
       go :
-          (x : List ℕ) → (length x ≡ 0 → ⊥)
-          → named w at (at + (gap (drop at input) + length x)) x ≡ offering w (at + (gap (drop at input) + length x)) x
-      go [] z = absurd (z refl)
+          (x : List ℕ) → 0 < length x
+          → named w at (at + (gap rest + length x)) x ≡ offering w (at + (gap rest + length x)) x
+      go [] z = absurd (omega arith)
       go (b ∷ x) z = refl
 
 -- A line that is written from its beginning.

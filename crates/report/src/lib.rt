@@ -192,16 +192,12 @@ impl Walk {
         if INPUT_BYTES < input.len() {
             return None;
         }
-        let at = self.at;
-        if input.len() <= at {
+        let rest = input.get(self.at..)?;
+        let run = tokens::first_run(rest);
+        if run.is_empty() {
             return None;
         }
-        let run = tokens::first_run(&input[at..]);
-        let from = at + run.start;
-        let to = at + run.end;
-        if from == to {
-            return None;
-        }
-        Some(self.named(to, &input[from..to], rules, areas, line))
+        let end = self.at + run.end;
+        Some(self.named(end, &rest[run], rules, areas, line))
     }
 }

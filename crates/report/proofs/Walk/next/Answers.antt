@@ -1,13 +1,15 @@
 -- `Walk::next` meets its contract: the name that is offered is the first from its place on.
+use mathlib.Core.Path.{sym, ◌∙◌}
 use native.Mathlib.Omega.{arith}
+use borrow.Author.Rules.{part_to_end}
 use Rattle.report.specs.Lent.{watched}
 use Rattle.report.proofs.Walking.{
   turn_place,
   turn_some,
+  no_byte,
+  some_byte,
   run_inside,
   run-bytes,
-  run_short,
-  run_onward,
   next_long,
   next_end,
   next-none,
@@ -21,62 +23,48 @@ returns-then-input-gt-INPUT_BYTES-clause-turn c =
     turn_nothing _ c.args.self c.args.rules.now c.args.areas.now c.args.line.now _
     (next_long _ _ _ c.if-input-gt-INPUT_BYTES.true) c.clear.ensures.line
 
-pub returns-then-input-at-clause-turn : goal.returns-then-input-at-clause-turn
-returns-then-input-at-clause-turn c =
-    turn_nothing _ c.args.self c.args.rules.now c.args.areas.now c.args.line.now _
-    (next_end _ _ _ c.if-input-at.true) c.clear.ensures.line
+pub returns-in_err-rest-clause-turn : goal.returns-in_err-rest-clause-turn
+returns-in_err-rest-clause-turn c =
+    rw c.from_residual.ensures
+    (turn_nothing _ c.args.self c.args.rules.now c.args.areas.now c.args.line.now _
+    (next_end _ _ _ (grind (arith, c.in_err-rest.ensures.lookup.0))) c.clear.ensures.line)
 
-pub overflow_add-from : goal.overflow_add-from
-overflow_add-from c =
+pub returns-then-is_empty-clause-turn : goal.returns-then-is_empty-clause-turn
+returns-then-is_empty-clause-turn c =
+    turn_nothing _ c.args.self c.args.rules.now c.args.areas.now c.args.line.now _
+    (next-none c.args.input.now c.args.self.at _ _ c.first_run-run.ensures _
+    (c.in_ok-rest.ensures.lookup.0.2 ∙ part_to_end c.args.input.now c.args.self.at) c.if-input-gt-INPUT_BYTES.false
+    (no_byte _ _ (sym c.is_empty.ensures ∙ c.if-is_empty.true)))
+    c.clear.ensures.line
+
+pub overflow_add-end : goal.overflow_add-end
+overflow_add-end c =
     omega (
       arith,
-      (run_inside c.args.input.now c.args.self.at _ c.first_run-run.ensures c.if-input-at.false).0,
-      (run_inside c.args.input.now c.args.self.at _ c.first_run-run.ensures c.if-input-at.false).1,
+      run_inside c.args.input.now c.args.self.at _ _ c.first_run-run.ensures,
+      c.in_ok-rest.ensures.lookup.0.3,
     )
 
-pub overflow_add-to : goal.overflow_add-to
-overflow_add-to c =
-    omega
-    (arith, (run_inside c.args.input.now c.args.self.at _ c.first_run-run.ensures c.if-input-at.false).1)
-
-pub returns-then-from-to-clause-turn : goal.returns-then-from-to-clause-turn
-returns-then-from-to-clause-turn c =
-    turn_nothing _ c.args.self c.args.rules.now c.args.areas.now c.args.line.now _
-    (next-none c.args.input.now c.args.self.at _ c.first_run-run.ensures c.if-input-at.false _ c.if-input-gt-INPUT_BYTES.false
-    c.if-from-to.true) c.clear.ensures.line
-
-pub slice_bounds-named-count : goal.slice_bounds-named-count
-slice_bounds-named-count c =
-    omega (arith, (run_inside c.args.input.now c.args.self.at _ c.first_run-run.ensures c.if-input-at.false).0)
-
-pub slice_bounds-named-start : goal.slice_bounds-named-start
-slice_bounds-named-start c =
-    omega (arith, (run_inside c.args.input.now c.args.self.at _ c.first_run-run.ensures c.if-input-at.false).0)
-
 pub slice_bounds-named-end : goal.slice_bounds-named-end
-slice_bounds-named-end c =
-    (run_inside c.args.input.now c.args.self.at _ c.first_run-run.ensures c.if-input-at.false).1
-
-pub named-requires-clause-short : goal.named-requires-clause-short
-named-requires-clause-short c =
-    run_short c.args.input.now c.args.self.at _ c.first_run-run.ensures c.if-input-at.false c.if-input-gt-INPUT_BYTES.false
+slice_bounds-named-end c = run_inside c.args.input.now c.args.self.at _ _ c.first_run-run.ensures
 
 pub returns-clause-turn : goal.returns-clause-turn
 returns-clause-turn c =
     let input = c.args.input.now in
     let self = c.args.self in
     let w = watched self c.args.rules.now c.args.areas.now in
-    let next = next-some input self.at _ c.first_run-run.ensures c.if-input-at.false w c.if-input-gt-INPUT_BYTES.false
-    c.if-from-to.false in
-    let bytes = run-bytes input self.at _ c.first_run-run.ensures c.if-input-at.false in
+    let next = next-some input self.at _ _ c.first_run-run.ensures w
+    (c.in_ok-rest.ensures.lookup.0.2 ∙ part_to_end input self.at) c.if-input-gt-INPUT_BYTES.false
+    (some_byte _ _ (sym c.is_empty.ensures ∙ c.if-is_empty.false)) in
+    let bytes = run-bytes input self.at _ _ c.first_run-run.ensures in
     rw next (rw (bytes, c.clear.ensures.line) at c.named.ensures.turn)
 
 pub returns-clause-onward : goal.returns-clause-onward
 returns-clause-onward c =
-    let input = c.args.input.now in
-    let self = c.args.self in
     let place = turn_place _ _ _ _ _ _ c.named.new.areas c.named.new.line c.named.ensures.turn in
-    let onward = run_onward input self.at _ c.first_run-run.ensures c.if-input-at.false c.if-from-to.false in (
+    let inside = run_inside c.args.input.now c.args.self.at _ _ c.first_run-run.ensures in
+    let run = c.first_run-run.result in
+    let some = some_byte run.start run.end (sym c.is_empty.ensures ∙ c.if-is_empty.false) in (
       turn_some _ _ _ _ _ _ c.named.new.areas c.named.new.line c.named.ensures.turn,
-      (omega (arith, place, onward.0), omega (arith, place, onward.1)),
+      (omega (arith, place, some), omega (arith, place, inside, c.in_ok-rest.ensures.lookup.0.3)),
     )
