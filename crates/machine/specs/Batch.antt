@@ -8,8 +8,8 @@ use Rattle.machine.specs.Areas.{Monitor}
 use Rattle.machine.specs.Calls.{Call, Outcome, lent_checks, fuel_check, call_of, answer_number}
 use Rattle.machine.specs.Play.{offers_of}
 
--- Offers, or other calls, one after another: what stopped them (0: nothing did), an answer byte for each accepted, the summed counts, and
--- the monitor that they leave.
+-- Offers, or other calls, one after another: what stopped them (0: nothing did), an answer byte for each accepted, the summed
+-- counts, and the monitor that they leave.
 pub record Offers : Type 0 where
   pub stop : ℕ
   pub answers : List ℕ

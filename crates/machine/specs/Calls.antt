@@ -1,6 +1,7 @@
 -- Fresh, offer and go on, as functions of all that is lent to them: the refusals in their order, what comes back, and
 -- every area at exit.
-use Rattle.std.specs.Prelude.{ℕ, ◌+◌, Bool, not, ◌&&◌, List, [], ◌∷◌, ◌++◌, eqb, leb, ltb, length, replicate, Option, None, Some, is_none, Result, Ok, Err}
+use Rattle.std.specs.Prelude.{ℕ, ◌+◌, Bool, not, ◌&&◌, List, [], ◌∷◌, ◌++◌, eqb, leb, ltb, length, replicate}
+use Rattle.std.specs.Prelude.{Option, None, Some, is_none, Result, Ok, Err}
 use Rattle.rewriting.specs.Rules.{RuleSet}
 use Rattle.layout.specs.Image.{read}
 use Rattle.layout.specs.Refusals.{Check, refusal}

@@ -1,7 +1,8 @@
 -- What is promised: demand 1 of every call, demand 3 of every list of calls, what fresh does, and that a batch is its offers
 -- one after another. The theorems are `call_theorem`, `list_theorem`, `fresh_theorem` and `batch_theorem`, in
 -- proofs/CallTheorem.antt, ListTheorem.antt, FreshTheorem.antt and BatchTheorem.antt.
-use Rattle.std.specs.Prelude.{ℕ, ◌+◌, ◌*◌, ◌^◌, ◌≤◌, ◌<◌, ◌≡◌, Bool, true, false, ◌↔◌, ◌⊎◌, length, get_or, take, replicate, None, Some, Ok, Err}
+use Rattle.std.specs.Prelude.{ℕ, ◌+◌, ◌*◌, ◌^◌, ◌≤◌, ◌<◌, ◌≡◌, Bool, true, false, ◌↔◌, ◌⊎◌}
+use Rattle.std.specs.Prelude.{length, get_or, take, replicate, None, Some, Ok, Err}
 use mathlib.Core.List.{List, [], ◌∷◌, ◌++◌, map, Memᴰ}
 use Rattle.rewriting.specs.Lists.{prefix, over}
 use Rattle.rewriting.specs.Rules.{Rule, RuleSet}
@@ -15,7 +16,8 @@ use Rattle.machine.specs.declared.Counts.{Counts}
 use Rattle.machine.specs.State.{State, empty, step}
 use Rattle.machine.specs.Run.{no_counts, fits}
 use Rattle.machine.specs.Areas.{Monitor, head_of, monitor_of, state_of}
-use Rattle.machine.specs.Calls.{Fresh, fresh_of, Call, Offer, GoOn, fuel_of, lent_checks, call_checks, Outcome, refusal_of, decided, call_of, answer_number}
+use Rattle.machine.specs.Calls.{Fresh, fresh_of, Call, Offer, GoOn, fuel_of, lent_checks, call_checks}
+use Rattle.machine.specs.Calls.{Outcome, refusal_of, decided, call_of, answer_number}
 use Rattle.machine.specs.Batch.{Batched, batch_of}
 use Rattle.machine.specs.Play.{string_of, Log, no_calls, play, offers_of}
 
@@ -127,7 +129,8 @@ pub record Sums (events answers : List ℕ) (g : Log) (b : Batched) : Type 0 whe
   pub written : over (map answer_number g.answers) answers ≡ b.answers
 
 -- What is promised of a batch that is not refused: it is the offers one after another.
-pub record OneByOne (capacity : ℕ) (image table : List ℕ) (m : Monitor) (events : List ℕ) (fuel : ℕ) (answers : List ℕ) (b : Batched) : Type 0 where
+pub record OneByOne (capacity : ℕ) (image table : List ℕ) (m : Monitor) (events : List ℕ) (fuel : ℕ) (answers : List ℕ)
+    (b : Batched) : Type 0 where
   pub few : b.accepted ≤ length events
   pub played : Sums events answers (play capacity image table (no_calls m) (offers_of (take b.accepted events) fuel)) b
   -- All are accepted; or the next one is refused, with 12, 14 or 15.
@@ -142,7 +145,8 @@ pub record OneByOne (capacity : ℕ) (image table : List ℕ) (m : Monitor) (eve
   pub put : b.counts.put < 2 ^ 64
 
 -- What is promised of every batch, on whatever monitor m and with whatever image and table.
-pub record BatchEnded (capacity : ℕ) (image table : List ℕ) (m : Monitor) (events : List ℕ) (fuel : ℕ) (answers : List ℕ) (b : Batched) : Type 0 where
+pub record BatchEnded (capacity : ℕ) (image table : List ℕ) (m : Monitor) (events : List ℕ) (fuel : ℕ) (answers : List ℕ)
+    (b : Batched) : Type 0 where
   pub refused : (n : ℕ) → b.refused ≡ Some n
       → Memᴰ n (7 ∷ 9 ∷ 10 ∷ 11 ∷ 13 ∷ 16 ∷ [])
       × (b ≡ record { refused = Some n; stop = 0; accepted = 0; counts = no_counts; answers = answers; monitor = m })

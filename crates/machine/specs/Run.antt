@@ -41,7 +41,8 @@ unfoldable pub proceed : ℕ → State → Step → (State → Run) → Run
 proceed capacity s t rest = cond (fits capacity t.to) (counted t (rest t.to)) (ended Answer.Full s)
 
 -- "a verdict stands, answer Verdict; w = 0, answer Quiet; fuel steps taken, answer Spent; the next step doesn't fit,
--- answer Full": the tests at state s, by its verdict, its waiting symbols, and the run with one unit of fuel less, if there is one
+-- answer Full": the tests at state s, by its verdict, its waiting symbols, and the run with one unit of fuel less, if there is
+-- one
 unfoldable pub tests : List Rule → ℕ → State → Option ℕ → List ℕ → Option (State → Run) → Run
 tests rules capacity s (Some v) waiting rest = ended (Answer.Verdict v) s
 tests rules capacity s None [] rest = ended Answer.Quiet s
