@@ -57,7 +57,8 @@ module _ {A : Type 0} {none : A} {or_of : A → A → A} (laws : Gathers none or
 -- The `or` of the numbers at k in four quarters: three from the start, and one that ends with the list.
 abbrev pub quarters : {A : Type 0} → A → (A → A → A) → List A → ℕ → ℕ → A
 quarters none or_of xs size k =
-    or_of (or_of (or_of (get_or xs k none) (get_or xs (size + k) none)) (get_or xs (size + size + k) none)) (get_or xs (length xs - size + k) none)
+    or_of (or_of (or_of (get_or xs k none) (get_or xs (size + k) none)) (get_or xs (size + size + k) none))
+    (get_or xs (length xs - size + k) none)
 
 module _ {A : Type 0} {none : A} {or_of : A → A → A} (laws : Gathers none or_of) (xs : List A) (size : ℕ) where
   -- where the `or` at k is 0, each of the four is
@@ -94,8 +95,10 @@ module _ {A : Type 0} {none : A} {or_of : A → A → A} (laws : Gathers none or
           let from = ltb-false k (length xs - size) r in
           behind (length xs - size) k from (each j (z j (omega (arith, from, ltb-false k size p)))).3
 
-  pub quarters_all : {all : A} {i : ℕ} (b : Bool) → length xs ≤ 4 * size → Tells none (quarters none or_of xs size) all i → size ≤ i
+  pub quarters_all :
+      {all : A} {i : ℕ} (b : Bool) → length xs ≤ 4 * size → Tells none (quarters none or_of xs size) all i → size ≤ i
       → Decides b (all ≡ none) → Decides b (xs ≡ replicate (length xs) none)
   quarters_all {all} {i} b whole t done d =
       decides xs b d (λ e. everywhere whole (λ k h. t.zeros e k (omega (arith, h, done))))
-      (λ z. t.zero_all (λ k. rw (z k, z (size + k), z (size + size + k), z (length xs - size + k)) (rw laws.none (rw laws.none laws.none))))
+      (λ z. t.zero_all (λ k. rw (z k, z (size + k), z (size + size + k), z (length xs - size + k))
+      (rw laws.none (rw laws.none laws.none))))

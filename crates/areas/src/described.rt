@@ -1,5 +1,5 @@
-// The check behind refusal 11: whether head and areas are as document 01 describes them. What it asks, the checks of 7, 9 and 10 have
-// shown.
+// The check behind refusal 11: whether head and areas are as document 01 describes them. What it asks, the checks of 7, 9 and 10
+// have shown.
 ghost use Rattle.std.specs.Prelude.{◌*◌, ◌≤◌, ◌≡◌, true, length, replicate};
 ghost use Rattle.layout.specs.ImageCheck.{Decides};
 ghost use Rattle.machine.specs.Areas.{stands_by, described};
@@ -92,9 +92,9 @@ fn few_zero<T: Bits>(items: &[T]) -> bool
     all.is_zero()
 }
 
-// Whether all numbers are 0: three quarters from the start, and one that ends with the numbers, where some may be looked at twice. A
-// turn takes a number of each, so that the strides are wide, and the loop has no other way out. Places are counted, since a loop over
-// the four quarters side by side does not become vector code and takes four times as long.
+// Whether all numbers are 0: three quarters from the start, and one that ends with the numbers, where some may be looked at
+// twice. A turn takes a number of each, so that the strides are wide, and the loop has no other way out. Places are counted,
+// since a loop over the four quarters side by side does not become vector code and takes four times as long.
 fn all_zero<T: Bits>(items: &[T]) -> bool
     ensures { Decides result (items.now ≡ replicate (length items.now) T.zero) }
 {
@@ -133,8 +133,8 @@ fn stands_by(image: Image<'_>, verdict: Option<u64>, rule: usize) -> bool
 }
 
 // Whether these are settled symbols and their words: each symbol below S, each word the state after its symbol, and none
-// of the states has a match. Symbols come first, in a loop that becomes vector code. Each word is tested against the one lent before
-// it, so that no turn waits for the one before. A loop over symbols and words side by side takes up to a fifth longer.
+// of the states has a match. Symbols come first, in a loop that becomes vector code. Each word is tested against the one lent
+// before it, so that no turn waits for the one before. A loop over symbols and words side by side takes up to a fifth longer.
 fn settled_right(table: Table<'_>, symbols: &[u8], words: &[u16]) -> bool
     requires { length words.now ≡ length symbols.now }
     ensures { Decides result (Settled (set_of table.entry.image) symbols.now words.now) }
@@ -155,8 +155,8 @@ fn settled_right(table: Table<'_>, symbols: &[u8], words: &[u16]) -> bool
     true
 }
 
-// Whether head and areas are as described, with areas of one length. The head comes as its four numbers: its struct has methods, so
-// it stands with them in the crate monitor, above this one.
+// Whether head and areas are as described, with areas of one length. The head comes as its four numbers: its struct has methods,
+// so it stands with them in the crate monitor, above this one.
 pub fn as_described(
     settled: usize,
     waiting: usize,

@@ -30,9 +30,10 @@ pub fn clear(bytes: &mut [u8], words: &mut [u16], from: usize, to: usize)
     words[from..to].fill(0);
 }
 
-// Takes a left side of `size` symbols off: the first waiting symbol, which completes it, and the settled ones before it. Gives back how
-// many stay settled. What a step finds next waits for that number: the loop counts down to it by tests, which a processor foresees, and
-// its constant bound makes them a few instructions in a row. With `fill` a batch takes up to a fourth longer.
+// Takes a left side of `size` symbols off: the first waiting symbol, which completes it, and the settled ones before it. Gives
+// back how many stay settled. What a step finds next waits for that number: the loop counts down to it by tests, which a
+// processor foresees, and its constant bound makes them a few instructions in a row. With `fill` a batch takes up to a fourth
+// longer.
 pub(crate) fn take_off(
     bytes: &mut [u8],
     words: &mut [u16],
@@ -63,9 +64,9 @@ pub(crate) fn take_off(
     at
 }
 
-// Puts n symbols of the image, from `start` on, before the last `waiting` bytes. Gives back how many wait then. The last one goes first, so
-// that this number comes from the loop's tests too, as in take_off: where the next symbol stands does not wait for n, as it would with
-// `copy_from_slice`.
+// Puts n symbols of the image, from `start` on, before the last `waiting` bytes. Gives back how many wait then. The last one goes
+// first, so that this number comes from the loop's tests too, as in take_off: where the next symbol stands does not wait for n,
+// as it would with `copy_from_slice`.
 pub(crate) fn put_back(
     image: Image<'_>,
     start: usize,
@@ -93,8 +94,8 @@ pub(crate) fn put_back(
     held
 }
 
-// Moves the bytes from `from` to the end one place to the left. They are few: with `copy_within` an offer without a step takes a twentieth
-// longer.
+// Moves the bytes from `from` to the end one place to the left. They are few: with `copy_within` an offer without a step takes a
+// twentieth longer.
 pub fn move_left(bytes: &mut [u8], from: usize)
     requires some { 1 ≤ from }
     requires inside { from ≤ length bytes.old }

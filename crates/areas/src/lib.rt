@@ -1,6 +1,6 @@
-// What the monitor does with its two areas: writes, the check that they are as described, and a rewrite. What these functions ask of
-// their caller, the checks of a call have shown; the crate monitor is the only one that calls them. The areas are lent as two slices: of
-// a struct with two `&mut` fields each clause would have to name what they become, which is no plainer.
+// What the monitor does with its two areas: writes, the check that they are as described, and a rewrite. What these functions ask
+// of their caller, the checks of a call have shown; the crate monitor is the only one that calls them. The areas are lent as two
+// slices: of a struct with two `&mut` fields each clause would have to name what they become, which is no plainer.
 #![tactic(auto)]
 
 ghost use Rattle.std.specs.Prelude.{ℕ, ◌<◌, ◌≡◌, IfSome, length, Some, None};
@@ -26,8 +26,8 @@ pub struct Rewritten {
     pub put: u64,
 }
 
-// The first waiting symbol completes rule i's left side: that is taken off, and the right side put back or the verdict set. Where it
-// does not fit, it is not made.
+// The first waiting symbol completes rule i's left side: that is taken off, and the right side put back or the verdict set. Where
+// it does not fit, it is not made.
 pub fn rewrite(
     settled: usize,
     waiting: usize,

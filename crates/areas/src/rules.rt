@@ -1,5 +1,6 @@
-// What the steps of a call work by: the image, its table, and where each rule's right symbols begin. A look into them costs a step
-// no test: what it asks, the checks of a call have shown, and what they have shown of the table and the starts is in the types.
+// What the steps of a call work by: the image, its table, and where each rule's right symbols begin. A look into them costs a
+// step no test: what it asks, the checks of a call have shown, and what they have shown of the table and the starts is in the
+// types.
 ghost use Rattle.std.specs.Prelude.{◌+◌, ◌*◌, ◌<◌, ◌≤◌, ◌≡◌, true, length, get_or};
 ghost use Rattle.rewriting.specs.Lists.{prefix};
 ghost use Rattle.layout.specs.Image.{read};

@@ -8,7 +8,8 @@ use Rattle.rewriting.specs.Lists.{over}
 use Rattle.rewriting.specs.Rules.{symbols_of, rule, right_in_range, rule_in_range, in_range}
 use Rattle.rewriting.specs.Occurrences.{lowest, spanning, tie, ending}
 use Rattle.rewriting.specs.Sample.{sample}
-use Rattle.layout.specs.Image.{kind, length_or_verdict, mark_byte, contents, body, image_of, read_right, read_rule, read_rules, read, valid}
+use Rattle.layout.specs.Image.{kind, length_or_verdict, mark_byte, contents, body, image_of, read_right, read_rule, read_rules}
+use Rattle.layout.specs.Image.{read, valid}
 use Rattle.layout.specs.Refusals.{refusal, refused_by}
 use Rattle.layout.specs.States.{
   pattern,
@@ -45,7 +46,8 @@ use Rattle.machine.specs.Areas.{
   holds,
   described,
 }
-use Rattle.machine.specs.Calls.{sized, freshened, fresh_of, fuel_of, lent_checks, fuel_check, verdict_check, call_checks, offered, outcome, decided, call_of, offer_of, answer_number}
+use Rattle.machine.specs.Calls.{sized, freshened, fresh_of, fuel_of, lent_checks, fuel_check, verdict_check, call_checks, offered}
+use Rattle.machine.specs.Calls.{outcome, decided, call_of, offer_of, answer_number}
 use Rattle.machine.specs.Batch.{stopped, and_then, in_turn, offers, batch_checks, batched, batch_of}
 use Rattle.machine.specs.Play.{string_of, no_calls, events_of, logged, play, offers_of}
 use Rattle.cases.specs.Cases.{Case, fresh, found_in, find, worked, abcd, cases}
@@ -76,12 +78,17 @@ use Rattle.cases.specs.Edges.{
 -- every definition that a computed case goes through
 computes : Unit {0}
 unfolding
-    flat_map rule right_in_range rule_in_range in_range lowest spanning tie ending sample kind length_or_verdict mark_byte symbols_of contents
-    body image_of read_right read_rule read_rules read valid refusal pattern is_prefix state next starts symbols_in matching prefixes known numbered
-    has_mark first_states states number match_word row table_of empty active replace settle step no_counts plus counts_of ended counted fits
-    proceed tests run head_of area_of bytes_of states_after words_of monitor_of state_of no_match unmatched closes_with stands_by holds described sized
+    flat_map rule right_in_range rule_in_range in_range lowest spanning tie ending sample kind length_or_verdict mark_byte
+    symbols_of contents
+    body image_of read_right read_rule read_rules read valid refusal pattern is_prefix state next starts symbols_in matching
+    prefixes known numbered
+    has_mark first_states states number match_word row table_of empty active replace settle step no_counts plus counts_of ended
+    counted fits
+    proceed tests run head_of area_of bytes_of states_after words_of monitor_of state_of no_match unmatched closes_with stands_by
+    holds described sized
     freshened fresh_of fuel_of lent_checks fuel_check
-    verdict_check call_checks offered outcome decided call_of refused_by string_of no_calls events_of logged play fresh found_in find worked abcd
+    verdict_check call_checks offered outcome decided call_of refused_by string_of no_calls events_of logged play fresh found_in
+    find worked abcd
 computes = tt
 
 -- every value of the table of worked cases

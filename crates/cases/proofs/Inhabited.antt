@@ -41,7 +41,8 @@ sample_kept calls =
     (list_theorem document_capacity (image_of sample) (table_of sample) area area calls fresh-taken)
 
 -- an image with a byte too many
-pub sample_broken : (table : List ℕ) (calls : List Call) → AllRefused 7 document_capacity (image_of sample ++ 0 ∷ []) table fresh calls
+pub sample_broken :
+    (table : List ℕ) (calls : List Call) → AllRefused 7 document_capacity (image_of sample ++ 0 ∷ []) table fresh calls
 unfolding fresh
 sample_broken table calls =
     rw (longer_refused 0) at

@@ -49,14 +49,16 @@ bytes (c then s) = code c ∷ bytes s
 computes : Unit {0}
 unfolding
     bytes separator letter digit name_byte is_name token_of unbroken runs_from runs number_of or_new numbered
-    begun placed with_symbol symbol event side_symbol first_symbol name with_verdict right_word word arrow mark close_events close_rule stop
+    begun placed with_symbol symbol event side_symbol first_symbol name with_verdict right_word word arrow mark close_events
+    close_rule stop
     after_token after_run complete rule_set_of ended or_broken read_runs read_text
 computes = tt
 
 -- the same for the two areas
 whole : Unit {0}
 unfolding
-    slot slots names_of image_of kind length_or_verdict mark_byte contents body symbols_of flat_map over refusal read_checks written unless read_of
+    slot slots names_of image_of kind length_or_verdict mark_byte contents body symbols_of flat_map over refusal read_checks
+    written unless read_of
 whole = tt
 
 -- The sample of document 01.

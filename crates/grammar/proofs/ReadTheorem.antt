@@ -135,7 +135,8 @@ by_word s x Events = by_4
 by_word s x Between = by_4
 by_word s x Marked = by_4
 by_word s x (InLeft m l) = by_4
-by_word s x (InRight m l []) = cond_either BreaksBy (same x epsilon_word) _ _ (λ _. tt) (λ _. by_verdict s m l (numbered 16 s.words x))
+by_word s x (InRight m l []) =
+    cond_either BreaksBy (same x epsilon_word) _ _ (λ _. tt) (λ _. by_verdict s m l (numbered 16 s.words x))
 by_word s x (InRight m l (a ∷ v)) = by_4
 by_word s x (Ending m l r) = by_4
 
@@ -230,7 +231,8 @@ module _ (v area : List ℕ) (n : ℕ) (size : length v ≡ n) where
 pub read_theorem : ReadReads
 unfolding read_of read_checks refusal unless written refused_by refusal_place image_length
 read_theorem text image names =
-    go (leb (length text) 16384) (leb 1284 (length image) && leb 1200 (length names)) refl refl (read_text text) refl (by_text text)
+    go (leb (length text) 16384) (leb 1284 (length image) && leb 1200 (length names)) refl refl (read_text text) refl
+    (by_text text)
   where
     refused : (n place : ℕ) → Memᴰ n (1 ∷ 2 ∷ 3 ∷ 4 ∷ 5 ∷ 6 ∷ []) → place ≤ length text → (n ≤ 2 → place ≡ 0)
         → ReadEnded text image names (written (Err (n, place)) image names)

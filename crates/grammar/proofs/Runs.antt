@@ -177,7 +177,8 @@ pub record Next (text : List ℕ) (at start end : ℕ) : Type 0 where
       ≡ record { place = start; bytes = rest_of text start } ∷ runs_from true end (drop end text)
 
 -- The separators from the place `at` on are counted, in the part that begins there: behind them the run begins.
-module _ (text : List ℕ) (at : ℕ) (inside : at ≤ length text) (n : ℕ) (found : n ≡ gap (take (length text - at) (drop at text))) where
+module _ (text : List ℕ) (at : ℕ) (inside : at ≤ length text) (n : ℕ)
+    (found : n ≡ gap (take (length text - at) (drop at text))) where
   counted : n ≡ gap (drop at text)
   counted = rw part_to_end at found
 

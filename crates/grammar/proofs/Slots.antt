@@ -95,7 +95,8 @@ slots_more n names x e named room =
     let new : take 25 (slot x) ≡ slot x = take_all 25 (slot x) (omega (arith, length-slot x (name_short x named))) in
     let at : 25 * length names + 25 ≡ length used + 25 = omega arith in
     let left : 25 * (n - length names) - 25 ≡ 25 * (n - length (names ++ x ∷ [])) = rw length-append (omega arith) in
-    let behind : drop (25 * length names + 25) (used ++ replicate (25 * (n - length names)) 0) ≡ replicate (25 * (n - length (names ++ x ∷ []))) 0 =
+    let behind : drop (25 * length names + 25) (used ++ replicate (25 * (n - length names)) 0)
+    ≡ replicate (25 * (n - length (names ++ x ∷ []))) 0 =
     rw (at, drop-append-add) (drop_zeros 25 (25 * (n - length names)) ∙ ap (λ (k : ℕ). replicate k 0) left)
     in
     rw (before, new, behind, flat_map_snoc slot names x)

@@ -404,7 +404,8 @@ sound_name s x Events h sound_at nx = sound_event s x (number_of s.symbols x) h 
 sound_name s x Between h sound_at nx = sound_first_symbol s x false h sound_at nx
 sound_name s x Marked h sound_at nx = sound_first_symbol s x true h sound_at nx
 sound_name s x (InLeft m l) h sound_at nx =
-    let r : RuleRanges (rule_set_of s) (rule_with m l (Put [])) = rule_ranges (rule_set_of s) (rule_with m l (Put [])) sound_at.2 in
+    let r : RuleRanges (rule_set_of s) (rule_with m l (Put [])) =
+    rule_ranges (rule_set_of s) (rule_with m l (Put [])) sound_at.2 in
     sound_left s x m l h nx sound_at.0 sound_at.1 r.left_below
 sound_name s x (InRight m l v) h sound_at nx = sound_right s x m l v h nx sound_at
 sound_name s x (Ending m l r) h sound_at nx = keeps_breaks 4
@@ -436,7 +437,8 @@ sound_words s n p h k sound_at =
 
 -- a rule begun may have another right side that is in range
 pub begun_right :
-    (s : Reading) (m : Bool) (l : List ℕ) (r r' : Right) → RuleBegun s (rule_with m l r) → right_in_range (rule_set_of s) r' ≡ true
+    (s : Reading) (m : Bool) (l : List ℕ) (r r' : Right) → RuleBegun s (rule_with m l r)
+    → right_in_range (rule_set_of s) r' ≡ true
     → RuleBegun s (rule_with m l r')
 begun_right s m l r r' b e =
     let g : RuleRanges (rule_set_of s) (rule_with m l r) = rule_ranges (rule_set_of s) (rule_with m l r) b.2 in (
@@ -470,7 +472,8 @@ sound_verdict s x m l h nx b = go (numbered 16 s.words x) refl
         (begun_right s' m l (Put []) (Close n.number) b' (lt-ltb n.number (length n.names) k.number_in)))
 
 pub sound_right_word :
-    (s : Reading) (x : List ℕ) (m : Bool) (l : List ℕ) → Sound s → is_name x ≡ true → RuleBegun s (rule_with m l (Put [])) → KeepsSound (right_word s x m l)
+    (s : Reading) (x : List ℕ) (m : Bool) (l : List ℕ) → Sound s → is_name x ≡ true → RuleBegun s (rule_with m l (Put []))
+    → KeepsSound (right_word s x m l)
 unfolding right_word
 sound_right_word s x m l h nx b =
     cond_either KeepsSound (same x epsilon_word) _ _

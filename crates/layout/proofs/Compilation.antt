@@ -28,7 +28,8 @@ pub accepted_valid : (image area : List ℕ) → refusal (compile_checks image a
 unfolding compile_checks
 accepted_valid image area e = refusal_passed _ _ _ e
 
-pub accepted_fits : (image area : List ℕ) → refusal (compile_checks image area) ≡ None → length (table_of (read image)) ≤ length area
+pub accepted_fits :
+    (image area : List ℕ) → refusal (compile_checks image area) ≡ None → length (table_of (read image)) ≤ length area
 unfolding compile_checks
 accepted_fits image area e = leb-true _ _ (refusal_passed _ _ _ (refusal_rest _ _ _ e))
 
@@ -78,11 +79,15 @@ refusal_seven : (image area : List ℕ) → valid image ≡ false → refusal (c
 unfolding compile_checks refusal
 refusal_seven image area e = rw e
 
-refusal_eight : (image area : List ℕ) → valid image ≡ true → length area < length (table_of (read image)) → refusal (compile_checks image area) ≡ Some 8
+refusal_eight :
+    (image area : List ℕ) → valid image ≡ true → length area < length (table_of (read image))
+    → refusal (compile_checks image area) ≡ Some 8
 unfolding compile_checks refusal
 refusal_eight image area e short = rw (e, lt-leb (length (table_of (read image))) (length area) short)
 
-refusal-none : (image area : List ℕ) → valid image ≡ true → length (table_of (read image)) ≤ length area → refusal (compile_checks image area) ≡ None
+refusal-none :
+    (image area : List ℕ) → valid image ≡ true → length (table_of (read image)) ≤ length area
+    → refusal (compile_checks image area) ≡ None
 unfolding compile_checks refusal
 refusal-none image area e fits = rw (e, le-leb (length (table_of (read image))) (length area) fits)
 
@@ -95,7 +100,8 @@ module _ (image area : List ℕ) where
       → (Err 8 ≡ (compile_of image area).answer) × (area ≡ (compile_of image area).area)
   compile_eight e short = let c = compile_refused image area 8 (refusal_eight image area e short) in (rw c, rw c)
 
-  pub compile_words : valid image ≡ true → length (table_of (read image)) ≤ length area → (words : ℕ) → words ≡ length (table_of (read image))
+  pub compile_words :
+      valid image ≡ true → length (table_of (read image)) ≤ length area → (words : ℕ) → words ≡ length (table_of (read image))
       → (table : List ℕ) → table ≡ table_of (read image)
       → (Ok words ≡ (compile_of image area).answer) × (table ++ drop words area ≡ (compile_of image area).area)
   unfolding over

@@ -1,5 +1,6 @@
 -- The code's checks together are `valid`: an image is valid exactly when its header is in range, its contents are within
--- it and in range, they announce as many symbols as follow them, and these are all below S. The rules have a mark where the contents
+-- it and in range, they announce as many symbols as follow them, and these are all below S. The rules have a mark where the
+-- contents
 -- have one.
 -- Assumes nothing.
 use Prim.Native.Nat.{ℕ, zero, suc, ◌+◌, ◌*◌, ◌-◌, ◌≤◌, ◌<◌}
@@ -387,7 +388,8 @@ size_of set m left (Put v) some few e =
     size_string set.verdicts (length left) 0 (length v) (mark_byte m)
     (some, few, mark_small m, refl, leb-true (length v) 8 (and_left (leb (length v) 8) (below set.symbols v) e))
 size_of set m left (Close v) some few e =
-    size_verdict set.verdicts (length left) 1 v (mark_byte m) (some, few, mark_small m, refl, ltb-true v set.verdicts e) ∙ omega arith
+    size_verdict set.verdicts (length left) 1 v (mark_byte m) (some, few, mark_small m, refl, ltb-true v set.verdicts e)
+    ∙ omega arith
 
 size_rule :
     (set : RuleSet) (r : Rule) (x : List ℕ) → rule_in_range set r ≡ true

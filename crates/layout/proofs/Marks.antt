@@ -52,7 +52,9 @@ module _ (set : RuleSet) (few : set.symbols ≤ 32) where
       go (or_cases (prefix (y ∷ p) (pattern r)) (is_prefix rules (y ∷ p)) h)
       (prefix_plain rules (and_right (rule_in_range set r) (all (rule_in_range set) rules) e) y p)
     where
-      go : (prefix (y ∷ p) (pattern r) ≡ true) ⊎ (is_prefix rules (y ∷ p) ≡ true) → (is_prefix rules (y ∷ p) ≡ true → Plain p) → Plain p
+      go :
+          (prefix (y ∷ p) (pattern r) ≡ true) ⊎ (is_prefix rules (y ∷ p) ≡ true) → (is_prefix rules (y ∷ p) ≡ true → Plain p)
+          → Plain p
       go (inl k) ih = behind_first r (and_left (rule_in_range set r) (all (rule_in_range set) rules) e) y p k
       go (inr k) ih = ih k
 
@@ -66,7 +68,8 @@ module _ (set : RuleSet) (few : set.symbols ≤ 32) where
       (no_mark_prefix rules (and_right (rule_in_range set r) (all (rule_in_range set) rules) e))
     where
       go : (b : Bool) → r.marked ≡ b → (b || has_mark rules) ≡ false → (c : Bool) → prefix (mark ∷ p) r.left ≡ c
-          → (has_mark rules ≡ false → (p : List ℕ) → is_prefix rules (mark ∷ p) ≡ false) → is_prefix (r ∷ rules) (mark ∷ p) ≡ false
+          → (has_mark rules ≡ false → (p : List ℕ) → is_prefix rules (mark ∷ p) ≡ false)
+          → is_prefix (r ∷ rules) (mark ∷ p) ≡ false
       go true m h c k ih = let z : ◌≡◌ {A = ℕ} 0 1 = cc in absurd (omega arith)
       go false m h true k ih =
           let first : eqb mark mark ≡ false =

@@ -14,7 +14,8 @@ use borrow.Author.Tests.{eqb-true, ne_eqb, ltb-true}
 use Rattle.rewriting.specs.Lists.{alike, below, same, prefix}
 use Rattle.rewriting.specs.Rules.{Rule}
 use Rattle.rewriting.specs.Occurrences.{lowest, spanning, ending}
-use Rattle.rewriting.proofs.Lists.{and_left, and_right, or_cases, or_left, or_right, alike_eq, same_eq, prefix_append, prefix_shorter}
+use Rattle.rewriting.proofs.Lists.{and_left, and_right, or_cases, or_left, or_right, alike_eq, same_eq, prefix_append}
+use Rattle.rewriting.proofs.Lists.{prefix_shorter}
 use Rattle.rewriting.proofs.Choice.{tie_later}
 use Rattle.rewriting.proofs.Redex.{NonEmpty}
 use Rattle.rewriting.proofs.Ending.{ending_unmarked, ending_start, ending_longer}
@@ -25,7 +26,8 @@ use Rattle.layout.specs.Words.{own}
 pub is_prefix_shorter : (rules : List Rule) (u v : List ℕ) → is_prefix rules (u ++ v) ≡ true → is_prefix rules u ≡ true
 unfolding is_prefix
 is_prefix_shorter [] u v e = e
-is_prefix_shorter (r ∷ rules) u v e = go (or_cases (prefix (u ++ v) (pattern r)) (is_prefix rules (u ++ v)) e) (is_prefix_shorter rules u v)
+is_prefix_shorter (r ∷ rules) u v e =
+    go (or_cases (prefix (u ++ v) (pattern r)) (is_prefix rules (u ++ v)) e) (is_prefix_shorter rules u v)
   where
     go : (prefix (u ++ v) (pattern r) ≡ true) ⊎ (is_prefix rules (u ++ v) ≡ true)
         → (is_prefix rules (u ++ v) ≡ true → is_prefix rules u ≡ true) → is_prefix (r ∷ rules) u ≡ true
@@ -98,15 +100,18 @@ own-pattern r h = go r.marked refl r.left h
 pub own_no_prefix : (rules : List Rule) (v : List ℕ) → is_prefix rules v ≡ false → own rules v ≡ None
 unfolding own is_prefix lowest
 own_no_prefix [] v e = refl
-own_no_prefix (r ∷ rules) v e = go (alike (starts v) r.marked && same r.left (symbols_in v)) refl (prefix v (pattern r)) refl e (own_no_prefix rules v)
+own_no_prefix (r ∷ rules) v e =
+    go (alike (starts v) r.marked && same r.left (symbols_in v)) refl (prefix v (pattern r)) refl e (own_no_prefix rules v)
   where
     go : (b : Bool) → (alike (starts v) r.marked && same r.left (symbols_in v)) ≡ b
         → (c : Bool) → prefix v (pattern r) ≡ c → (c || is_prefix rules v) ≡ false
         → (is_prefix rules v ≡ false → own rules v ≡ None) → own (r ∷ rules) v ≡ None
     go b p true q h ih = let z : ◌≡◌ {A = ℕ} 0 1 = cc in absurd (omega arith)
     go true p false q h ih =
-        let m : starts v ≡ r.marked = alike_eq (starts v) r.marked (and_left (alike (starts v) r.marked) (same r.left (symbols_in v)) p) in
-        let l : r.left ≡ symbols_in v = same_eq r.left (symbols_in v) (and_right (alike (starts v) r.marked) (same r.left (symbols_in v)) p) in
+        let m : starts v ≡ r.marked =
+        alike_eq (starts v) r.marked (and_left (alike (starts v) r.marked) (same r.left (symbols_in v)) p) in
+        let l : r.left ≡ symbols_in v =
+        same_eq r.left (symbols_in v) (and_right (alike (starts v) r.marked) (same r.left (symbols_in v)) p) in
         let s : pattern r ≡ v = pattern-own r v m l in
         let t : prefix v v ≡ true = rw append-nil at (prefix_append v []) in
         let z : ◌≡◌ {A = ℕ} 0 1 = cc in
@@ -168,7 +173,9 @@ unfolding state
 state_suffix rules [] = ([], refl)
 state_suffix rules (x ∷ p) = go (is_prefix rules (x ∷ p)) refl (state_suffix rules p)
   where
-    go : (b : Bool) → is_prefix rules (x ∷ p) ≡ b → (u : List ℕ) × (p ≡ u ++ state rules p) → (u : List ℕ) × (x ∷ p ≡ u ++ state rules (x ∷ p))
+    go :
+        (b : Bool) → is_prefix rules (x ∷ p) ≡ b → (u : List ℕ) × (p ≡ u ++ state rules p)
+        → (u : List ℕ) × (x ∷ p ≡ u ++ state rules (x ∷ p))
     go true e ih = ([], rw e)
     go false e ih = (x ∷ ih.0, rw e (cc ih.1))
 
@@ -176,7 +183,8 @@ pub length-state : (rules : List Rule) (p : List ℕ) → length (state rules p)
 length-state rules p = let (u, e) = state_suffix rules p in omega (arith, simp length-append at (ap length e))
 
 -- and the longest that is a prefix of a left side
-pub state_longest : (rules : List Rule) (p u v : List ℕ) → p ≡ u ++ v → is_prefix rules v ≡ true → length v ≤ length (state rules p)
+pub state_longest :
+    (rules : List Rule) (p u v : List ℕ) → p ≡ u ++ v → is_prefix rules v ≡ true → length v ≤ length (state rules p)
 state_longest rules p u v e h = rw e (go u)
   where
     turn : (x : ℕ) (u : List ℕ) (b : Bool) → is_prefix rules (x ∷ u ++ v) ≡ b → length v ≤ length (state rules (u ++ v))

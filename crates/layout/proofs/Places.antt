@@ -71,7 +71,8 @@ pub contents_within : (b : List ℕ) → valid b ≡ true → 4 + 4 * length (re
 contents_within b e = omega (arith, ap length (valid_encoding b e), length_image (read b))
 
 -- the bodies are what follows the contents
-pub bodies_behind : (b : List ℕ) → valid b ≡ true → length (flat_map body (read b).rules) ≡ length b - (4 + 4 * length (read b).rules)
+pub bodies_behind :
+    (b : List ℕ) → valid b ≡ true → length (flat_map body (read b).rules) ≡ length b - (4 + 4 * length (read b).rules)
 bodies_behind b e = omega (arith, ap length (valid_encoding b e), length_image (read b))
 
 -- and so do the 4 bytes of rule i

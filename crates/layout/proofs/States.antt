@@ -59,7 +59,8 @@ snoc_some u x e = omega (arith, simp length-append at (ap length e))
 pub known_append : (s t : List (List ℕ)) (v : List ℕ) → known (s ++ t) v ≡ (known s v || known t v)
 unfolding known
 known_append [] t v = refl
-known_append (u ∷ s) t v = ap (λ (b : Bool). same u v || b) (known_append s t v) ∙ sym (or_assoc (same u v) (known s v) (known t v))
+known_append (u ∷ s) t v =
+    ap (λ (b : Bool). same u v || b) (known_append s t v) ∙ sym (or_assoc (same u v) (known s v) (known t v))
 
 -- after the strings of vs have got numbers, those of s and those of vs have one
 pub known-numbered : (s vs : List (List ℕ)) (v : List ℕ) → known (numbered s vs) v ≡ (known s v || known vs v)
@@ -136,7 +137,8 @@ known_snoc rules [] a = known-states rules (a ∷ [])
 known_snoc rules (y ∷ v) a = known-states rules (y ∷ v ++ a ∷ [])
 
 -- and then it is the next state
-pub next_listed : (rules : List Rule) (v : List ℕ) (a : ℕ) → known (states rules) (v ++ a ∷ []) ≡ true → next rules v a ≡ v ++ a ∷ []
+pub next_listed :
+    (rules : List Rule) (v : List ℕ) (a : ℕ) → known (states rules) (v ++ a ∷ []) ≡ true → next rules v a ≡ v ++ a ∷ []
 next_listed rules v a k = next_child rules v a (sym (known_snoc rules v a) ∙ k)
 
 -- what a string leads to is a state
@@ -224,7 +226,8 @@ kept_at : (i : ℕ) (u : List ℕ) (s : List (List ℕ)) (v : List ℕ) → know
     → (i < length (s ++ v ∷ [])) × (get_or (s ++ v ∷ []) i [] ≡ u)
 kept_at i u s v new h = (simp length-append (omega arith), get_or-append s (v ∷ []) [] i h.0 ∙ h.1)
 
-pub first_root : (rules : List Rule) → (root rules < length (first_states rules)) × (get_or (first_states rules) (root rules) [] ≡ [])
+pub first_root :
+    (rules : List Rule) → (root rules < length (first_states rules)) × (get_or (first_states rules) (root rules) [] ≡ [])
 unfolding root first_states
 first_root rules = go (has_mark rules)
   where
@@ -235,7 +238,8 @@ first_root rules = go (has_mark rules)
 
 root_there : (rules : List Rule) → (root rules < length (states rules)) × (text rules (root rules) ≡ [])
 root_there rules =
-    states_keep (λ s. (root rules < length s) × (get_or s (root rules) [] ≡ [])) (kept_at (root rules) []) rules (first_root rules)
+    states_keep (λ s. (root rules < length s) × (get_or s (root rules) [] ≡ [])) (kept_at (root rules) []) rules
+    (first_root rules)
 
 -- the empty string is the root
 pub root_below : (rules : List Rule) → root rules < length (states rules)
@@ -257,12 +261,14 @@ root_small rules = go (has_mark rules)
     go false = omega arith
 
 -- where it is 1, state 0 is the mark alone
-pub first_mark : (rules : List Rule) → 0 < root rules → (0 < length (first_states rules)) × (get_or (first_states rules) 0 [] ≡ mark ∷ [])
+pub first_mark :
+    (rules : List Rule) → 0 < root rules → (0 < length (first_states rules)) × (get_or (first_states rules) 0 [] ≡ mark ∷ [])
 unfolding root first_states
 first_mark rules = go (has_mark rules)
   where
     go : (b : Bool) → 0 < cond b 1 0
-        → (0 < length (cond b ((mark ∷ []) ∷ [] ∷ []) ([] ∷ []))) × (get_or (cond b ((mark ∷ []) ∷ [] ∷ []) ([] ∷ [])) 0 [] ≡ mark ∷ [])
+        → (0 < length (cond b ((mark ∷ []) ∷ [] ∷ []) ([] ∷ [])))
+        × (get_or (cond b ((mark ∷ []) ∷ [] ∷ []) ([] ∷ [])) 0 [] ≡ mark ∷ [])
     go true h = (omega arith, refl)
     go false h = absurd (omega arith)
 
@@ -373,7 +379,8 @@ unfolding numbered
 numbered_append s [] v = refl
 numbered_append s (x ∷ u) v = numbered_append (cond (known s x) s (s ++ x ∷ [])) u v
 
-pub numbered-known : (s : List (List ℕ)) (v : List ℕ) (vs : List (List ℕ)) → known s v ≡ true → numbered s (v ∷ vs) ≡ numbered s vs
+pub numbered-known :
+    (s : List (List ℕ)) (v : List ℕ) (vs : List (List ℕ)) → known s v ≡ true → numbered s (v ∷ vs) ≡ numbered s vs
 unfolding numbered
 numbered-known s v vs e = rw e
 
@@ -473,7 +480,9 @@ prefix_short n k (r ∷ rules) e room v p =
     own : length r.left ≤ n
     own = e 0 (omega arith)
 
-    go : (prefix v (pattern r) ≡ true) ⊎ (is_prefix rules v ≡ true) → (is_prefix rules v ≡ true → length v ≤ n + k) → length v ≤ n + k
+    go :
+        (prefix v (pattern r) ≡ true) ⊎ (is_prefix rules v ≡ true) → (is_prefix rules v ≡ true → length v ≤ n + k)
+        → length v ≤ n + k
     go (inl h) ih =
         let size : length (pattern r) ≡ length v + length (drop (length v) (pattern r)) =
         ap length (prefix_rest v (pattern r) h) ∙ length-append v (drop (length v) (pattern r))

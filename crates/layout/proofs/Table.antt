@@ -41,7 +41,8 @@ unfolding row
 length-row set q = rw (length-map, length-up_to)
 
 -- "Words written: 2 + N + N × S"
-pub length_table : (set : RuleSet) → length (table_of set) ≡ 2 + length (states set.rules) + length (states set.rules) * set.symbols
+pub length_table :
+    (set : RuleSet) → length (table_of set) ≡ 2 + length (states set.rules) + length (states set.rules) * set.symbols
 unfolding table_of
 length_table set =
     rw (length-append, length-map, length-flat_map (row set) set.symbols (length-row set)) (omega arith)
@@ -94,7 +95,8 @@ pub table_next : (set : RuleSet) (i a : ℕ) → i < length (states set.rules) �
 unfolding table_of
 table_next set i a h below =
     let m = length_match_words set in
-    let at : 2 + length (states set.rules) + i * set.symbols + a ≡ suc (suc (length (match_words set) + (i * set.symbols + a))) = omega arith in
+    let at : 2 + length (states set.rules) + i * set.symbols + a ≡ suc (suc (length (match_words set) + (i * set.symbols + a))) =
+    omega arith in
     rw at
     (get_or-append-add (match_words set) (flat_map (row set) (states set.rules)) (i * set.symbols + a) 0
     ∙ get_or-flat_map (row set) set.symbols (length-row set) (states set.rules) i a [] 0 h below
@@ -149,7 +151,8 @@ pub begins-next : (set : RuleSet) (t : List ℕ) → prefix (table_of set) t ≡
 begins-next set t e i a h below =
     let m = length_table set in
     let fits = word_within set.symbols i (length (states set.rules)) a h below in
-    begins_at (table_of set) t e (2 + length (states set.rules) + i * set.symbols + a) 0 (omega arith) ∙ table_next set i a h below
+    begins_at (table_of set) t e (2 + length (states set.rules) + i * set.symbols + a) 0 (omega arith)
+    ∙ table_next set i a h below
 
 -- a match word is at most the number of rules
 pub few_matching : (rules : List Rule) (q : List ℕ) → match_word (matching rules q) ≤ length rules

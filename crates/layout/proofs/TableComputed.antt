@@ -110,7 +110,8 @@ pub marked_table : table_of (record { symbols = 3; events = 2; verdicts = 2; rul
     ∷ 2 ∷ 1 ∷ 1
     ∷ []
 unfolding
-    table_of match_word row states first_states has_mark numbered pattern prefixes known number next matching starts symbols_in state is_prefix
+    table_of match_word row states first_states has_mark numbered pattern prefixes known number next matching starts symbols_in
+    state is_prefix
     lowest spanning tie ending flat_map
 marked_table = refl
 

@@ -39,7 +39,8 @@ use Rattle.layout.proofs.Marks.{plain_beginning, plain_left, no_mark_prefix}
 use Rattle.layout.proofs.States.{all_prefixes, listed_prefix}
 
 -- equal at each element, equal as lists
-map_at : {A : Type 0} (f g : List ℕ → A) (xs : List (List ℕ)) → ((i : ℕ) → i < length xs → f (get_or xs i []) ≡ g (get_or xs i []))
+map_at :
+    {A : Type 0} (f g : List ℕ → A) (xs : List (List ℕ)) → ((i : ℕ) → i < length xs → f (get_or xs i []) ≡ g (get_or xs i []))
     → map f xs ≡ map g xs
 map_at f g [] h = refl
 map_at f g (x ∷ xs) h = rw (h 0 (omega arith), map_at f g xs (λ i lt. h (suc i) (omega arith)))
@@ -125,7 +126,8 @@ module _ (set : RuleSet) (in_range_lem : in_range set ≡ true) (none : has_mark
       go : (prefix v r.left ≡ true) ⊎ (is_left_prefix rules v ≡ true) → (is_left_prefix rules v ≡ true → Plain v) → Plain v
       go (inl h) ih =
           plain_beginning v r.left h
-          (plain_left set (ranges set in_range_lem).few_symbols r (and_left (rule_in_range set r) (all (rule_in_range set) rules) e))
+          (plain_left set (ranges set in_range_lem).few_symbols r
+          (and_left (rule_in_range set r) (all (rule_in_range set) rules) e))
       go (inr h) ih = ih h
 
   state_plain : (i : ℕ) → i < length (states set.rules) → Plain (get_or (states set.rules) i [])
@@ -161,5 +163,6 @@ sample_unmarked = refl
 
 pub sample_keeps : table_of sample ≡ document01_table sample
 sample_keeps =
-    unmarked_table sample (subst (λ (x : RuleSet). in_range x ≡ true) (read_image sample) (valid-in_range (image_of sample) sample-valid))
+    unmarked_table sample (subst (λ (x : RuleSet). in_range x ≡ true) (read_image sample)
+    (valid-in_range (image_of sample) sample-valid))
     sample_unmarked

@@ -1,7 +1,8 @@
 -- What the code checks of an image: the header, then the contents, which announce how many symbols follow them.
 -- The contracts of the code's parts cite these; that together with the symbols' range they are `valid` is proved
 -- (`checked`, proofs/ImageCheck.antt). The pass over the contents also looks for the mark (`marks-read`, there).
-use Rattle.std.specs.Prelude.{ℕ, zero, suc, ◌+◌, ◌*◌, ◌-◌, ◌≤◌, Bool, true, false, cond, ◌&&◌, ◌||◌, List, eqb, leb, ltb, length, get_or, drop}
+use Rattle.std.specs.Prelude.{ℕ, zero, suc, ◌+◌, ◌*◌, ◌-◌, ◌≤◌, Bool, true, false, cond, ◌&&◌, ◌||◌, List, eqb, leb, ltb, length}
+use Rattle.std.specs.Prelude.{get_or, drop}
 use Rattle.rewriting.specs.Lists.{between}
 
 -- the answer says whether P holds

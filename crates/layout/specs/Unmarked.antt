@@ -1,4 +1,5 @@
--- Document 01's table, which knows no marks: its definitions word for word, over left sides alone. Document 02, No. 1: "Other images
+-- Document 01's table, which knows no marks: its definitions word for word, over left sides alone. Document 02, No. 1: "Other
+-- images
 -- keep their table." (`unmarked_table`, proofs/Unmarked.antt)
 use Rattle.std.specs.Prelude.{ℕ, suc, Bool, cond, length, Option, None, Some, option_map}
 use mathlib.Core.List.{List, [], ◌∷◌, ◌++◌, map, flat_map}
@@ -37,4 +38,5 @@ left_row set q = map (λ a. number (left_states set.rules) (left_state set.rules
 unfoldable pub document01_table : RuleSet → List ℕ
 document01_table set =
     length (left_states set.rules) ∷ set.symbols
-    ∷ (map (λ q. match_word (longest_left set.rules q)) (left_states set.rules) ++ flat_map (left_row set) (left_states set.rules))
+    ∷ (map (λ q. match_word (longest_left set.rules q)) (left_states set.rules) ++ flat_map (left_row set)
+    (left_states set.rules))

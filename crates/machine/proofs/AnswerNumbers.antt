@@ -21,7 +21,8 @@ use Rattle.layout.specs.Table.{table_of}
 use Rattle.machine.specs.declared.Answer.{Answer}
 use Rattle.machine.specs.Run.{Run, run}
 use Rattle.machine.specs.Areas.{Monitor, head_of, monitor_of, state_of, closes_with, stands_by}
-use Rattle.machine.specs.Calls.{Call, Offer, Outcome, lent_checks, call_checks, fuel_of, offered, outcome, decided, call_of, answer_number}
+use Rattle.machine.specs.Calls.{Call, Offer, Outcome, lent_checks, call_checks, fuel_of, offered, outcome, decided, call_of}
+use Rattle.machine.specs.Calls.{answer_number}
 use Rattle.machine.specs.Play.{offers_of}
 use Rattle.machine.specs.Batch.{stopped, and_then, in_turn, offers, batch_checks, batched, batch_of}
 use Rattle.machine.specs.Promise.{Stopped}
@@ -118,7 +119,8 @@ answer_number-below capacity image table m c =
     go (Ok Answer.Spent) e s = omega arith
     go (Ok Answer.Full) e s = omega arith
     go (Ok (Answer.Verdict v)) e s =
-        let low : v < 16 = accepted_verdict capacity image table m c (ap (λ (x : Result Answer ℕ). refused_by x) e) v (s (Answer.Verdict v) e) in
+        let low : v < 16 =
+        accepted_verdict capacity image table m c (ap (λ (x : Result Answer ℕ). refused_by x) e) v (s (Answer.Verdict v) e) in
         omega arith
     go (Err n) e s = omega arith
 

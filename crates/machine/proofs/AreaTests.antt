@@ -95,9 +95,11 @@ module _ (set : RuleSet) (head : Head) (bytes words : List ℕ) (size : length w
         (map (number (states set.rules)) (states_after set.rules (after set.rules []) (take head.settled bytes))) []
         ≡ words
     words_area =
-        let own : length (take head.settled words) ≡ head.settled = length-take-le head.settled words (omega (arith, size, t.room)) in
+        let own : length (take head.settled words) ≡ head.settled =
+        length-take-le head.settled words (omega (arith, size, t.room)) in
         let all_rest : behind head.settled words ≡ drop head.settled words = all_behind head.settled words in
-        let long : length (behind head.settled words) ≡ length words - head.settled = ap length all_rest ∙ length-drop head.settled words in
+        let long : length (behind head.settled words) ≡ length words - head.settled =
+        ap length all_rest ∙ length-drop head.settled words in
         ap (λ (x : List ℕ). area_of (length bytes) x []) (sym t.settled_part.words_right)
         ∙ area_whole (length bytes) (take head.settled words) (behind head.settled words) []
         (omega (arith, own, long, size, t.room)) t.rest
@@ -194,7 +196,8 @@ module _ (set : RuleSet) (head : Head) (bytes words : List ℕ) (size : length w
 
     described_tested : Tested set head bytes words
     described_tested =
-        let gap : length bytes - (head.settled + length last) ≡ length bytes - head.waiting - head.settled = omega (arith, last_long, has_room) in
+        let gap : length bytes - (head.settled + length last) ≡ length bytes - head.waiting - head.settled =
+        omega (arith, last_long, has_room) in
         let gap_words : length bytes - (head.settled + 0) ≡ length words - head.settled = omega (arith, size) in
         record {
           room = has_room;

@@ -34,7 +34,8 @@ unfolding area_of
 area_split capacity s q n h =
     let k : ℕ = capacity - (length s + (n + length q)) in
     let e : capacity - (length s + length q) ≡ k + n = omega arith in
-    rw (e, zeros_add k n, append_assoc (replicate k 0) (replicate n 0) q) (sym (append_assoc s (replicate k 0) (replicate n 0 ++ q)))
+    rw (e, zeros_add k n, append_assoc (replicate k 0) (replicate n 0) q)
+    (sym (append_assoc s (replicate k 0) (replicate n 0 ++ q)))
 
 length_front : (capacity n : ℕ) (s q : List ℕ) → length s + (n + length q) ≤ capacity
     → length (s ++ replicate (capacity - (length s + (n + length q))) 0) ≡ capacity - (length q + n)
@@ -84,7 +85,8 @@ area_cut capacity s q k n e short h =
     let whole : s ++ (zeros ++ q) ≡ take k s ++ (drop k s ++ (zeros ++ q)) =
     ap (λ (l : List ℕ). l ++ (zeros ++ q)) (sym (take-append-drop k s)) ∙ append_assoc (take k s) (drop k s) (zeros ++ q)
     in
-    let total : capacity - (length (take k s) + length q) ≡ (n - k) + (capacity - (length s + length q)) = rw front (omega arith) in
+    let total : capacity - (length (take k s) + length q) ≡ (n - k) + (capacity - (length s + length q)) =
+    rw front (omega arith) in
     ap (λ (l : List ℕ). paste l k (replicate (n - k) 0) (n - k)) whole
     ∙ paste_at (take k s) (drop k s) (zeros ++ q) (replicate (n - k) 0) k (n - k) front back
     ∙ rw (

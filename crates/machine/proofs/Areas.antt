@@ -65,7 +65,8 @@ states-after rules p (a ∷ s) (suc i) h =
 
 -- one symbol more
 pub states_after_snoc : (rules : List Rule) (p s : List ℕ) (a : ℕ)
-    → states_after rules (state rules p) (s ++ a ∷ []) ≡ states_after rules (state rules p) s ++ next rules (state rules (p ++ s)) a ∷ []
+    → states_after rules (state rules p) (s ++ a ∷ [])
+    ≡ states_after rules (state rules p) s ++ next rules (state rules (p ++ s)) a ∷ []
 unfolding states_after
 states_after_snoc rules p [] a = rw append-nil
 states_after_snoc rules p (x ∷ s) a =

@@ -21,7 +21,8 @@ use Rattle.layout.specs.Table.{table_of}
 use Rattle.machine.specs.Areas.{Head, Monitor, state_of}
 use Rattle.machine.specs.declared.Counts.{Counts}
 use Rattle.machine.specs.Run.{Run, no_counts, plus, run}
-use Rattle.machine.specs.Calls.{Call, Offer, Outcome, lent_checks, fuel_check, verdict_check, call_checks, fuel_of, offered, outcome, decided, refusal_of, call_of, offer_of, answer_number}
+use Rattle.machine.specs.Calls.{Call, Offer, Outcome, lent_checks, fuel_check, verdict_check, call_checks, fuel_of, offered}
+use Rattle.machine.specs.Calls.{outcome, decided, refusal_of, call_of, offer_of, answer_number}
 use Rattle.machine.specs.Batch.{Offers, stopped, and_then, in_turn, offers, batch_checks, batched, batch_of}
 use Rattle.machine.specs.Play.{no_calls, events_of, logged, play, offers_of}
 use Rattle.machine.specs.Promise.{Ended, BatchEnded, BatchIsOffers}
@@ -62,7 +63,8 @@ record Offered (capacity : ℕ) (image table : List ℕ) (m : Monitor) (events :
   rewrites : b.counts.rewrites ≤ b.counts.steps
   put : b.counts.put ≤ 8 * b.counts.rewrites
 
-module _ (capacity : ℕ) (image table : List ℕ) (good : valid image ≡ true) (right : prefix (table_of (read image)) table ≡ true) where
+module _ (capacity : ℕ) (image table : List ℕ) (good : valid image ≡ true)
+    (right : prefix (table_of (read image)) table ≡ true) where
   -- a refused call is refused by the checks of its own
   refused_by_lem : (m : Monitor) → Holding (read image) capacity m → (c : Call) (n : ℕ)
       → call_of capacity image table m c ≡ refusal_of n m → refusal (call_checks (read image) capacity m.head c) ≡ Some n
@@ -189,7 +191,8 @@ batch_theorem capacity image table m events fuel answers = go (refusal checks) r
         let right : prefix (table_of (read image)) table ≡ true = refusal_passed _ _ _ (refusal_rest _ _ _ lent) in
         let taken : leb fuel 65535 ≡ true = refusal_passed _ _ _ own in
         let few_events : length events ≤ 65535 =
-        leb-true _ _ (and_left (leb (length events) 65535) (leb (length events) (length answers)) (refusal_passed _ _ _ (refusal_rest _ _ _ own)))
+        leb-true _ _ (and_left (leb (length events) 65535) (leb (length events) (length answers))
+        (refusal_passed _ _ _ (refusal_rest _ _ _ own)))
         in
         let d : Offered capacity image table m events fuel b =
         offers-offered capacity image table good right fuel taken events m (passed_holding capacity image table m lent)

@@ -14,7 +14,8 @@ use Rattle.layout.proofs.Image.{valid-in_range}
 use Rattle.layout.proofs.Refusals.{refusal_passed, refusal_none_left, refusal-number}
 use Rattle.machine.specs.Run.{Run, no_counts, run}
 use Rattle.machine.specs.Areas.{Monitor, state_of}
-use Rattle.machine.specs.Calls.{Call, Offer, GoOn, fuel_of, lent_checks, fuel_check, verdict_check, call_checks, offered, outcome, decided, call_of}
+use Rattle.machine.specs.Calls.{Call, Offer, GoOn, fuel_of, lent_checks, fuel_check, verdict_check, call_checks, offered, outcome}
+use Rattle.machine.specs.Calls.{decided, call_of}
 use Rattle.machine.specs.Promise.{refusals_of, Ended, DemandOne}
 use Rattle.machine.proofs.Machine.{reaches_counts}
 use Rattle.machine.proofs.Runs.{Ran, ran}

@@ -22,7 +22,8 @@ use Rattle.machine.specs.declared.Answer.{Answer}
 use Rattle.machine.specs.State.{State}
 use Rattle.machine.specs.Run.{Run, fits, run}
 use Rattle.machine.specs.Areas.{Monitor, head_of, monitor_of, state_of}
-use Rattle.machine.specs.Calls.{Call, Offer, GoOn, Outcome, fuel_of, lent_checks, fuel_check, verdict_check, call_checks, offered, outcome, decided, call_of}
+use Rattle.machine.specs.Calls.{Call, Offer, GoOn, Outcome, fuel_of, lent_checks, fuel_check, verdict_check, call_checks, offered}
+use Rattle.machine.specs.Calls.{outcome, decided, call_of}
 use Rattle.machine.specs.Play.{events_of}
 use Rattle.machine.proofs.Machine.{Reaches, Stay, more}
 use Rattle.machine.proofs.Runs.{Ran, ran, stopped_quiet}
@@ -86,7 +87,8 @@ next_of set ranges capacity s f h c =
     done : Ran set.rules capacity (fuel_of c) (offered s c) r
     done = ran set.rules capacity (fuel_of c) (offered s c)
 
-    go : (o : Option ℕ) → refusal (call_checks set capacity (head_of s) c) ≡ o → Next set capacity s c (outcome set capacity m o r)
+    go :
+        (o : Option ℕ) → refusal (call_checks set capacity (head_of s) c) ≡ o → Next set capacity s c (outcome set capacity m o r)
     go (Some n) e =
         record {
           after = record { state = s; written = refl; legal = f; room = h };
@@ -104,7 +106,13 @@ next_of set ranges capacity s f h c =
         let legal : Legal set (offered s c) = rw offered_more (legal_more set s (events_of None c) symbols f) in
         let quiet : _ = stopped_quiet set.rules capacity (fuel_of c) r.counts r.state r.answer done.stops in
         record {
-          after = record { state = r.state; written = refl; legal = legal_reaches set ranges done.reached legal; room = done.room room };
+          after =
+              record {
+                state = r.state;
+                written = refl;
+                legal = legal_reaches set ranges done.reached legal;
+                room = done.room room;
+              };
           reached = rw (← offered_more) done.reached;
           symbols = symbols;
           quiet = (
@@ -127,7 +135,8 @@ passed_holding capacity image table m e =
     in
     record { state = state_of m; written = sym d.written; legal = d.legal; room = d.room }
 
-module _ (capacity : ℕ) (image table : List ℕ) (good : valid image ≡ true) (right : prefix (table_of (read image)) table ≡ true) where
+module _ (capacity : ℕ) (image table : List ℕ) (good : valid image ≡ true)
+    (right : prefix (table_of (read image)) table ≡ true) where
   in_range_lem : Ranges (read image)
   in_range_lem = ranges (read image) (valid-in_range image good)
 

@@ -111,7 +111,8 @@ is-none None e = refl
 is-none (Some v) e = let z : ◌≡◌ {A = ℕ} 0 1 = cc in absurd (omega arith)
 
 module _ (set : RuleSet) (capacity : ℕ) (head : Head) (fuel : ℕ) where
-  pub accepted_none : (offered : Option ℕ) → refusal (call_checks set capacity head (offer_or_go_on offered fuel)) ≡ None → head.verdict ≡ None
+  pub accepted_none :
+      (offered : Option ℕ) → refusal (call_checks set capacity head (offer_or_go_on offered fuel)) ≡ None → head.verdict ≡ None
   unfolding call_checks fuel_check verdict_check offer_or_go_on
   accepted_none (Some event) e = is-none head.verdict (refusal_passed _ _ _ (refusal_rest _ _ _ (refusal_rest _ _ _ e)))
   accepted_none None e = is-none head.verdict (refusal_passed _ _ _ (refusal_rest _ _ _ e))
@@ -134,7 +135,8 @@ is-run set capacity m m' c checks s o e f g = rw e (g ∙ rw f)
 
 -- "the event becomes the last waiting symbol"
 module _ (capacity : ℕ) (image table : List ℕ) (m : Monitor) (ok : Passed capacity image table m) (event fuel from : ℕ)
-    (v : m.head.verdict ≡ None) (room : m.head.settled + m.head.waiting ≡ capacity → ⊥) (place : from ≡ capacity - m.head.waiting) where
+    (v : m.head.verdict ≡ None) (room : m.head.settled + m.head.waiting ≡ capacity → ⊥)
+    (place : from ≡ capacity - m.head.waiting) where
   facts : Held (read image) capacity m
   facts = held capacity image table m ok
 
@@ -152,7 +154,12 @@ module _ (capacity : ℕ) (image table : List ℕ) (m : Monitor) (ok : Passed ca
       (omega (arith, room, facts.room, facts.settled_count, facts.waiting_count)))
       facts.words_are
       ∙ (λ i. monitor_of (read image).rules capacity
-      (record { settled = s.settled; waiting = s.waiting ++ event ∷ []; verdict = sym v i; rule = sym (zero-rule capacity image table m ok v) i }))
+      (record {
+        settled = s.settled;
+        waiting = s.waiting ++ event ∷ [];
+        verdict = sym v i;
+        rule = sym (zero-rule capacity image table m ok v) i;
+      }))
 
   pub offered-state : state_of (monitor_in (taken (Some event) m.head) (appended capacity event from m.bytes) m.words)
       ≡ offered (state_of m) (Offer event fuel)
@@ -177,13 +184,16 @@ module _ (capacity : ℕ) (image table : List ℕ) (m : Monitor) (ok : Passed ca
       head : head_of (state_of m) ≡ m.head
       head = ap (λ (x : Monitor). x.head) (passed_written capacity image table m ok)
 
-      accepted : (fits capacity (offered (state_of m) (Offer event fuel)) ≡ true) × (below (read image).symbols (events_of None (Offer event fuel)) ≡ true)
+      accepted :
+          (fits capacity (offered (state_of m) (Offer event fuel)) ≡ true)
+          × (below (read image).symbols (events_of None (Offer event fuel)) ≡ true)
       accepted =
           accepted_event (read image) (ranges (read image) (valid-in_range image good)) capacity (state_of m) (Offer event fuel)
           (rw head e) (le-leb _ _ facts.room)
 
 -- The same of a call that is an offer or a go-on.
-module _ (capacity : ℕ) (image table : List ℕ) (head : Head) (bytes words : List ℕ) (ok : Passed capacity image table (monitor_in head bytes words))
+module _ (capacity : ℕ) (image table : List ℕ) (head : Head) (bytes words : List ℕ)
+    (ok : Passed capacity image table (monitor_in head bytes words))
     (fuel : ℕ) (offered_event : Option ℕ)
     (accepted : refusal (call_checks (read image) capacity head (offer_or_go_on offered_event fuel)) ≡ None) where
   none_stands : head.verdict ≡ None
@@ -209,7 +219,9 @@ module _ (capacity : ℕ) (image table : List ℕ) (head : Head) (bytes words : 
       go : (o : Option ℕ) → IfSome o (λ event. head.settled + head.waiting ≡ capacity → ⊥)
           → state_of (monitor_in (taken o head) (bytes_with o capacity head.waiting bytes) words)
           ≡ offered (state_of (monitor_in head bytes words)) (offer_or_go_on o fuel)
-      go (Some event) room = offered-state capacity image table (monitor_in head bytes words) ok event fuel (capacity - head.waiting) none_stands room refl
+      go (Some event) room =
+          offered-state capacity image table (monitor_in head bytes words) ok event fuel
+          (capacity - head.waiting) none_stands room refl
       go None room = ap (λ (h : Head). state_of (monitor_in h bytes words)) as_is
 
   pub call_passes : Passed capacity image table
@@ -221,11 +233,13 @@ module _ (capacity : ℕ) (image table : List ℕ) (head : Head) (bytes words : 
           → refusal (call_checks (read image) capacity head (offer_or_go_on o fuel)) ≡ None
           → Passed capacity image table (monitor_in (taken o head) (bytes_with o capacity head.waiting bytes) words)
       go (Some event) room e =
-          offered_passes capacity image table (monitor_in head bytes words) ok event fuel (capacity - head.waiting) none_stands room refl e
+          offered_passes capacity image table (monitor_in head bytes words) ok event fuel
+          (capacity - head.waiting) none_stands room refl e
       go None room e = subst (λ (h : Head). Passed capacity image table (monitor_in h bytes words)) (sym as_is) ok
 
 -- A call that what is lent refuses.
-pub lent_refused : (capacity : ℕ) (image table : List ℕ) (m : Monitor) (c : Call) (n : ℕ) → refusal (lent_checks capacity image table m) ≡ Some n
+pub lent_refused :
+    (capacity : ℕ) (image table : List ℕ) (m : Monitor) (c : Call) (n : ℕ) → refusal (lent_checks capacity image table m) ≡ Some n
     → refusal_of n m ≡ call_of capacity image table m c
 unfolding call_of
 lent_refused capacity image table m c n e =
@@ -241,19 +255,25 @@ pub other_bytes : (capacity : ℕ) (bytes words : List ℕ) → (length bytes �
 unfolding sized
 other_bytes capacity bytes words h = rw (ne_eqb (length bytes) capacity h)
 
-pub other_words : (capacity : ℕ) (bytes words : List ℕ) → length bytes ≡ capacity → (length words ≡ capacity → ⊥) → sized capacity bytes words ≡ false
+pub other_words :
+    (capacity : ℕ) (bytes words : List ℕ) → length bytes ≡ capacity → (length words ≡ capacity → ⊥)
+    → sized capacity bytes words ≡ false
 unfolding sized
 other_words capacity bytes words e h = rw (eq-eqb (length bytes) capacity e, ne_eqb (length words) capacity h)
 
 -- .. and else sets all to 0.
-all_cleared : (capacity : ℕ) (l : List ℕ) → length l ≡ capacity → paste l 0 (replicate (capacity - 0) 0) (capacity - 0) ≡ replicate capacity 0
+all_cleared :
+    (capacity : ℕ) (l : List ℕ) → length l ≡ capacity
+    → paste l 0 (replicate (capacity - 0) 0) (capacity - 0) ≡ replicate capacity 0
 all_cleared capacity l e =
     let n : capacity - 0 ≡ capacity = omega arith in
     let z : 0 + capacity ≡ length l = omega arith in
-    rw (n, z, drop-length l, append-nil) (take_all {A = ℕ} capacity (replicate capacity 0) (rw (length-replicate {A = ℕ}) (omega arith)))
+    rw (n, z, drop-length l, append-nil)
+    (take_all {A = ℕ} capacity (replicate capacity 0) (rw (length-replicate {A = ℕ}) (omega arith)))
 
 pub cleared : (capacity : ℕ) (bytes words bytes' words' : List ℕ) → length bytes ≡ capacity → length words ≡ capacity
-    → bytes' ≡ paste bytes 0 (replicate (capacity - 0) 0) (capacity - 0) → words' ≡ paste words 0 (replicate (capacity - 0) 0) (capacity - 0)
+    → bytes' ≡ paste bytes 0 (replicate (capacity - 0) 0) (capacity - 0)
+    → words' ≡ paste words 0 (replicate (capacity - 0) 0) (capacity - 0)
     → record { refused = None; monitor = monitor_in (head_of empty) bytes' words' } ≡ fresh_of capacity bytes words
 unfolding fresh_of freshened refusal sized
 cleared capacity bytes words bytes' words' eb ew cb cw =
@@ -261,5 +281,10 @@ cleared capacity bytes words bytes' words' eb ew cb cw =
     (λ i.
     record {
       refused = None;
-      monitor = record { head = head_of empty; bytes = (cb ∙ all_cleared capacity bytes eb) i; words = (cw ∙ all_cleared capacity words ew) i };
+      monitor =
+          record {
+            head = head_of empty;
+            bytes = (cb ∙ all_cleared capacity bytes eb) i;
+            words = (cw ∙ all_cleared capacity words ew) i;
+          };
     })

@@ -20,7 +20,8 @@ use Rattle.layout.specs.States.{mark, after, next, matching}
 use Rattle.layout.proofs.Matching.{Plain, state_snoc, matching-next}
 use Rattle.machine.specs.State.{State}
 use Rattle.machine.specs.Run.{fits}
-use Rattle.machine.specs.Areas.{Monitor, head_of, bytes_of, states_after, words_of, monitor_of, state_of, no_match, unmatched, stands_by, holds, described}
+use Rattle.machine.specs.Areas.{Monitor, head_of, bytes_of, states_after, words_of, monitor_of, state_of, no_match, unmatched}
+use Rattle.machine.specs.Areas.{stands_by, holds, described}
 use Rattle.machine.specs.Calls.{sized}
 use Rattle.machine.proofs.Legal.{Legal, plain_below}
 use Rattle.machine.proofs.Areas.{state_back}
@@ -64,9 +65,11 @@ clean_after rules p (a ∷ s) plain h e =
     let q : List ℕ = next rules (after rules p) a in
     let rest : Bool = all (λ q. no_match (matching rules q)) (states_after rules q s) in
     let here : matching rules q ≡ None = no_match_lem _ (and_left (no_match (matching rules q)) rest e) in
-    let on : redex rules (p ++ a ∷ []) ≡ None = scan_snoc rules p a h (sym (matching-next rules p a (plain_up_to p a s behind)) ∙ here) in
+    let on : redex rules (p ++ a ∷ []) ≡ None =
+    scan_snoc rules p a h (sym (matching-next rules p a (plain_up_to p a s behind)) ∙ here) in
     rw append_snoc at
-    (clean_after rules (p ++ a ∷ []) s behind on (rw (state_snoc rules (mark ∷ p) a) at (and_right (no_match (matching rules q)) rest e)))
+    (clean_after rules (p ++ a ∷ []) s behind on
+    (rw (state_snoc rules (mark ∷ p) a) at (and_right (no_match (matching rules q)) rest e)))
 
 clean_unmatched : (rules : List Rule) (s : List ℕ) → Plain s → unmatched rules s ≡ true → redex rules s ≡ None
 unfolding unmatched redex scan

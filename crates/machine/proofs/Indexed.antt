@@ -66,7 +66,8 @@ indexing_next b starts at i left size k h e f =
     })
 
 -- all rules have theirs, whatever stands behind
-pub indexing_last : (b starts more : List ℕ) (at i : ℕ) → Indexing b starts at i → length (read b).rules ≤ i → Starts b (starts ++ more)
+pub indexing_last :
+    (b starts more : List ℕ) (at i : ℕ) → Indexing b starts at i → length (read b).rules ≤ i → Starts b (starts ++ more)
 indexing_last b starts more at i k all =
     λ j h.
     let within : j < length starts = omega (arith, h, k.room) in

@@ -43,7 +43,8 @@ pub record Held (set : RuleSet) (capacity : ℕ) (g : Log) : Type 0 where
   pub symbols : below set.symbols g.events ≡ true
 
 -- nothing is called yet
-held_fresh : (set : RuleSet) (capacity : ℕ) (m : Monitor) → m ≡ monitor_of set.rules capacity empty → Held set capacity (no_calls m)
+held_fresh :
+    (set : RuleSet) (capacity : ℕ) (m : Monitor) → m ≡ monitor_of set.rules capacity empty → Held set capacity (no_calls m)
 unfolding no_calls active empty fits
 held_fresh set capacity m e =
     record {
@@ -58,7 +59,8 @@ length-zero : (l : List ℕ) → length l ≡ 0 → l ≡ []
 length-zero [] e = refl
 length-zero (x ∷ l) e = absurd (omega arith)
 
-module _ (capacity : ℕ) (image table : List ℕ) (good : valid image ≡ true) (right : prefix (table_of (read image)) table ≡ true) where
+module _ (capacity : ℕ) (image table : List ℕ) (good : valid image ≡ true)
+    (right : prefix (table_of (read image)) table ≡ true) where
   -- one call more
   held_logged : (g : Log) → Held (read image) capacity g → (c : Call)
       → Held (read image) capacity (logged g c (call_of capacity image table g.monitor c))
@@ -74,7 +76,9 @@ module _ (capacity : ℕ) (image table : List ℕ) (good : valid image ≡ true)
         symbols = all_append (λ x. ltb x (read image).symbols) g.events events h.symbols n.symbols;
       }
 
-  held_play : (calls : List Call) (g : Log) → Held (read image) capacity g → Held (read image) capacity (play capacity image table g calls)
+  held_play :
+      (calls : List Call) (g : Log) → Held (read image) capacity g
+      → Held (read image) capacity (play capacity image table g calls)
   unfolding play
   held_play [] g h = h
   held_play (c ∷ calls) g h =
@@ -85,7 +89,9 @@ module _ (capacity : ℕ) (image table : List ℕ) (good : valid image ≡ true)
   unfolding string_of
   string_held m h = rw (h.written, state_back)
 
-  each_answered : (m : Monitor) → Holding (read image) capacity m → (c : Call) → Answered (read image) capacity m c (call_of capacity image table m c)
+  each_answered :
+      (m : Monitor) → Holding (read image) capacity m → (c : Call)
+      → Answered (read image) capacity m c (call_of capacity image table m c)
   unfolding monitor_of head_of
   each_answered m h c =
       record {
@@ -136,7 +142,8 @@ module _ (capacity : ℕ) (image table : List ℕ) (good : valid image ≡ true)
       }
 
 -- what is lent is refused at every call
-module _ (n capacity : ℕ) (image table : List ℕ) (m : Monitor) (fails : refusal (lent_checks capacity image table m) ≡ Some n) where
+module _ (n capacity : ℕ) (image table : List ℕ) (m : Monitor)
+    (fails : refusal (lent_checks capacity image table m) ≡ Some n) where
   refused_call : (c : Call) → call_of capacity image table m c ≡ refusal_of n m
   unfolding call_of decided outcome
   refused_call c = rw (refusal_append_some _ _ n fails)

@@ -31,5 +31,8 @@ play-after capacity image table [] g =
     }
 play-after capacity image table (c ∷ calls) g =
     let o : Outcome = call_of capacity image table g.monitor c in
-    rw (play-after capacity image table calls (logged g c o), play-after capacity image table calls (logged (no_calls g.monitor) c o))
+    rw (
+      play-after capacity image table calls (logged g c o),
+      play-after capacity image table calls (logged (no_calls g.monitor) c o),
+    )
     (simp (append_assoc, plus_assoc, none-plus))

@@ -31,7 +31,8 @@ unfolding match_word
 some_match None k e z = absurd (z e)
 some_match (Some i) k e z = let n : i ≡ k - 1 = omega (arith, e) in ap Some n
 
-module _ (capacity : ℕ) (image table : List ℕ) (m : Monitor) (ok : Passed capacity image table m) (a : ℕ) (q : List ℕ) (w : (state_of m).waiting ≡ a ∷ q) where
+module _ (capacity : ℕ) (image table : List ℕ) (m : Monitor) (ok : Passed capacity image table m) (a : ℕ) (q : List ℕ)
+    (w : (state_of m).waiting ≡ a ∷ q) where
   h : Held (read image) capacity m
   h = held capacity image table m ok
 
@@ -69,7 +70,8 @@ module _ (capacity : ℕ) (image table : List ℕ) (m : Monitor) (ok : Passed ca
       (table_next_in (read image) table (passed_table capacity image table m ok) (after (read image).rules (state_of m).settled)
       (state-known (read image).rules (mark ∷ (state_of m).settled)) a symbol_low)
 
-  module _ (n : ℕ) (is-next : n ≡ number (states (read image).rules) (next (read image).rules (after (read image).rules (state_of m).settled) a)) where
+  module _ (n : ℕ) (is-next : n ≡ number (states (read image).rules)
+      (next (read image).rules (after (read image).rules (state_of m).settled) a)) where
     pub next_small : n < 65536
     next_small =
         omega (

@@ -111,7 +111,8 @@ offering_first capacity image table m calls answers p =
       put = omega arith;
     }
 
-module _ {capacity : ℕ} {image table : List ℕ} {m : Monitor} {calls : List Call} {answers : List ℕ} {n : Monitor} {b : List ℕ} {c : Counts} {k : ℕ}
+module _ {capacity : ℕ} {image table : List ℕ} {m : Monitor} {calls : List Call} {answers : List ℕ} {n : Monitor} {b : List ℕ}
+    {c : Counts} {k : ℕ}
     (now : Offering capacity image table m calls answers n b c k) where
   -- The checks have passed, with the capacity read off the bytes.
   pub offering_passed : Passed (length n.bytes) image table n
@@ -163,7 +164,8 @@ module _ {capacity : ℕ} {image table : List ℕ} {m : Monitor} {calls : List C
           × (c.rewrites + one.counts.rewrites < 18446744073709551616)
           × (c.put + one.counts.put < 18446744073709551616)
       offering_sums h few =
-          let product : k * 4294967295 ≤ 65535 * 4294967295 = mul-le-mul {n₂ = 65535} {m₂ = 4294967295} (omega arith) (omega arith) in (
+          let product : k * 4294967295 ≤ 65535 * 4294967295 =
+          mul-le-mul {n₂ = 65535} {m₂ = 4294967295} (omega arith) (omega arith) in (
             omega (arith, now.steps, done.steps),
             omega (arith, now.steps, now.rewrites, done.steps, done.rewrites),
             omega (arith, now.steps, now.rewrites, now.put, done.steps, done.rewrites, done.put),
@@ -175,7 +177,8 @@ module _ {capacity : ℕ} {image table : List ℕ} {m : Monitor} {calls : List C
 
       -- It is accepted.
       pub offering-next : fuel_of call ≤ 4294967295 → refused_by one.answer ≡ None
-          → Offering capacity image table m calls answers one.monitor (set b k (answer_number one.answer)) (plus c one.counts) (suc k)
+          → Offering capacity image table m calls answers one.monitor (set b k (answer_number one.answer)) (plus c one.counts)
+          (suc k)
       unfolding in_turn and_then plus
       offering-next h e =
           let after : Passed capacity image table one.monitor = passed_next capacity image table n call now.passed in

@@ -38,7 +38,8 @@ module _ (b : List ℕ) (good : valid b ≡ true) (i : ℕ) (h : i < length (rea
   unfolding right_in_range
   close_few v e =
       let set : Ranges (read b) = ranges (read b) (valid-in_range b good) in
-      let low : v < (read b).verdicts = ltb-true v (read b).verdicts (rw e at (rule_at_lem (read b) set i h).right_in_range_lem) in
+      let low : v < (read b).verdicts =
+      ltb-true v (read b).verdicts (rw e at (rule_at_lem (read b) set i h).right_in_range_lem) in
       omega (arith, set.few_verdicts)
 
   symbols_few : length (symbols_of (rule (read b).rules i).right) ≤ 8

@@ -90,7 +90,8 @@ tried_yes rules capacity m t to e p = go (fits capacity t.to) refl
 
 -- A step that was tried makes at most one rewrite, and puts back at most 8 symbols.
 pub tried_counts : (capacity : ℕ) (image table : List ℕ) (m : Monitor) → Passed capacity image table m → (a : ℕ) (q : List ℕ)
-    → (state_of m).waiting ≡ a ∷ q → (to : Tried) → to ≡ tried (read image).rules capacity m (step_of (read image).rules (state_of m))
+    → (state_of m).waiting ≡ a ∷ q → (to : Tried)
+    → to ≡ tried (read image).rules capacity m (step_of (read image).rules (state_of m))
     → (to.rewrites ≤ 1) × (to.put ≤ 8)
 unfolding step_waiting tried
 tried_counts capacity image table m ok a q w to e = rw e (go (fits capacity t.to))
@@ -101,12 +102,23 @@ tried_counts capacity image table m ok a q w to e = rw e (go (fits capacity t.to
     counts : (t.rewrites ≤ 1) × (t.put ≤ 8 * t.rewrites)
     counts =
         rw w
-        (step_counts (read image) (ranges (read image) (valid-in_range image (passed_valid capacity image table m ok))) (state_of m).settled a q)
+        (step_counts (read image) (ranges (read image) (valid-in_range image (passed_valid capacity image table m ok)))
+        (state_of m).settled a q)
 
     go : (b : Bool)
-        → ((cond {A = Tried} b (record { taken = true; monitor = monitor_of (read image).rules capacity t.to; rewrites = t.rewrites; put = t.put })
+        → ((cond {A = Tried} b (record {
+          taken = true;
+          monitor = monitor_of (read image).rules capacity t.to;
+          rewrites = t.rewrites;
+          put = t.put;
+        })
         (record { taken = false; monitor = m; rewrites = 0; put = 0 })).rewrites ≤ 1)
-        × ((cond {A = Tried} b (record { taken = true; monitor = monitor_of (read image).rules capacity t.to; rewrites = t.rewrites; put = t.put })
+        × ((cond {A = Tried} b (record {
+          taken = true;
+          monitor = monitor_of (read image).rules capacity t.to;
+          rewrites = t.rewrites;
+          put = t.put;
+        })
         (record { taken = false; monitor = m; rewrites = 0; put = 0 })).put ≤ 8)
     go true = (counts.0, omega (arith, counts.0, counts.1))
     go false = (omega arith, omega arith)
@@ -124,7 +136,8 @@ abbrev ends : Answer → Counts → Monitor → Outcome
 ends answer c m = record { answer = Ok answer; counts = c; monitor = m }
 
 -- The loop's invariant: the run is the counts so far and then the run with the fuel that is left.
-pub record Running (image table bytes₀ words₀ : List ℕ) (fuel : ℕ) (head₀ : Head) (bytes words : List ℕ) (head : Head) (c : Counts) : Type 0 where
+pub record Running (image table bytes₀ words₀ : List ℕ) (fuel : ℕ) (head₀ : Head) (bytes words : List ℕ) (head : Head)
+    (c : Counts) : Type 0 where
   pub bytes_kept : length bytes ≡ length bytes₀
   pub words_kept : length words ≡ length words₀
   pub passed : Passed (length bytes₀) image table (monitor_in head bytes words)
@@ -134,7 +147,8 @@ pub record Running (image table bytes₀ words₀ : List ℕ) (fuel : ℕ) (head
   pub rest : run (read image).rules (length bytes₀) fuel (state_of (monitor_in head₀ bytes₀ words₀))
       ≡ ahead c (run (read image).rules (length bytes₀) (fuel - c.steps) (state_of (monitor_in head bytes words)))
 
-pub running_first : (image table bytes words : List ℕ) (fuel : ℕ) (head : Head) → Passed (length bytes) image table (monitor_in head bytes words)
+pub running_first :
+    (image table bytes words : List ℕ) (fuel : ℕ) (head : Head) → Passed (length bytes) image table (monitor_in head bytes words)
     → Running image table bytes words fuel head bytes words head no_counts
 unfolding no_counts
 running_first image table bytes words fuel head ok =
@@ -184,7 +198,8 @@ module _ {image table bytes₀ words₀ : List ℕ} {fuel : ℕ} {head₀ : Head
   unfolding outcome ended
   ended_here answer e =
       let r : Run = run (read image).rules (length bytes₀) fuel (state_of (monitor_in head₀ bytes₀ words₀)) in
-      let written : monitor_of (read image).rules (length bytes₀) (state_of (monitor_in head bytes words)) ≡ monitor_in head bytes words =
+      let written : monitor_of (read image).rules (length bytes₀) (state_of (monitor_in head bytes words))
+      ≡ monitor_in head bytes words =
       passed_written (length bytes₀) image table (monitor_in head bytes words) k.passed
       in
       let whole : r ≡ ahead c (ended answer (state_of (monitor_in head bytes words))) = k.rest ∙ ap (ahead c) e in
@@ -221,7 +236,8 @@ module _ {image table bytes₀ words₀ : List ℕ} {fuel : ℕ} {head₀ : Head
   -- A step is tried. It does not fit, ..
   pub full_ends : head.verdict ≡ None → 0 < head.waiting → c.steps < fuel → (to : Tried) → to.taken ≡ false
       → to
-      ≡ tried (read image).rules (length bytes) (monitor_in head bytes words) (step_of (read image).rules (state_of (monitor_in head bytes words)))
+      ≡ tried (read image).rules (length bytes) (monitor_in head bytes words)
+      (step_of (read image).rules (state_of (monitor_in head bytes words)))
       → ends Answer.Full c (monitor_in head to.monitor.bytes to.monitor.words) ≡ came
   unfolding state_of proceed
   full_ends e z l to untaken t =
@@ -229,7 +245,8 @@ module _ {image table bytes₀ words₀ : List ℕ} {fuel : ℕ} {head₀ : Head
       let w = waits (read image) (length bytes₀) (monitor_in head bytes words) facts z in
       let n : fuel - c.steps ≡ suc (fuel - c.steps - 1) = omega (arith, l) in
       let u = tried_no (read image).rules (length bytes₀) (monitor_in head bytes words) (step_of (read image).rules s) to untaken
-      (t ∙ ap (λ (n : ℕ). tried (read image).rules n (monitor_in head bytes words) (step_of (read image).rules s)) k.bytes_kept) in
+      (t ∙ ap (λ (n : ℕ). tried (read image).rules n (monitor_in head bytes words) (step_of (read image).rules s))
+      k.bytes_kept) in
       let here : run (read image).rules (length bytes₀) (fuel - c.steps) s ≡ ended Answer.Full s =
       ap (λ (f : ℕ). run (read image).rules (length bytes₀) f s) n
       ∙ run_step (read image).rules (length bytes₀) (fuel - c.steps - 1) s w.0 w.1 e w.2
@@ -241,7 +258,8 @@ module _ {image table bytes₀ words₀ : List ℕ} {fuel : ℕ} {head₀ : Head
   -- .. or the run goes on.
   pub running_next : head.verdict ≡ None → 0 < head.waiting → c.steps < fuel → (to : Tried) → to.taken ≡ true
       → to
-      ≡ tried (read image).rules (length bytes) (monitor_in head bytes words) (step_of (read image).rules (state_of (monitor_in head bytes words)))
+      ≡ tried (read image).rules (length bytes) (monitor_in head bytes words)
+      (step_of (read image).rules (state_of (monitor_in head bytes words)))
       → length to.monitor.bytes ≡ length bytes → length to.monitor.words ≡ length words
       → Running image table bytes₀ words₀ fuel head₀ to.monitor.bytes to.monitor.words to.monitor.head
       (plus c (record { steps = 1; rewrites = to.rewrites; put = to.put }))
@@ -290,7 +308,9 @@ module _ {image table bytes₀ words₀ : List ℕ} {fuel : ℕ} {head₀ : Head
           record {
             state = t'.to;
             written = u.monitor;
-            legal = rw is-step (legal_step (read image) in_range_lem s.settled w.0 w.1 (legal_active (read image) s (w.0 ∷ w.1) w.2 facts.legal));
+            legal =
+                rw is-step (legal_step (read image) in_range_lem s.settled w.0 w.1
+                (legal_active (read image) s (w.0 ∷ w.1) w.2 facts.legal));
             room = u.fit;
           }
 
@@ -303,7 +323,8 @@ module _ {image table bytes₀ words₀ : List ℕ} {fuel : ℕ} {head₀ : Head
       on : ahead c (run rules (length bytes₀) (fuel - c.steps) s)
           ≡ ahead c' (run rules (length bytes₀) (fuel - (c.steps + 1)) (state_of to.monitor))
       on =
-          ap (ahead c) (ap (λ (f : ℕ). run rules (length bytes₀) f s) n ∙ run_step rules (length bytes₀) left s w.0 w.1 e w.2 ∙ rw u.fit)
+          ap (ahead c) (ap (λ (f : ℕ). run rules (length bytes₀) f s) n ∙ run_step rules (length bytes₀) left s w.0 w.1 e w.2
+          ∙ rw u.fit)
           ∙ (λ i. record {
             answer = r.answer;
             counts =

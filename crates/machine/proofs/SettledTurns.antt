@@ -47,7 +47,8 @@ settled_snoc : (set : RuleSet) (s w : List ℕ) (a x : ℕ) → Settled set s w 
 unfolding unmatched
 settled_snoc set s w a x h low e m =
     let q : List ℕ = next set.rules (after set.rules s) a in
-    let more : states_after set.rules (after set.rules []) (s ++ a ∷ []) ≡ states_after set.rules (after set.rules []) s ++ q ∷ [] =
+    let more : states_after set.rules (after set.rules []) (s ++ a ∷ [])
+    ≡ states_after set.rules (after set.rules []) s ++ q ∷ [] =
     states_after_snoc set.rules (mark ∷ []) s a
     in
     record {
@@ -56,7 +57,8 @@ settled_snoc set s w a x h low e m =
       words_right = rw (more, map-append, e, h.words_right);
       no_match_lem =
           rw more
-          (all_append (λ y. no_match (matching set.rules y)) (states_after set.rules (after set.rules []) s) (q ∷ []) h.no_match_lem
+          (all_append (λ y. no_match (matching set.rules y)) (states_after set.rules (after set.rules []) s)
+          (q ∷ []) h.no_match_lem
           (and_both (match_none (matching set.rules q) m) refl));
     }
 
@@ -87,10 +89,13 @@ module _ (set : RuleSet) (symbols words : List ℕ) (h : Settled set symbols wor
   unfolding unmatched
   settled_unmatched =
       none_match _
-      (rw state_there at (all_at (λ y. no_match (matching set.rules y)) (states_after set.rules (after set.rules []) symbols) [] h.no_match_lem i long))
+      (rw state_there at (all_at (λ y. no_match (matching set.rules y))
+      (states_after set.rules (after set.rules []) symbols) [] h.no_match_lem i long))
 
 -- the word before word i is the number of the state
-word_number : (set : RuleSet) → Ranges set → (symbols words : List ℕ) (i : ℕ) → i ≤ length symbols → Settled set (take i symbols) (take i words)
+word_number :
+    (set : RuleSet) → Ranges set → (symbols words : List ℕ) (i : ℕ) → i ≤ length symbols
+    → Settled set (take i symbols) (take i words)
     → word_before words i ≡ number (states set.rules) (after set.rules (take i symbols))
 word_number set ranges symbols words zero le h = sym (number_start set ranges)
 word_number set ranges symbols words (suc j) le h =
@@ -98,7 +103,8 @@ word_number set ranges symbols words (suc j) le h =
     let last = settled_word set (take (suc j) symbols) (take (suc j) words) h j (omega arith) in
     sym (get_or-take (suc j) words j 0 (omega arith))
     ∙ last
-    ∙ ap (number (states set.rules)) (state_snoc set.rules (mark ∷ take j (take (suc j) symbols)) (get_or (take (suc j) symbols) j 0))
+    ∙ ap (number (states set.rules))
+    (state_snoc set.rules (mark ∷ take j (take (suc j) symbols)) (get_or (take (suc j) symbols) j 0))
     ∙ ap (λ (p : List ℕ). number (states set.rules) (after set.rules p))
     (sym (take-suc (take (suc j) symbols) j 0 (omega arith)) ∙ take_all (suc j) (take (suc j) symbols) (omega arith))
 
@@ -168,9 +174,11 @@ module _ {set : RuleSet} {t : List ℕ} {rows width : ℕ} {symbols words : List
       pub settled_more : get_or words i 0 ≡ n → m ≡ 0 → Settled set (take (i + 1) symbols) (take (i + 1) words)
       settled_more same none_m =
           let grown =
-          settled_snoc set (take i symbols) (take i words) a (get_or words i 0) turn.so_far low (same ∙ n_number) (sym m_match ∙ none_m)
+          settled_snoc set (take i symbols) (take i words) a (get_or words i 0) turn.so_far low (same ∙ n_number)
+          (sym m_match ∙ none_m)
           in
-          let s : take i symbols ++ a ∷ [] ≡ take (i + 1) symbols = rw (add-one, turn.symbol) (sym (take-suc symbols i 0 turn.more)) in
+          let s : take i symbols ++ a ∷ [] ≡ take (i + 1) symbols =
+          rw (add-one, turn.symbol) (sym (take-suc symbols i 0 turn.more)) in
           let v : take i words ++ get_or words i 0 ∷ [] ≡ take (i + 1) words = rw add-one (sym (take-suc words i 0 turn.fits)) in
           rw (s, v) at grown
 

@@ -33,7 +33,8 @@ pub record Faithful (rules : List Rule) (w : List ℕ) (c : Counts) (t : State) 
   -- each symbol that came, as an event or put back, was taken by a step or still waits
   pub balance : c.steps + length t.waiting ≡ length w + c.put
 
-module _ (rules : List Rule) (w : List ℕ) (c : Counts) (s : List ℕ) (a : ℕ) (q : List ℕ) (f : Faithful rules w c (active s (a ∷ q))) where
+module _ (rules : List Rule) (w : List ℕ) (c : Counts) (s : List ℕ) (a : ℕ) (q : List ℕ)
+    (f : Faithful rules w c (active s (a ∷ q))) where
   -- no left side ends with a: the rewriter does nothing
   faithful_none : Faithful rules w (plus c (counts_of (settle rules (s ++ a ∷ []) q None))) (settle rules (s ++ a ∷ []) q None).to
   unfolding settle active plus counts_of

@@ -24,7 +24,8 @@ use Rattle.layout.proofs.Matching.{matching-next}
 use Rattle.layout.proofs.States.{number_start}
 use Rattle.machine.specs.State.{State, Step, active, replace, settle, step}
 use Rattle.machine.specs.Run.{fits}
-use Rattle.machine.specs.Areas.{Monitor, head_of, area_of, bytes_of, states_after, words_of, monitor_of, state_of, stands_by, described}
+use Rattle.machine.specs.Areas.{Monitor, head_of, area_of, bytes_of, states_after, words_of, monitor_of, state_of, stands_by}
+use Rattle.machine.specs.Areas.{described}
 use Rattle.machine.specs.Calls.{sized, lent_checks}
 use Rattle.machine.specs.Lent.{monitor_in, Passed, word_before, Matches, step_waiting, step_of, Tried, tried}
 use Rattle.machine.proofs.Legal.{Legal, legal_plain}
@@ -50,7 +51,8 @@ pub record Held (set : RuleSet) (capacity : ℕ) (m : Monitor) : Type 0 where
 
 pub length_words : (rules : List Rule) (s : List ℕ) → length (words_after rules s) ≡ length s
 unfolding words_after
-length_words rules s = length-map (states_after rules (after rules []) s) (number (states rules)) ∙ length-states_after rules (after rules []) s
+length_words rules s =
+    length-map (states_after rules (after rules []) s) (number (states rules)) ∙ length-states_after rules (after rules []) s
 
 module _ (capacity : ℕ) (image table : List ℕ) (m : Monitor) (ok : Passed capacity image table m) where
   pub passed_valid : valid image ≡ true
@@ -75,11 +77,13 @@ module _ (capacity : ℕ) (image table : List ℕ) (m : Monitor) (ok : Passed ca
   pub held : Held (read image) capacity m
   unfolding monitor_of head_of bytes_of words_of words_after fits
   held =
-      let d : Described (read image) capacity m = is-described (read image) passed_ranges capacity m passed_sized passed_described in
+      let d : Described (read image) capacity m =
+      is-described (read image) passed_ranges capacity m passed_sized passed_described in
       let s : State = state_of m in
       let room : length s.settled + length s.waiting ≤ capacity = leb-true _ _ d.room in
       let bytes_are : m.bytes ≡ area_of capacity s.settled s.waiting = sym (ap (λ (x : Monitor). x.bytes) d.written) in
-      let words_are : m.words ≡ area_of capacity (words_after (read image).rules s.settled) [] = sym (ap (λ (x : Monitor). x.words) d.written) in
+      let words_are : m.words ≡ area_of capacity (words_after (read image).rules s.settled) [] =
+      sym (ap (λ (x : Monitor). x.words) d.written) in
       let few : length (words_after (read image).rules s.settled) + 0 ≤ capacity =
       omega (arith, room, length_words (read image).rules s.settled)
       in
@@ -129,7 +133,8 @@ word_before_lem set capacity m h = go m.head.settled refl
 pub words_snoc : (rules : List Rule) (s : List ℕ) (a : ℕ)
     → words_after rules (s ++ a ∷ []) ≡ words_after rules s ++ number (states rules) (next rules (after rules s) a) ∷ []
 unfolding words_after
-words_snoc rules s a = ap (map (number (states rules))) (states_after_snoc rules (mark ∷ []) s a) ∙ map-append (number (states rules))
+words_snoc rules s a =
+    ap (map (number (states rules))) (states_after_snoc rules (mark ∷ []) s a) ∙ map-append (number (states rules))
     (states_after rules (after rules []) s) (next rules (after rules s) a ∷ [])
 
 -- cut
@@ -177,7 +182,8 @@ waits set capacity m h more = go (state_of m).waiting refl
     go [] e = absurd (omega (arith, more, h.waiting_count, ap length e))
     go (a ∷ q) e = (a, q, e)
 
-module _ (set : RuleSet) (capacity : ℕ) (m : Monitor) (h : Held set capacity m) (a : ℕ) (q : List ℕ) (w : (state_of m).waiting ≡ a ∷ q) where
+module _ (set : RuleSet) (capacity : ℕ) (m : Monitor) (h : Held set capacity m) (a : ℕ) (q : List ℕ)
+    (w : (state_of m).waiting ≡ a ∷ q) where
   -- its place, ..
   pub first_place : m.head.waiting ≡ suc (length q)
   first_place = h.waiting_count ∙ ap length w
@@ -250,7 +256,8 @@ settled_step set capacity m h a q w e first word place is_word =
         (ap (λ (x : ℕ). words_after set.rules s ++ x ∷ []) is_word ∙ sym (words_snoc set.rules s a))
 
 -- It completes the left side of rule i.
-module _ (set : RuleSet) (capacity : ℕ) (m : Monitor) (h : Held set capacity m) (i : ℕ) (e : Matches set.rules (state_of m) (Some i)) where
+module _ (set : RuleSet) (capacity : ℕ) (m : Monitor) (h : Held set capacity m) (i : ℕ)
+    (e : Matches set.rules (state_of m) (Some i)) where
   completed : EndsWith set.rules true ((state_of m).settled ++ e.0 ∷ []) i
   completed =
       let plain = legal_plain set h.in_range_lem (state_of m) e.0 e.1 e.2 h.legal in
@@ -308,7 +315,8 @@ module _ (set : RuleSet) (capacity : ℕ) (m : Monitor) (h : Held set capacity m
       in
       t.words_is
       ∙ ap (λ (l : List ℕ). paste l kept (replicate (m.head.settled - kept) 0) (m.head.settled - kept)) h.words_are
-      ∙ area_cut capacity (words_after set.rules (state_of m).settled) [] kept m.head.settled (omega (arith, h.settled_count)) (kept_short t)
+      ∙ area_cut capacity (words_after set.rules (state_of m).settled) [] kept m.head.settled (omega (arith, h.settled_count))
+      (kept_short t)
       (omega (arith, h.room, n))
       ∙ ap (λ (l : List ℕ). area_of capacity l []) (words_cut set.rules (state_of m).settled kept)
 
@@ -319,7 +327,8 @@ module _ (set : RuleSet) (capacity : ℕ) (m : Monitor) (h : Held set capacity m
   -- the right side is put back, ..
   pub put_step : {first kept : ℕ} {bytes words : List ℕ} → TakenOff first kept bytes words → (v b : List ℕ) (n : ℕ)
       → (rule set.rules i).right ≡ Put v → n ≡ length v → take n b ≡ v → kept + n ≤ first + 1
-      → {waiting : ℕ} {bytes' : List ℕ} → waiting ≡ m.head.waiting - 1 + n → (j : ℕ) → j ≡ first + 1 - n → bytes' ≡ paste bytes j b n
+      → {waiting : ℕ} {bytes' : List ℕ} → waiting ≡ m.head.waiting - 1 + n → (j : ℕ) → j ≡ first + 1 - n
+      → bytes' ≡ paste bytes j b n
       → ◌≡◌ {A = Tried}
       (record {
         taken = true;
@@ -342,7 +351,8 @@ module _ (set : RuleSet) (capacity : ℕ) (m : Monitor) (h : Held set capacity m
       (waits_is ∙ rw (length-append v e.1) (omega (arith, w, nv)))
       (put_is
       ∙ (λ k. paste (bytes_off t k) (place k) b n)
-      ∙ area_put capacity s e.1 b v n (first + 1 - n) is_v nv (omega (arith, t.first_is, w, room, all)) (omega (arith, all, short)))
+      ∙ area_put capacity s e.1 b v n (first + 1 - n) is_v nv (omega (arith, t.first_is, w, room, all))
+      (omega (arith, all, short)))
       (words_off t))
       refl nv)
 

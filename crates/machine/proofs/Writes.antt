@@ -10,7 +10,8 @@ use lib.Seq.{paste, paste-zero, length-paste, drop-cons, get_or-drop}
 use Rattle.rewriting.proofs.Copying.{Copying, copying_first, copying_next, copying_last, copying_behind}
 
 -- one element more, before the others
-one_before : (d : List ℕ) (i n x : ℕ) (s : List ℕ) → suc i + n ≤ length d → set (paste d (suc i) s n) i x ≡ paste d i (x ∷ s) (suc n)
+one_before :
+    (d : List ℕ) (i n x : ℕ) (s : List ℕ) → suc i + n ≤ length d → set (paste d (suc i) s n) i x ≡ paste d i (x ∷ s) (suc n)
 one_before [] i n x s h = absurd (omega arith)
 one_before (y ∷ d) zero n x s h =
     let e : suc zero + n ≡ suc n = omega arith in
@@ -50,14 +51,16 @@ popping_next {d} {end} {xs} {at} k some =
 pub popping_length : {d : List ℕ} {end : ℕ} {xs : List ℕ} {at : ℕ} → Popping d end xs at → length xs ≡ length d
 popping_length {d} {end} {xs} {at} k =
     rw k.done
-    (length-paste d at (replicate (end - at) 0) (end - at) (omega (arith, k.order, k.inside)) (rw (length-replicate {A = ℕ}) (omega arith)))
+    (length-paste d at (replicate (end - at) 0) (end - at) (omega (arith, k.order, k.inside))
+    (rw (length-replicate {A = ℕ}) (omega arith)))
 
 -- the symbols of b from `start` on, to the places from `to` on
 pub source_at : (b : List ℕ) (start k : ℕ) → get_or b (start + k) 0 ≡ get_or (drop start b) k 0
 source_at b start k = sym (get_or-drop start b k 0)
 
 -- counted from the last of n
-pub source_back : (b : List ℕ) (start n k i : ℕ) → i ≡ start + n - 1 - k → k < n → get_or b i 0 ≡ get_or (drop start b) (n - suc k) 0
+pub source_back :
+    (b : List ℕ) (start n k i : ℕ) → i ≡ start + n - 1 - k → k < n → get_or b i 0 ≡ get_or (drop start b) (n - suc k) 0
 source_back b start n k i e h =
     let place : i ≡ start + (n - suc k) = omega (arith, e) in
     rw place (source_at b start (n - suc k))
@@ -98,10 +101,12 @@ backing_next {d} {end} {s} {n} {xs} {j} i x k more place value =
           ∙ (λ t. paste d (place t) (rest t) (suc j));
     })
 
-pub backing_length : {d : List ℕ} {end : ℕ} {s : List ℕ} {n : ℕ} {xs : List ℕ} {j : ℕ} → Backing d end s n xs j → length xs ≡ length d
+pub backing_length :
+    {d : List ℕ} {end : ℕ} {s : List ℕ} {n : ℕ} {xs : List ℕ} {j : ℕ} → Backing d end s n xs j → length xs ≡ length d
 backing_length {d} {end} {s} {n} {xs} {j} k =
     rw k.done
-    (length-paste d (end - j) (drop (n - j) s) j (omega (arith, k.few, k.room, k.inside)) (rw length-drop (omega (arith, k.few, k.source))))
+    (length-paste d (end - j) (drop (n - j) s) j (omega (arith, k.few, k.room, k.inside))
+    (rw length-drop (omega (arith, k.few, k.source))))
 
 pub backing_last : {d : List ℕ} {end : ℕ} {s : List ℕ} {n : ℕ} {xs : List ℕ} {j : ℕ} → Backing d end s n xs j → n ≤ j
     → (i : ℕ) → i ≡ end - n → xs ≡ paste d i s n
@@ -137,7 +142,8 @@ moving_next {d} {from} {xs} {i} k more =
     record {
       some = k.some;
       begun = omega (arith, k.begun);
-      copying = rw e (copying_next (i - 1) (get_or xs i 0) k.copying (omega (arith, k.begun)) (omega (arith, k.begun, k.some)) same);
+      copying =
+          rw e (copying_next (i - 1) (get_or xs i 0) k.copying (omega (arith, k.begun)) (omega (arith, k.begun, k.some)) same);
     }
 
 pub moving_last : {d : List ℕ} {from : ℕ} {xs : List ℕ} {i : ℕ} → Moving d from xs i → length d ≤ i

@@ -105,8 +105,8 @@ impl Head {
         }
     }
 
-    // The checks of what is lent: refusals 7, 9, 10 and 11. Where they pass, there is the table, which in line is not handed on through
-    // memory.
+    // The checks of what is lent: refusals 7, 9, 10 and 11. Where they pass, there is the table, which in line is not handed on
+    // through memory.
     #[inline(always)]
     fn check_lent<'a>(
         self,
@@ -234,7 +234,7 @@ impl Head {
     }
 
     // The offers of all events, up to the first that is refused.
-    #[tactic(auto, unfolding(layout::specs::Refusals::refused_by, layout::specs::Refusals::refusal_number, machine::specs::Run::no_counts))]
+    #[tactic(auto, unfolding(layout::specs::Refusals::refusal_number, machine::specs::Run::no_counts))]
     pub fn batch(
         self,
         image: &[u8],

@@ -1,6 +1,5 @@
-// One step, and a call's run. They are in line in their callers: a run that is fast keeps the head in registers, from step to step and,
-// in a batch, from call to call.
-// The module is private: what its functions ask, the checks of a call have shown.
+// One step, and a call's run. They are in line in their callers: a run that is fast keeps the head in registers, from step to
+// step and, in a batch, from call to call. The module is private: what its functions ask, the checks of a call have shown.
 ghost use Rattle.std.specs.Prelude.{◌+◌, ◌*◌, ◌<◌, ◌≡◌, length, None, IfSome};
 ghost use Rattle.machine.specs.Run.{plus, run};
 ghost use Rattle.machine.specs.Areas.{state_of};
@@ -91,8 +90,8 @@ impl Head {
         })
     }
 
-    // A call's run, where no verdict stands: document 01's tests in their order. Before the first step that is whether a symbol waits;
-    // the tests that follow a step stand behind it, where the compiler knows which of them its branch decides.
+    // A call's run, where no verdict stands: document 01's tests in their order. Before the first step that is whether a symbol
+    // waits; the tests that follow a step stand behind it, where the compiler knows which of them its branch decides.
     #[inline(always)]
     pub(crate) fn run(
         self,

@@ -10,13 +10,15 @@ use lib.ListN.{length, replicate, length-replicate}
 use borrow.Author.Tests.{ltb-true}
 use Rattle.rewriting.specs.Rules.{symbols_of, rule, right_in_range, rule_in_range, in_range}
 use Rattle.rewriting.specs.Occurrences.{lowest, spanning, tie, ending}
-use Rattle.layout.specs.Image.{kind, length_or_verdict, mark_byte, contents, body, image_of, read_right, read_rule, read_rules, read, valid}
+use Rattle.layout.specs.Image.{kind, length_or_verdict, mark_byte, contents, body, image_of, read_right, read_rule, read_rules}
+use Rattle.layout.specs.Image.{read, valid}
 use Rattle.layout.specs.Refusals.{refusal}
 use Rattle.layout.specs.States as States
 use Rattle.layout.specs.Table.{table_most, match_word, row, table_of}
 use Rattle.machine.specs.State.{empty, active, replace, settle, step}
 use Rattle.machine.specs.Run as Run
-use Rattle.machine.specs.Areas.{head_of, area_of, bytes_of, states_after, words_of, monitor_of, state_of, no_match, unmatched, closes_with, stands_by, holds, described}
+use Rattle.machine.specs.Areas.{head_of, area_of, bytes_of, states_after, words_of, monitor_of, state_of, no_match, unmatched}
+use Rattle.machine.specs.Areas.{closes_with, stands_by, holds, described}
 use Rattle.machine.specs.Calls as Calls
 use Rattle.machine.specs.Play.{string_of}
 use Rattle.grammar.specs.Tokens.{separator, letter, digit, name_byte, is_name, token_of, unbroken, runs_from, runs}
@@ -38,29 +40,39 @@ use Rattle.printing.proofs.WatchTheorem.{watch_theorem}
 -- the reader of texts and names
 reads : Unit {0}
 unfolding
-    bytes separator letter digit name_byte is_name token_of unbroken runs_from runs number_of or_new numbered slot slots slot_at symbol_named
-    Grammar.begun Grammar.placed Grammar.with_symbol Grammar.symbol Grammar.event Grammar.side_symbol Grammar.first_symbol Grammar.name
-    Grammar.with_verdict Grammar.right_word Grammar.word Grammar.arrow Grammar.mark Grammar.close_events Grammar.close_rule Grammar.stop
-    Grammar.after_token Grammar.after_run Grammar.complete Grammar.rule_set_of Read.ended Read.or_broken Read.read_runs Read.read_text Read.names_of Read.unless
+    bytes separator letter digit name_byte is_name token_of unbroken runs_from runs number_of or_new numbered slot slots slot_at
+    symbol_named
+    Grammar.begun Grammar.placed Grammar.with_symbol Grammar.symbol Grammar.event Grammar.side_symbol Grammar.first_symbol
+    Grammar.name
+    Grammar.with_verdict Grammar.right_word Grammar.word Grammar.arrow Grammar.mark Grammar.close_events Grammar.close_rule
+    Grammar.stop
+    Grammar.after_token Grammar.after_run Grammar.complete Grammar.rule_set_of Read.ended Read.or_broken Read.read_runs
+    Read.read_text Read.names_of Read.unless
 reads = tt
 
 -- image, table and monitor
 runs_on : Unit {0}
 unfolding
-    flat_map rule right_in_range rule_in_range in_range lowest spanning tie ending kind length_or_verdict mark_byte symbols_of contents body image_of
-    read_right read_rule read_rules read valid refusal States.pattern States.is_prefix States.state States.next States.starts States.symbols_in
+    flat_map rule right_in_range rule_in_range in_range lowest spanning tie ending kind length_or_verdict mark_byte symbols_of
+    contents body image_of
+    read_right read_rule read_rules read valid refusal States.pattern States.is_prefix States.state States.next States.starts
+    States.symbols_in
     States.matching States.prefixes States.known States.numbered States.has_mark States.first_states States.states States.number
     match_word row table_of empty active replace settle step Run.no_counts Run.plus Run.counts_of Run.ended Run.counted Run.fits
-    Run.proceed Run.tests Run.run head_of area_of bytes_of states_after words_of monitor_of state_of no_match unmatched closes_with stands_by
-    holds described Calls.sized Calls.fuel_of Calls.lent_checks Calls.fuel_check Calls.verdict_check Calls.call_checks Calls.offered
+    Run.proceed Run.tests Run.run head_of area_of bytes_of states_after words_of monitor_of state_of no_match unmatched
+    closes_with stands_by
+    holds described Calls.sized Calls.fuel_of Calls.lent_checks Calls.fuel_check Calls.verdict_check Calls.call_checks
+    Calls.offered
     Calls.outcome Calls.decided Calls.call_of Calls.offer_of string_of
 runs_on = tt
 
 -- the lines
 prints : Unit {0}
 unfolding
-    Lines.digits Lines.decimal Lines.name_in Lines.joined Lines.answer_word Lines.counted Lines.told Lines.event_line Lines.refused_line
-    Lines.too_long_line Watch.rule_part Watch.event_part Watch.fresh_monitor Watch.begun Watch.holding Watch.offered Watch.offered_name
+    Lines.digits Lines.decimal Lines.name_in Lines.joined Lines.answer_word Lines.counted Lines.told Lines.event_line
+    Lines.refused_line
+    Lines.too_long_line Watch.rule_part Watch.event_part Watch.fresh_monitor Watch.begun Watch.holding Watch.offered
+    Watch.offered_name
     Watch.line_for Watch.event_lines Watch.rule_text_read Watch.reported Watch.printed
 prints = tt
 
@@ -158,7 +170,9 @@ input_long = (refl, refl, refl, refl, refl)
 
 -- Areas as the program has them, and what `begin` and `next` write for the sample with them: a case of `watch_theorem`.
 abbrev zeros : Areas
-zeros = areas (replicate 1284 0) (replicate 1200 0) (replicate table_most 0) (replicate 2048 0) (replicate 2048 0) (replicate line_most 0)
+zeros =
+    areas (replicate 1284 0) (replicate 1200 0) (replicate table_most 0) (replicate 2048 0) (replicate 2048 0)
+    (replicate line_most 0)
 
 sample_short : ltb (length sample_input) 200 ≡ true
 unfolding bytes

@@ -49,7 +49,9 @@ digits-length (suc j) (suc k) n h = go (ltb n 10) refl (digits-length j k (n / 1
     tenth : n / 10 < 10 ^ suc j
     tenth = let p : n < 10 ^ suc j * 10 = rw (pow.suc 10 (suc j)) at h in omega (arith, p)
 
-    go : (b : Bool) → ltb n 10 ≡ b → (n / 10 < 10 ^ suc j → length (digits k (n / 10)) ≤ suc j) → length (digits (suc k) n) ≤ suc (suc j)
+    go :
+        (b : Bool) → ltb n 10 ≡ b → (n / 10 < 10 ^ suc j → length (digits k (n / 10)) ≤ suc j)
+        → length (digits (suc k) n) ≤ suc (suc j)
     go true e ih = rw e (omega arith)
     go false e ih = rw e (omega (arith, length-append (digits k (n / 10)) ((48 + n % 10) ∷ []), ih tenth))
 

@@ -22,11 +22,13 @@ use Rattle.machine.specs.Areas.{document_capacity}
 use Rattle.machine.specs.Calls.{sized, freshened, fresh_of}
 use Rattle.grammar.specs.declared.TextError.{TextError}
 use Rattle.grammar.specs.Grammar.{Reading, rule_set_of}
-use Rattle.grammar.specs.Read.{ReadText, Outcome as ReadOutcome, read_text, names_of, read_checks, written, unless, read_of, answered}
+use Rattle.grammar.specs.Read.{ReadText, Outcome as ReadOutcome, read_text, names_of, read_checks, written, unless, read_of}
+use Rattle.grammar.specs.Read.{answered}
 use Rattle.grammar.proofs.Sound.{read-valid, read_image_short}
 use Rattle.printing.specs.Lines.{refused_line, too_long_line}
 use Rattle.printing.specs.Watch.{rule_part, fresh_monitor, rule_text_read}
-use Rattle.printing.specs.Turns.{line_most, Begun, Message, Events, Areas, areas, begins_from, Inside, message, events_at, started, begin_read, begin_of}
+use Rattle.printing.specs.Turns.{line_most, Begun, Message, Events, Areas, areas, begins_from, Inside, message, events_at}
+use Rattle.printing.specs.Turns.{started, begin_read, begin_of}
 
 module _ (image table : List ℕ) (good : valid image ≡ true) (size : length table ≡ table_most) where
   fits : length (table_of (read image)) ≤ length table

@@ -1,4 +1,5 @@
--- Document 01, "Program `watch`". Read in this order. `printed` (Watch) is all that is printed for an input; Turns has `begin` and `next`
+-- Document 01, "Program `watch`". Read in this order. `printed` (Watch) is all that is printed for an input; Turns has `begin`
+-- and `next`
 -- as functions of all that is lent to them.
 pub mod Ascii
 pub mod Lines

@@ -1,5 +1,7 @@
--- `begin` and `next`, as functions of all that is lent to them; and that what they write, line after line, is what `watch` prints.
-use Rattle.std.specs.Prelude.{ℕ, zero, suc, ◌+◌, ◌*◌, ◌-◌, ◌≤◌, ◌<◌, ◌≡◌, cond, List, [], ◌∷◌, ◌++◌, leb, length, take, drop, Ok, Err}
+-- `begin` and `next`, as functions of all that is lent to them; and that what they write, line after line, is what `watch`
+-- prints.
+use Rattle.std.specs.Prelude.{ℕ, zero, suc, ◌+◌, ◌*◌, ◌-◌, ◌≤◌, ◌<◌, ◌≡◌, cond, List, [], ◌∷◌, ◌++◌, leb, length, take, drop, Ok}
+use Rattle.std.specs.Prelude.{Err}
 use Rattle.rewriting.specs.Lists.{over}
 use Rattle.layout.specs.Image.{image_of}
 use Rattle.layout.specs.Table.{table_of}
@@ -10,7 +12,8 @@ use Rattle.grammar.specs.FirstRun.{gap}
 use Rattle.grammar.specs.Grammar.{Reading, rule_set_of}
 use Rattle.grammar.specs.Read.{ReadText, names_of}
 use Rattle.printing.specs.Lines.{refused_line, too_long_line}
-use Rattle.printing.specs.Watch.{input_most, rule_part, event_part, Watch, holding, fresh_monitor, offered_name, line_for, rule_text_read, printed}
+use Rattle.printing.specs.Watch.{input_most, rule_part, event_part, Watch, holding, fresh_monitor, offered_name, line_for}
+use Rattle.printing.specs.Watch.{rule_text_read, printed}
 use Rattle.grammar.specs.Names.{names_size}
 
 -- The most bytes that a line has: a name of 24 bytes, `#` and 24 bytes, two numbers of four digits, each with a space behind
@@ -160,7 +163,8 @@ begin_read (Ok s) at l = started s at l
 
 unfoldable pub begin_of : List ℕ → Areas → Begins
 begin_of input l =
-    cond (leb (length input) input_most) (begin_read (rule_text_read (rule_part input)) (events_at input) l) (message too_long_line l)
+    cond (leb (length input) input_most) (begin_read (rule_text_read (rule_part input)) (events_at input) l)
+    (message too_long_line l)
 
 -- a line and then the rest, unless it is empty
 unfoldable pub then_rest : (Next → List ℕ) → Next → List ℕ → List ℕ

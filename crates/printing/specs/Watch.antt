@@ -88,4 +88,5 @@ input_most = 20480
 
 -- "It reads at most 20,480 bytes of standard input, else prints `input too long`."
 unfoldable pub printed : List ℕ → List ℕ
-printed input = cond (leb (length input) input_most) (reported (rule_text_read (rule_part input)) (event_part input)) too_long_line
+printed input =
+    cond (leb (length input) input_most) (reported (rule_text_read (rule_part input)) (event_part input)) too_long_line

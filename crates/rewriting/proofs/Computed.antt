@@ -71,12 +71,20 @@ unfolding redex scan ending_at ending tie spanning lowest rule sample
 redex_take_take = refl
 
 -- of two rules with one left side, the lowest
-redex_equal_rules : redex ((0 ∷ [] ⇒ Close 0) ∷ (0 ∷ [] ⇒ Close 1) ∷ []) (0 ∷ []) ≡ Some (record { before = []; rule = 0; after = [] })
+redex_equal_rules : redex ((0 ∷ [] ⇒ Close 0) ∷ (0 ∷ [] ⇒ Close 1) ∷ []) (0 ∷ []) ≡ Some (record {
+  before = [];
+  rule = 0;
+  after = [];
+})
 unfolding redex scan ending_at ending tie spanning lowest rule
 redex_equal_rules = refl
 
 -- of two rules with one left side, the one with a mark; and where something stands before, the one without
-redex_marked_first : redex ((0 ∷ [] ⇒ Close 0) ∷ at_start (0 ∷ [] ⇒ Close 1) ∷ []) (0 ∷ []) ≡ Some (record { before = []; rule = 1; after = [] })
+redex_marked_first : redex ((0 ∷ [] ⇒ Close 0) ∷ at_start (0 ∷ [] ⇒ Close 1) ∷ []) (0 ∷ []) ≡ Some (record {
+  before = [];
+  rule = 1;
+  after = [];
+})
 unfolding redex scan ending_at ending tie spanning lowest rule
 redex_marked_first = refl
 

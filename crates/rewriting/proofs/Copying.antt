@@ -17,7 +17,8 @@ pub record Copying (d : List ℕ) (at : ℕ) (s : List ℕ) (n : ℕ) (xs : List
 pub copying_first : (d : List ℕ) (at : ℕ) (s : List ℕ) (n : ℕ) → at + n ≤ length d → n ≤ length s → Copying d at s n d 0
 copying_first d at s n room source = record { few = omega arith; room = room; source = source; done = paste-zero d at s }
 
-pub copying_length : {d : List ℕ} {at : ℕ} {s : List ℕ} {n : ℕ} {xs : List ℕ} {j : ℕ} → Copying d at s n xs j → length xs ≡ length d
+pub copying_length :
+    {d : List ℕ} {at : ℕ} {s : List ℕ} {n : ℕ} {xs : List ℕ} {j : ℕ} → Copying d at s n xs j → length xs ≡ length d
 copying_length {d} {at} {s} {n} {xs} {j} k =
     rw k.done (length-paste d at s j (omega (arith, k.few, k.room)) (omega (arith, k.few, k.source)))
 
@@ -33,7 +34,8 @@ copying_next {d} {at} {s} {n} {xs} {j} i x k more place value =
           rw (k.done, place, value) (paste-suc d at s j 0 (omega (arith, k.room)) (omega (arith, k.source)));
     }
 
-pub copying_last : {d : List ℕ} {at : ℕ} {s : List ℕ} {n : ℕ} {xs : List ℕ} {j : ℕ} → Copying d at s n xs j → n ≤ j → xs ≡ paste d at s n
+pub copying_last :
+    {d : List ℕ} {at : ℕ} {s : List ℕ} {n : ℕ} {xs : List ℕ} {j : ℕ} → Copying d at s n xs j → n ≤ j → xs ≡ paste d at s n
 copying_last {d} {at} {s} {n} {xs} {j} k all =
     let e : j ≡ n = omega (arith, k.few) in
     k.done ∙ ap (λ (m : ℕ). paste d at s m) e
@@ -46,4 +48,5 @@ copying_behind {d} {at} {s} {n} {xs} {j} i k later =
     let rest : drop (at + j) xs ≡ drop (at + j) d =
     rw k.done (drop-paste d at s j (omega (arith, k.few, k.room)) (omega (arith, k.few, k.source)))
     in
-    rw (← e) (sym (get_or-drop (at + j) xs (i - (at + j)) 0) ∙ ap (λ (l : List ℕ). get_or l (i - (at + j)) 0) rest ∙ get_or-drop (at + j) d (i - (at + j)) 0)
+    rw (← e) (sym (get_or-drop (at + j) xs (i - (at + j)) 0) ∙ ap (λ (l : List ℕ). get_or l (i - (at + j)) 0) rest
+    ∙ get_or-drop (at + j) d (i - (at + j)) 0)

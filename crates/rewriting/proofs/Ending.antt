@@ -1,4 +1,5 @@
--- What `ending` finds at the string's start, and behind one symbol more. These laws open `tie`: they are the choice of the longest
+-- What `ending` finds at the string's start, and behind one symbol more. These laws open `tie`: they are the choice of the
+-- longest
 -- left side, marked before unmarked.
 -- Assumes nothing.
 use Prim.Native.Nat.{ℕ}
@@ -23,7 +24,8 @@ module _ (rules : List Rule) where
   ending_unmarked (x ∷ p) e = rw e
 
   -- behind one symbol more: the rule with that left side, or what was found without the symbol
-  pub ending_longer : (x : ℕ) (p : List ℕ) → ending rules false (x ∷ p) ≡ option_or (lowest rules false (x ∷ p)) (ending rules false p)
+  pub ending_longer :
+      (x : ℕ) (p : List ℕ) → ending rules false (x ∷ p) ≡ option_or (lowest rules false (x ∷ p)) (ending rules false p)
   unfolding ending spanning
   ending_longer x p = tie-or_else (lowest rules false (x ∷ p)) (ending rules false p)
 

@@ -9,7 +9,8 @@ use lib.Dec.{leb}
 use lib.ListN.{length, get_or}
 use borrow.Author.Tests.{leb-true}
 use Rattle.rewriting.specs.Lists.{all, below, between}
-use Rattle.rewriting.specs.Rules.{Right, Put, Close, symbols_of, Rule, ◌⇒◌, RuleSet, rule, right_in_range, rule_in_range, in_range}
+use Rattle.rewriting.specs.Rules.{Right, Put, Close, symbols_of, Rule, ◌⇒◌, RuleSet, rule, right_in_range, rule_in_range}
+use Rattle.rewriting.specs.Rules.{in_range}
 use Rattle.rewriting.proofs.Lists.{and_left, and_right, all_at, between_low, between_high}
 
 -- a right side in range has at most 8 symbols, each below S

@@ -47,7 +47,8 @@ NonEmpty rules = (i : ℕ) → i < length rules → 1 ≤ length (rule rules i).
 pub non_empty : (set : RuleSet) → in_range set ≡ true → NonEmpty set.rules
 non_empty set e i h = (rule_at_lem set (ranges set e) i h).some_left
 
--- A rule with a left side that is not empty ends q behind u: with a mark only where q stands at the string's start and u is empty.
+-- A rule with a left side that is not empty ends q behind u: with a mark only where q stands at the string's start and u is
+-- empty.
 pub record Ends (rules : List Rule) (start : Bool) (q : List ℕ) (j : ℕ) (u : List ℕ) : Type 0 where
   pub is-rule : j < length rules
   pub some_left : 1 ≤ length (rule rules j).left
@@ -59,7 +60,8 @@ ends_whole : {rules : List Rule} {start : Bool} {q : List ℕ} {j : ℕ} → End
 ends_whole h = record { is-rule = h.is-rule; is_left = sym h.split; in_place = λ m. (h.in_place m).0 }
 
 -- with a symbol before it, it has no mark and ends what follows that symbol
-ends_behind_first : {rules : List Rule} {start : Bool} {x : ℕ} {q : List ℕ} {j y : ℕ} {u : List ℕ} → Ends rules start (x ∷ q) j (y ∷ u)
+ends_behind_first :
+    {rules : List Rule} {start : Bool} {x : ℕ} {q : List ℕ} {j y : ℕ} {u : List ℕ} → Ends rules start (x ∷ q) j (y ∷ u)
     → Ends rules false q j u
 ends_behind_first h =
     record {
@@ -82,7 +84,8 @@ ending_none_none rules start (x ∷ q) e j (y ∷ u) h =
 -- "the rule with the longest left side that is a suffix of q's string", marked before unmarked, "the lowest rule among equals"
 pub ending_longest : (rules : List Rule) (start : Bool) (q : List ℕ) (i : ℕ) → ending rules start q ≡ Some i
     → (j : ℕ) (u : List ℕ) → Ends rules start q j u
-    → (length (rule rules j).left < length (rule rules i).left) ⊎ (((rule rules j).left ≡ (rule rules i).left) × NotWeaker rules i j)
+    → (length (rule rules j).left < length (rule rules i).left)
+    ⊎ (((rule rules j).left ≡ (rule rules i).left) × NotWeaker rules i j)
 unfolding ending
 ending_longest rules start [] i e j u h = let z : ◌≡◌ {A = ℕ} 0 1 = cc in absurd (omega arith)
 ending_longest rules start (x ∷ q) i e j [] h = inr (go (spanning rules start (x ∷ q)) refl)

@@ -41,7 +41,9 @@ module _ (rules : List Rule) where
       go (Some d) = refl
   rewrites_add m (suc n) c = rw (add-suc, rewrites_add m n c) (go (rewrites rules m c))
     where
-      go : (o : Option Rewriter) → option_and_then (rewrite rules) (option_and_then (rewrites rules n) o) ≡ option_and_then (rewrites rules (suc n)) o
+      go :
+          (o : Option Rewriter) → option_and_then (rewrite rules) (option_and_then (rewrites rules n) o)
+          ≡ option_and_then (rewrites rules (suc n)) o
       go None = refl
       go (Some d) = refl
 

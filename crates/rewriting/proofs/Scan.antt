@@ -197,7 +197,8 @@ elsewhere rules v (Some i) f = (
   λ j m. lower rules i j (f.1.0 ∙ sym (no_mark m)) (f.2 j m.is-rule (no_mark m, m.is_left)),
 )
 
-at_start_lem : (rules : List Rule) (v : List ℕ) (o : Option ℕ) → LowestIs rules true v o → (n : Option ℕ) → LowestIs rules false v n
+at_start_lem :
+    (rules : List Rule) (v : List ℕ) (o : Option ℕ) → LowestIs rules true v o → (n : Option ℕ) → LowestIs rules false v n
     → SpanningIs rules true v (option_or o n)
 at_start_lem rules v (Some i) f n g = (
   record { is-rule = f.0; is_left = f.1.1; in_place = λ e. refl },
@@ -223,7 +224,8 @@ at_start_lem rules v None f None g = λ j m. by_mark j m (rule rules j).marked r
 
 spanning-is : (rules : List Rule) (start : Bool) (v : List ℕ) → SpanningIs rules start v (spanning rules start v)
 unfolding spanning
-spanning-is rules true v = at_start_lem rules v (lowest rules true v) (lowest-is rules true v) (lowest rules false v) (lowest-is rules false v)
+spanning-is rules true v =
+    at_start_lem rules v (lowest rules true v) (lowest-is rules true v) (lowest rules false v) (lowest-is rules false v)
 spanning-is rules false v = elsewhere rules v (lowest rules false v) (lowest-is rules false v)
 
 -- the rule found may occur, and is taken before all others that may
@@ -257,7 +259,8 @@ ends_with rules start p i h l u e m =
     record { is-rule = h; some_left = l; fits = omega arith; ends = cc; in_place = λ k. ((m k).0, before ∙ (m k).1) }
 
 -- the rule that `ending` finds is such a rule
-pub ending_left : (rules : List Rule) (start : Bool) (p : List ℕ) (i : ℕ) → ending rules start p ≡ Some i → EndsWith rules start p i
+pub ending_left :
+    (rules : List Rule) (start : Bool) (p : List ℕ) (i : ℕ) → ending rules start p ≡ Some i → EndsWith rules start p i
 unfolding ending
 ending_left rules start [] i e = let z : ◌≡◌ {A = ℕ} 0 1 = cc in absurd (omega arith)
 ending_left rules start (x ∷ p) i e =

@@ -39,7 +39,8 @@ good : (s : Start) → valid s.args.rules.table.image.bytes.now ≡ true
 good s = s.args.rules.table.image.valid
 
 is_rule : (s : Start) → s.args.i < length (read s.args.rules.table.image.bytes.now).rules
-is_rule s = matched_rule (read s.args.rules.table.image.bytes.now) (length s.args.bytes.now) (given s) (facts s) s.args.i s.requires.next
+is_rule s =
+    matched_rule (read s.args.rules.table.image.bytes.now) (length s.args.bytes.now) (given s) (facts s) s.args.i s.requires.next
 
 -- the left side has 1 to 8 symbols, the last of them waits, and those before it are settled
 
@@ -67,16 +68,20 @@ sizes s size e =
 
 -- the right side is a string, with its symbols in the image
 
-string : (s : Start) (n : ℕ) → right_side_of (rule (read s.args.rules.table.image.bytes.now).rules s.args.i).right ≡ RightSide.Put n
+string :
+    (s : Start) (n : ℕ) → right_side_of (rule (read s.args.rules.table.image.bytes.now).rules s.args.i).right ≡ RightSide.Put n
     → (v : List ℕ) × ((rule (read s.args.rules.table.image.bytes.now).rules s.args.i).right ≡ Put v) × (n ≡ length v)
 string s n e = is_put (rule (read s.args.rules.table.image.bytes.now).rules s.args.i).right n e
 
-few : (s : Start) (n : ℕ) → right_side_of (rule (read s.args.rules.table.image.bytes.now).rules s.args.i).right ≡ RightSide.Put n → n ≤ 8
+few :
+    (s : Start) (n : ℕ) → right_side_of (rule (read s.args.rules.table.image.bytes.now).rules s.args.i).right ≡ RightSide.Put n
+    → n ≤ 8
 few s n e =
     let r = string s n e in
     omega (arith, r.2, put_few s.args.rules.table.image.bytes.now (good s) s.args.i (is_rule s) r.0 r.1)
 
-within : (s : Start) (n : ℕ) → right_side_of (rule (read s.args.rules.table.image.bytes.now).rules s.args.i).right ≡ RightSide.Put n
+within :
+    (s : Start) (n : ℕ) → right_side_of (rule (read s.args.rules.table.image.bytes.now).rules s.args.i).right ≡ RightSide.Put n
     → right_at (read s.args.rules.table.image.bytes.now) s.args.i + n ≤ length s.args.rules.table.image.bytes.now
 within s n e =
     let r = string s n e in
@@ -84,7 +89,8 @@ within s n e =
 
 -- or a verdict
 
-verdict : (s : Start) (v : ℕ) → right_side_of (rule (read s.args.rules.table.image.bytes.now).rules s.args.i).right ≡ RightSide.Close v
+verdict :
+    (s : Start) (v : ℕ) → right_side_of (rule (read s.args.rules.table.image.bytes.now).rules s.args.i).right ≡ RightSide.Close v
     → (rule (read s.args.rules.table.image.bytes.now).rules s.args.i).right ≡ Close v
 verdict s v e = is_close (rule (read s.args.rules.table.image.bytes.now).rules s.args.i).right v e
 
@@ -129,7 +135,8 @@ returns-then-behind-size c =
     let r = string s _ (sym c.right_side.ensures ∙ c.in-Put.is) in
     record {
       tried =
-          full_step (read c.args.rules.table.image.bytes.now) (length c.args.bytes.now) (given s) (facts s) c.args.i c.requires.next _
+          full_step (read c.args.rules.table.image.bytes.now) (length c.args.bytes.now) (given s)
+          (facts s) c.args.i c.requires.next _
           (c.args.settled + 1 - c.left_length-size.result) r.0 _ refl
           (ap (λ (x : ℕ). c.args.settled + 1 - x) c.left_length-size.ensures) r.1 r.2
           (omega (arith, sizes s _ c.left_length-size.ensures, c.if-behind-size.true));
@@ -190,7 +197,8 @@ returns-else-behind-size c =
           }) r.0 _ _ r.1 r.2
           (rw c.start.ensures (put_here c.args.rules.table.image.bytes.now (good s) i (is_rule s) r.0 r.1 _ r.2))
           (omega (arith, z, c.take_off-kept.ensures.kept, c.if-behind-size.false)) c.put_back-held.ensures.waiting
-          (length c.take_off-kept.new.bytes - (c.args.waiting - 1 + c.in-Put.n)) (omega (arith, z, c.take_off-kept.auto.bytes, c.if-behind-size.false))
+          (length c.take_off-kept.new.bytes - (c.args.waiting - 1 + c.in-Put.n))
+          (omega (arith, z, c.take_off-kept.auto.bytes, c.if-behind-size.false))
           c.put_back-held.ensures.bytes;
       verdict = λ v e. absurd (let z : ◌≡◌ {A = ℕ} 0 1 = cc in omega arith);
     }
@@ -201,7 +209,8 @@ returns-in-Close c =
     let e = verdict s _ (sym c.right_side.ensures ∙ c.in-Close.is) in
     record {
       tried =
-          close_step (read c.args.rules.table.image.bytes.now) (length c.args.bytes.now) (given s) (facts s) c.args.i c.requires.next
+          close_step (read c.args.rules.table.image.bytes.now) (length c.args.bytes.now) (given s)
+          (facts s) c.args.i c.requires.next
           (record {
             first_is = refl;
             kept_is = c.take_off-kept-in-Close.ensures.kept ∙ ap (λ (x : ℕ). c.args.settled + 1 - x) c.left_length-size.ensures;

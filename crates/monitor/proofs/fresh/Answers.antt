@@ -16,8 +16,10 @@ returns-then-bytes-ne-CAPACITY c =
     let words = c.args.words.now in
     other_length document_capacity _ _
     (elim c.then-bytes-ne-CAPACITY.branch [
-      | then-bytes-ne-CAPACITY-via-then-bytes-ne-CAPACITY w ↦ other_bytes document_capacity bytes words w.if-bytes-ne-CAPACITY.true
-      | then-bytes-ne-CAPACITY-via-else-bytes-ne-CAPACITY+then-words-ne-CAPACITY w ↦ other_words document_capacity bytes words w.if-bytes-ne-CAPACITY.false w.if-words-ne-CAPACITY.true
+      | then-bytes-ne-CAPACITY-via-then-bytes-ne-CAPACITY w ↦ other_bytes document_capacity bytes words
+          w.if-bytes-ne-CAPACITY.true
+      | then-bytes-ne-CAPACITY-via-else-bytes-ne-CAPACITY+then-words-ne-CAPACITY w ↦ other_words document_capacity bytes words
+          w.if-bytes-ne-CAPACITY.false w.if-words-ne-CAPACITY.true
     ])
 
 pub returns : goal.returns

@@ -18,17 +18,20 @@ given s = record { settled = s.args.settled; waiting = s.args.waiting; verdict =
 
 pub returns-then-capacity-settled : goal.returns-then-capacity-settled
 returns-then-capacity-settled c =
-    not-described (read c.args.table.image.bytes.now) (given (goal.at.returns-then-capacity-settled c).Start) c.args.bytes.now c.args.words.now c.requires
+    not-described (read c.args.table.image.bytes.now)
+    (given (goal.at.returns-then-capacity-settled c).Start) c.args.bytes.now c.args.words.now c.requires
     (λ t. omega (arith, t.room, c.if-capacity-settled.true))
 
 pub returns-then-capacity-settled-2 : goal.returns-then-capacity-settled-2
 returns-then-capacity-settled-2 c =
-    not-described (read c.args.table.image.bytes.now) (given (goal.at.returns-then-capacity-settled-2 c).Start) c.args.bytes.now c.args.words.now c.requires
+    not-described (read c.args.table.image.bytes.now)
+    (given (goal.at.returns-then-capacity-settled-2 c).Start) c.args.bytes.now c.args.words.now c.requires
     (λ t. omega (arith, t.room, c.if-capacity-settled-2.true))
 
 pub returns-then-not-stands_by : goal.returns-then-not-stands_by
 returns-then-not-stands_by c =
-    not-described (read c.args.table.image.bytes.now) (given (goal.at.returns-then-not-stands_by c).Start) c.args.bytes.now c.args.words.now c.requires
+    not-described (read c.args.table.image.bytes.now)
+    (given (goal.at.returns-then-not-stands_by c).Start) c.args.bytes.now c.args.words.now c.requires
     (λ t. is-not c.stands_by.result c.stands_by.ensures (ap not c.if-not-stands_by.true) t.stands)
 
 -- the settled symbols stand in the bytes
@@ -38,27 +41,33 @@ settled_fits : (c : Else-not-stands_by)
 settled_fits c = omega (arith, c.if-capacity-settled.false)
 
 pub slice_bounds-settled_right-end : goal.slice_bounds-settled_right-end
-slice_bounds-settled_right-end c = sym (length-take-le _ _ (settled_fits (goal.at.slice_bounds-settled_right-end c).Else-not-stands_by))
+slice_bounds-settled_right-end c =
+    sym (length-take-le _ _ (settled_fits (goal.at.slice_bounds-settled_right-end c).Else-not-stands_by))
 
 pub slice_bounds-settled_right-end-2 : goal.slice_bounds-settled_right-end-2
 slice_bounds-settled_right-end-2 c =
-    sym (length-take-le _ _ (omega (arith, settled_fits (goal.at.slice_bounds-settled_right-end-2 c).Else-not-stands_by, c.requires)))
+    sym (length-take-le _ _ (omega
+    (arith, settled_fits (goal.at.slice_bounds-settled_right-end-2 c).Else-not-stands_by, c.requires)))
 
 pub settled_right-requires : goal.settled_right-requires
 settled_right-requires c =
-    let fits = settled_fits (goal.at.settled_right-requires c).Else-not-stands_by in length-take-le c.args.settled c.args.words.now (omega (arith, fits, c.requires))
+    let fits =
+    settled_fits (goal.at.settled_right-requires c).Else-not-stands_by in length-take-le c.args.settled c.args.words.now
+    (omega (arith, fits, c.requires))
     ∙ sym (length-take-le c.args.settled c.args.bytes.now fits)
 
 pub returns-then-not-settled_right : goal.returns-then-not-settled_right
 returns-then-not-settled_right c =
-    not-described (read c.args.table.image.bytes.now) (given (goal.at.returns-then-not-settled_right c).Start) c.args.bytes.now c.args.words.now c.requires
+    not-described (read c.args.table.image.bytes.now)
+    (given (goal.at.returns-then-not-settled_right c).Start) c.args.bytes.now c.args.words.now c.requires
     (λ t.
     denied c.settled_right.result c.if-not-settled_right.true
     c.settled_right.ensures t.settled_part)
 
 pub returns-then-not-all_zero : goal.returns-then-not-all_zero
 returns-then-not-all_zero c =
-    not-described (read c.args.table.image.bytes.now) (given (goal.at.returns-then-not-all_zero c).Start) c.args.bytes.now c.args.words.now c.requires
+    not-described (read c.args.table.image.bytes.now)
+    (given (goal.at.returns-then-not-all_zero c).Start) c.args.bytes.now c.args.words.now c.requires
     (λ t.
     denied c.all_zero.result c.if-not-all_zero.true
     c.all_zero.ensures t.middle)
@@ -74,13 +83,15 @@ all_below-requires c =
 pub returns-then-not-all_below : goal.returns-then-not-all_below
 unfolding read
 returns-then-not-all_below c =
-    not-described (read c.args.table.image.bytes.now) (given (goal.at.returns-then-not-all_below c).Start) c.args.bytes.now c.args.words.now c.requires
+    not-described (read c.args.table.image.bytes.now)
+    (given (goal.at.returns-then-not-all_below c).Start) c.args.bytes.now c.args.words.now c.requires
     (λ t. is-not c.all_below.result c.all_below.ensures (ap not c.if-not-all_below.true) t.waiting_part)
 
 pub returns : goal.returns
 unfolding read
 returns c =
-    rest_decides (read c.args.table.image.bytes.now) (given (goal.at.returns c).Start) c.args.bytes.now c.args.words.now c.requires
+    rest_decides (read c.args.table.image.bytes.now)
+    (given (goal.at.returns c).Start) c.args.bytes.now c.args.words.now c.requires
     c.all_zero-2.result c.all_zero-2.ensures
     (λ r.
     record {

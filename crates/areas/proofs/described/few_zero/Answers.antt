@@ -4,4 +4,5 @@ use Rattle.areas.proofs.Zeros.{tells_all}
 use Rattle.areas.proofs.described.few_zero.Goals as goal
 
 pub returns : goal.returns
-returns g c = tells_all c.args.items.now c.is_zero.result c.loop-x.invariant (omega (arith, c.loop-x-test.false)) c.is_zero.ensures
+returns g c =
+    tells_all c.args.items.now c.is_zero.result c.loop-x.invariant (omega (arith, c.loop-x-test.false)) c.is_zero.ensures

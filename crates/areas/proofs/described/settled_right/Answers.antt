@@ -7,7 +7,8 @@ use Rattle.layout.specs.Image.{read}
 use Rattle.layout.proofs.Image.{valid-in_range}
 use Rattle.layout.proofs.ImageCheck.{valid_header, valid_room}
 use Rattle.machine.proofs.AreaTests.{is-not, is_so}
-use Rattle.machine.proofs.SettledTurns.{Turn, settled_none, next_asks, match_asks, other_word, some_match, settled_more, settled_all}
+use Rattle.machine.proofs.SettledTurns.{Turn, settled_none, next_asks, match_asks, other_word, some_match, settled_more}
+use Rattle.machine.proofs.SettledTurns.{settled_all}
 use Rattle.areas.proofs.described.settled_right.Goals.{After-from}
 use Rattle.areas.proofs.described.settled_right.Goals as goal
 
@@ -21,7 +22,8 @@ all_below-requires c =
 
 pub returns-then-not-all_below : goal.returns-then-not-all_below
 unfolding read
-returns-then-not-all_below c = λ settled. is-not c.all_below.result c.all_below.ensures (ap not c.if-not-all_below.true) settled.symbols_below
+returns-then-not-all_below c =
+    λ settled. is-not c.all_below.result c.all_below.ensures (ap not c.if-not-all_below.true) settled.symbols_below
 
 pub loop-i-init : goal.loop-i-init
 loop-i-init c =
@@ -38,7 +40,8 @@ turn_at : (c : After-from)
 unfolding read
 turn_at c =
     record {
-      in_range_lem = ranges (read c.args.table.image.bytes.now) (valid-in_range c.args.table.image.bytes.now c.args.table.image.valid);
+      in_range_lem =
+          ranges (read c.args.table.image.bytes.now) (valid-in_range c.args.table.image.bytes.now c.args.table.image.valid);
       table = c.args.table.right;
       row_first = c.args.table.rows_first;
       row_width = c.args.table.row_width;
@@ -58,7 +61,8 @@ bounds-words-i c = (turn_at (goal.at.bounds-words-i c).After-from).fits
 
 pub returns-then-from-next : goal.returns-then-from-next
 returns-then-from-next c =
-    other_word (turn_at (goal.at.returns-then-from-next c).After-from) c.next-next.ensures (λ e. c.if-from-next.true (c.from-in-loop-i.ensures ∙ e))
+    other_word (turn_at (goal.at.returns-then-from-next c).After-from) c.next-next.ensures
+    (λ e. c.if-from-next.true (c.from-in-loop-i.ensures ∙ e))
 
 pub match_word-requires : goal.match_word-requires
 match_word-requires c =
@@ -66,7 +70,8 @@ match_word-requires c =
 
 pub returns-then-match_word-ne0 : goal.returns-then-match_word-ne0
 returns-then-match_word-ne0 c =
-    some_match (turn_at (goal.at.returns-then-match_word-ne0 c).After-from) c.next-next.ensures c.match_word.ensures c.if-match_word-ne0.true
+    some_match (turn_at (goal.at.returns-then-match_word-ne0 c).After-from) c.next-next.ensures c.match_word.ensures
+    c.if-match_word-ne0.true
 
 pub loop-i-preserved : goal.loop-i-preserved
 loop-i-preserved c =

@@ -10,7 +10,8 @@ use Rattle.areas.proofs.held.index.Goals.{Start, After-rules-rules}
 use Rattle.areas.proofs.held.index.Goals as goal
 
 -- as many places are written as there are rules
-places : (c : After-rules-rules) → length (take c.rules-rules.result c.args.starts.now) ≡ length (read c.args.image.bytes.now).rules
+places :
+    (c : After-rules-rules) → length (take c.rules-rules.result c.args.starts.now) ≡ length (read c.args.image.bytes.now).rules
 places c =
     length-take-le c.rules-rules.result c.args.starts.now (rw c.rules-rules.ensures c.requires) ∙ c.rules-rules.ensures
 
@@ -62,7 +63,8 @@ pub loop-i-preserved : goal.loop-i-preserved
 loop-i-preserved c =
     let s = (goal.at.loop-i-preserved c).After-rules-rules in
     let turn = c.loop-i in
-    indexing_next c.args.image.bytes.now turn.start-items turn.at turn.i c.left_length.result c.body_length-at.result turn.invariant
+    indexing_next c.args.image.bytes.now turn.start-items turn.at turn.i c.left_length.result c.body_length-at.result
+    turn.invariant
     (rw (places s) at c.loop-i-test.true) c.left_length.ensures c.body_length-at.ensures
 
 pub returns : goal.returns

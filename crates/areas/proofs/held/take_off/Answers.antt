@@ -1,4 +1,5 @@
--- `areas::held::take_off` meets its contract. The loop's invariant: of the left side's symbols `k` are taken off, and the settled ones from
+-- `areas::held::take_off` meets its contract. The loop's invariant: of the left side's symbols `k` are taken off, and the settled
+-- ones from
 -- `at` on are 0 in both areas.
 use Prim.Native.Nat.{◌-◌, ◌≤◌, ◌<◌}
 use native.Mathlib.Omega.{arith}

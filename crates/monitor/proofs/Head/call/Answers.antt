@@ -43,7 +43,8 @@ refusal-requires c =
 
 -- none of its own checks refuses it
 accepted : (c : In-Ok)
-    → refusal (call_checks (read c.args.rules.table.image.bytes.now) (length c.args.bytes.now) (head_in c.args.self) (offer_or_go_on c.args.offered c.args.fuel))
+    → refusal (call_checks (read c.args.rules.table.image.bytes.now) (length c.args.bytes.now) (head_in c.args.self)
+    (offer_or_go_on c.args.offered c.args.fuel))
     ≡ None
 accepted c = answered_passed _ (sym c.refusal.ensures ∙ ap numbered c.in-Ok.is)
 
@@ -57,14 +58,16 @@ pub taking-requires : goal.taking-requires
 taking-requires c =
     let s = (goal.at.taking-requires c).Start in
     roomy c.args.offered
-    (accepted_room (read (image s)) (room s) (head_in c.args.self) c.args.fuel c.args.offered (accepted (goal.at.taking-requires c).In-Ok))
+    (accepted_room (read (image s)) (room s) (head_in c.args.self) c.args.fuel c.args.offered
+    (accepted (goal.at.taking-requires c).In-Ok))
     (facts s)
 
 pub run-requires-clause-lent : goal.run-requires-clause-lent
 run-requires-clause-lent c =
     let s = (goal.at.run-requires-clause-lent c).Start in
     rw (c.taking.ensures.head, c.taking.auto.bytes, c.taking.ensures.bytes)
-    (call_passes (room s) (image s) (table s) (head_in c.args.self) c.args.bytes.now c.args.words.now c.requires c.args.fuel c.args.offered
+    (call_passes (room s) (image s) (table s)
+    (head_in c.args.self) c.args.bytes.now c.args.words.now c.requires c.args.fuel c.args.offered
     (accepted (goal.at.run-requires-clause-lent c).In-Ok))
 
 pub returns-in-Err : goal.returns-in-Err
@@ -83,8 +86,10 @@ returns-in-Ok c =
     let bytes = c.taking.new.bytes in
     let words = c.args.words.now in
     passed_call (room s) (image s) (table s) (given s) one _ c.requires
-    (is-run (read (image s)) (room s) (given s) (lent c.taking.result bytes words) one _ (state_of (lent c.taking.result bytes words))
+    (is-run (read (image s)) (room s) (given s) (lent c.taking.result bytes words) one _
+    (state_of (lent c.taking.result bytes words))
     (outcome_from c.run.result c.run.new.bytes c.run.new.words) ok
     (rw (c.taking.ensures.head, c.taking.ensures.bytes)
-    (call_state (room s) (image s) (table s) (head_in c.args.self) c.args.bytes.now words c.requires c.args.fuel c.args.offered ok))
+    (call_state (room s) (image s) (table s)
+    (head_in c.args.self) c.args.bytes.now words c.requires c.args.fuel c.args.offered ok))
     (rw (fuel_with c.args.offered c.args.fuel, ← c.taking.auto.bytes) c.run.ensures))

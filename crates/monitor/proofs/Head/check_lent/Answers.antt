@@ -3,7 +3,8 @@ use Rattle.std.proofs.Common.{sym, ◌∙◌}
 use Rattle.std.proofs.lemmas.Result.{err_from_is_err_and}
 use Rattle.machine.specs.Areas.{document_capacity}
 use Rattle.monitor.specs.Lent.{head_in, lent}
-use Rattle.machine.proofs.LentRefusal.{table_refused, passed_image, passed_table, other_bytes, other_words, all_right, not_as_described}
+use Rattle.machine.proofs.LentRefusal.{table_refused, passed_image, passed_table, other_bytes, other_words, all_right}
+use Rattle.machine.proofs.LentRefusal.{not_as_described}
 use Rattle.monitor.proofs.Head.check_lent.Goals.{
   then-bytes-ne-CAPACITY-via-then-bytes-ne-CAPACITY,
   then-bytes-ne-CAPACITY-via-else-bytes-ne-CAPACITY+then-words-ne-CAPACITY,

@@ -11,7 +11,8 @@ use Rattle.machine.specs.Play.{offers_of}
 use Rattle.machine.specs.Batch.{offers}
 use Rattle.machine.specs.Lent.{offer_or_go_on}
 use Rattle.monitor.specs.Lent.{lent, outcome_from}
-use Rattle.machine.proofs.Offering.{offering_first, offering_passed, offering-number, offering_sums, offering-next, offering_refused, offering_all, call_at, calls_length}
+use Rattle.machine.proofs.Offering.{offering_first, offering_passed, offering-number, offering_sums, offering-next}
+use Rattle.machine.proofs.Offering.{offering_refused, offering_all, call_at, calls_length}
 use Rattle.monitor.proofs.Head.in_turn.Goals.{Start, At-loop-k, After-call-called, In-Ok}
 use Rattle.monitor.proofs.Head.in_turn.Goals as goal
 
@@ -64,7 +65,8 @@ unfolding refusal_number offers refused_by
 returns-in-Err c =
     let s = (goal.at.returns-in-Err c).Start in
     let a = (goal.at.returns-in-Err c).After-call-called in
-    rw (← came a) at (offering_refused c.loop-k.invariant (room s) (more a) (number c.in-Err.refusal) (rw (← came a, c.in-Err.is) refl))
+    rw (← came a) at (offering_refused c.loop-k.invariant (room s) (more a) (number c.in-Err.refusal)
+    (rw (← came a, c.in-Err.is) refl))
 
 -- the sums have room for its counts
 sums : (c : After-call-called) → length (offers_of c.args.events.now c.args.fuel) ≤ length c.args.answers.now

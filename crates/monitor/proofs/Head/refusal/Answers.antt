@@ -28,7 +28,8 @@ returns-then-is_some c =
     sym
     (ap answered
     (refuses_verdict (set_of c.args.image) c.args.capacity (head_in c.args.self) c.args.fuel
-    c.if-fuel-gt-FUEL_MOST.false c.args.offered (sym c.allowed.ensures ∙ c.if-not-allowed.false) (is-some _ (sym c.is_some.ensures ∙ c.if-is_some.true)).0
+    c.if-fuel-gt-FUEL_MOST.false c.args.offered (sym c.allowed.ensures ∙ c.if-not-allowed.false)
+    (is-some _ (sym c.is_some.ensures ∙ c.if-is_some.true)).0
     (is-some _ (sym c.is_some.ensures ∙ c.if-is_some.true)).1))
 
 pub returns-then-not-has_room : goal.returns-then-not-has_room
@@ -37,7 +38,8 @@ returns-then-not-has_room c =
     sym
     (ap answered
     (refuses_room (set_of c.args.image) c.args.capacity (head_in c.args.self) c.args.fuel
-    c.if-fuel-gt-FUEL_MOST.false c.args.offered (sym c.allowed.ensures ∙ c.if-not-allowed.false) (is-nothing _ (sym c.is_some.ensures ∙ c.if-is_some.false))
+    c.if-fuel-gt-FUEL_MOST.false c.args.offered (sym c.allowed.ensures ∙ c.if-not-allowed.false)
+    (is-nothing _ (sym c.is_some.ensures ∙ c.if-is_some.false))
     (sym c.has_room.ensures ∙ c.if-not-has_room.true)))
 
 pub returns : goal.returns
@@ -46,5 +48,6 @@ returns c =
     sym
     (ap answered
     (refuses_none (set_of c.args.image) c.args.capacity (head_in c.args.self) c.args.fuel
-    c.if-fuel-gt-FUEL_MOST.false c.args.offered (sym c.allowed.ensures ∙ c.if-not-allowed.false) (is-nothing _ (sym c.is_some.ensures ∙ c.if-is_some.false))
+    c.if-fuel-gt-FUEL_MOST.false c.args.offered (sym c.allowed.ensures ∙ c.if-not-allowed.false)
+    (is-nothing _ (sym c.is_some.ensures ∙ c.if-is_some.false))
     (sym c.has_room.ensures ∙ c.if-not-has_room.false)))

@@ -1,4 +1,5 @@
--- `monitor::Head::run` meets its contract: the invariant is `Running` (machine/proofs/Running.antt), in a state in which the run goes on.
+-- `monitor::Head::run` meets its contract: the invariant is `Running` (machine/proofs/Running.antt), in a state in which the run
+-- goes on.
 use mathlib.Core.Path.{◌≡◌, refl, sym}
 use native.Mathlib.Omega.{arith}
 use Rattle.std.specs.Prelude.{Some}
@@ -53,12 +54,14 @@ returns-in-None c =
     let k = c.loop.invariant.3 in
     let none = c.loop.invariant.1 in
     rw (c.ended-in-None.ensures, is_open k none)
-    (full_ends (running_open k none) refl c.loop.invariant.0 (omega (arith, c.loop.invariant.2, c.loop-test.true)) _ refl c.in-None.ensures.tried)
+    (full_ends (running_open k none) refl c.loop.invariant.0
+    (omega (arith, c.loop.invariant.2, c.loop-test.true)) _ refl c.in-None.ensures.tried)
 
 -- The step is taken: the run from there.
 taken : (c : In-Some)
     → Running c.args.rules.table.image.bytes.now c.args.rules.table.words.now c.args.bytes.now c.args.words.now c.args.fuel
-    (head_in c.args.self) c.step.new.bytes c.step.new.words (head_in c.in-Some.stepped.head) (plus c.loop.counts c.in-Some.stepped.counts)
+    (head_in c.args.self) c.step.new.bytes c.step.new.words (head_in c.in-Some.stepped.head)
+    (plus c.loop.counts c.in-Some.stepped.counts)
 taken c =
     let s = c.in-Some.stepped in
     let one : ◌≡◌ {A = Counts} (record { steps = 1; rewrites = s.counts.rewrites; put = s.counts.put }) s.counts =
@@ -66,7 +69,8 @@ taken c =
     in
     rw (← one)
     (running_next (running_open c.loop.invariant.3 c.loop.invariant.1) refl c.loop.invariant.0
-    (omega (arith, c.loop.invariant.2, c.loop-test.true)) (stepped_from c.loop.head (Some s) c.step.new.bytes c.step.new.words) refl
+    (omega (arith, c.loop.invariant.2, c.loop-test.true))
+    (stepped_from c.loop.head (Some s) c.step.new.bytes c.step.new.words) refl
     c.in-Some.ensures.tried c.step.auto.bytes c.step.auto.words)
 
 pub plus-counts-requires-clause-steps : goal.plus-counts-requires-clause-steps

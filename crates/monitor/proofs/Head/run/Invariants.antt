@@ -8,5 +8,6 @@ use Rattle.monitor.proofs.Head.run.Given as goal
 abbrev pub invariant-loop : goal.invariant-loop
 invariant-loop l =
     (0 < l.head.waiting) × (l.head.verdict ≡ None) × (l.counts.steps ≡ l.counter)
-    × Running l.rules.table.image.bytes.now l.rules.table.words.now l.initial.bytes l.initial.words l.fuel (head_in l.initial.head)
+    × Running l.rules.table.image.bytes.now l.rules.table.words.now l.initial.bytes l.initial.words l.fuel
+    (head_in l.initial.head)
     l.bytes l.words (head_in l.head) l.counts

@@ -27,7 +27,8 @@ one s = waits (read s.args.rules.table.image.bytes.now) (length s.args.bytes.now
 
 symbol : (s : Start) → get_or s.args.bytes.now (length s.args.bytes.now - s.args.self.waiting) 0 ≡ (one s).0
 symbol s =
-    symbol-is (length s.args.bytes.now) s.args.rules.table.image.bytes.now s.args.rules.table.words.now (given s) s.requires.lent (one s).0 (one s).1 (one s).2 _ refl
+    symbol-is (length s.args.bytes.now) s.args.rules.table.image.bytes.now s.args.rules.table.words.now (given s) s.requires.lent
+    (one s).0 (one s).1 (one s).2 _ refl
 
 pub overflow_sub-first : goal.overflow_sub-first
 overflow_sub-first c =
@@ -48,15 +49,18 @@ pub next-next-requires : goal.next-next-requires
 next-next-requires c =
     let s = (goal.at.next-next-requires c).Start in
     rw (c.args.rules.table.rows_first, c.args.rules.table.row_width)
-    (next_asks (length c.args.bytes.now) c.args.rules.table.image.bytes.now c.args.rules.table.words.now (given s) c.requires.lent (one s).0
+    (next_asks (length c.args.bytes.now) c.args.rules.table.image.bytes.now c.args.rules.table.words.now (given s) c.requires.lent
+    (one s).0
     (one s).1 (one s).2 _ _ c.word_before-q.ensures (c.from.ensures ∙ symbol s)).1
 
 pub match_word-matched-requires : goal.match_word-matched-requires
 match_word-matched-requires c =
     let s = (goal.at.match_word-matched-requires c).Start in
-    match_asks (length c.args.bytes.now) c.args.rules.table.image.bytes.now c.args.rules.table.words.now (given s) c.requires.lent (one s).0
+    match_asks (length c.args.bytes.now) c.args.rules.table.image.bytes.now c.args.rules.table.words.now (given s) c.requires.lent
+    (one s).0
     (one s).1 (one s).2 _
-    (next-is (length c.args.bytes.now) c.args.rules.table.image.bytes.now c.args.rules.table.words.now (given s) c.requires.lent (one s).0
+    (next-is (length c.args.bytes.now) c.args.rules.table.image.bytes.now c.args.rules.table.words.now (given s) c.requires.lent
+    (one s).0
     (one s).1 (one s).2 _ _ _ c.word_before-q.ensures (c.from.ensures ∙ symbol s)
     (rw (c.args.rules.table.rows_first, c.args.rules.table.row_width) at c.next-next.ensures))
 
@@ -72,7 +76,8 @@ rewrite-requires-clause-next c =
       some_match _ _
           (match_is capacity image table (given s) c.requires.lent (one s).0 (one s).1 (one s).2 _
           (next-is capacity image table (given s) c.requires.lent (one s).0 (one s).1 (one s).2 _ _ _
-          c.word_before-q.ensures (c.from.ensures ∙ symbol s) (rw (c.args.rules.table.rows_first, c.args.rules.table.row_width) at c.next-next.ensures)) _
+          c.word_before-q.ensures (c.from.ensures ∙ symbol s)
+          (rw (c.args.rules.table.rows_first, c.args.rules.table.row_width) at c.next-next.ensures)) _
           c.match_word-matched.ensures) c.if-matched-ne0.true,
     )
 
@@ -96,7 +101,8 @@ overflow_cast-words c =
       arith,
       next_small capacity image table (given s) c.requires.lent (one s).0 (one s).1 (one s).2 _
           (next-is capacity image table (given s) c.requires.lent (one s).0 (one s).1 (one s).2 _ _ _
-          c.word_before-q.ensures (c.from.ensures ∙ symbol s) (rw (c.args.rules.table.rows_first, c.args.rules.table.row_width) at c.next-next.ensures)),
+          c.word_before-q.ensures (c.from.ensures ∙ symbol s)
+          (rw (c.args.rules.table.rows_first, c.args.rules.table.row_width) at c.next-next.ensures)),
     )
 
 pub offset_bounds-words-settled : goal.offset_bounds-words-settled
@@ -121,7 +127,8 @@ returns-clause-tried c =
     let image = c.args.rules.table.image.bytes.now in
     let table = c.args.rules.table.words.now in
     let next = next-is (length bytes) image table (given s) c.requires.lent (one s).0 (one s).1 (one s).2 _ _ _
-    c.word_before-q.ensures (c.from.ensures ∙ symbol s) (rw (c.args.rules.table.rows_first, c.args.rules.table.row_width) at c.next-next.ensures) in
+    c.word_before-q.ensures (c.from.ensures ∙ symbol s)
+    (rw (c.args.rules.table.rows_first, c.args.rules.table.row_width) at c.next-next.ensures) in
     rw (symbol s)
     (settled_step (read image) (length bytes) (given s) (facts s) (one s).0 (one s).1 (one s).2
     (no_match_lem _ _
