@@ -234,7 +234,6 @@ impl Head {
     }
 
     // The offers of all events, up to the first that is refused.
-    #[tactic(auto, unfolding(layout::specs::Refusals::refusal_number, machine::specs::Run::no_counts))]
     pub fn batch(
         self,
         image: &[u8],
