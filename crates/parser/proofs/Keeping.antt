@@ -1,8 +1,8 @@
 -- What the code keeps of a reading (`Keeps`), token by token.
 -- Assumes nothing.
-use Prim.Native.Nat.{ℕ, suc, ◌+◌, ◌*◌, ◌/◌, ◌%◌, ◌≤◌, ◌<◌}
+use Prim.Native.Nat.{ℕ, suc, ◌+◌, ◌*◌, ◌≤◌, ◌<◌}
 use mathlib.Core.Path.{◌≡◌, refl, sym, ap, ◌∙◌}
-use mathlib.Core.Bool.{Bool, true}
+use mathlib.Core.Bool.{Bool, true, false}
 use mathlib.Core.List.{List, [], ◌∷◌, ◌++◌, append_assoc, append-nil, flat_map}
 use native.Mathlib.Omega.{arith}
 use lib.ListN.{length, set, take, drop, length-append, length-set}
@@ -11,30 +11,23 @@ use Rattle.rewriting.specs.Lists.{prefix}
 use Rattle.rewriting.specs.Rules.{Close, symbols_of, Rule}
 use Rattle.rewriting.proofs.Lists.{prefix_rest, prefix_append, flat_map_snoc}
 use Rattle.layout.specs.Image.{kind, length_or_verdict, mark_byte, contents, body}
-use Rattle.layout.proofs.Image.{mark_small, kind_right, length-contents}
+use Rattle.layout.proofs.Image.{length-contents}
+use Rattle.parser.specs.declared.Place as code
 use Rattle.parser.specs.declared.Place.TheVariants as places
-use Rattle.parser.specs.declared.Reader.{Reader}
+use Rattle.parser.specs.declared.RightKind.TheVariants as kinds
 use Rattle.grammar.specs.Names.{Numbered, slots}
-use Rattle.grammar.specs.Grammar.{
-  Place,
-  Events,
-  Between,
-  Marked,
-  InLeft,
-  InRight,
-  Ending,
-  Reading,
-  placed,
-  rule_with,
-}
-use Rattle.parser.specs.Held.{rule_at, place_of, left_of, side_of, kind_with_mark, bodies_of, reader_of, Keeps, Lengthens, Closed}
+use Rattle.grammar.specs.Grammar.{Place, Events, Between, Marked, InLeft, InRight, Ending, Reading, placed}
+use Rattle.parser.specs.Held.{rule_at, place_of, left_of, side_of, kind_of, bodies_of}
+use Rattle.parser.specs.Held.{Numbers, numbers_of, Keeps, Lengthens, Closed}
+use Rattle.parser.proofs.Places.{At, place_at}
 
 -- what an area begins with
 pub prefix-take : (p b : List ℕ) (n : ℕ) → n ≡ length p → prefix p b ≡ true → take n b ≡ p
 prefix-take p b n size e = rw size (ap (take (length p)) (prefix_rest p b e) ∙ take-append_seam p (drop (length p) b))
 
 -- an area that begins with p, with v written behind p
-pub prefix-sets : (p v b : List ℕ) → prefix p b ≡ true → length p + length v ≤ length b → prefix (p ++ v) (sets b (length p) v) ≡ true
+pub prefix-sets : (p v b : List ℕ) → prefix p b ≡ true → length p + length v ≤ length b
+    → prefix (p ++ v) (sets b (length p) v) ≡ true
 prefix-sets p v b e room =
     rw (sets-eq v b (length p) room, prefix-take p b (length p) refl e) (prefix_append (p ++ v) (drop (length p + length v) b))
 
@@ -47,53 +40,50 @@ sets_four b n w x y z =
     let three : n + 3 ≡ suc (suc (suc n)) = omega arith in
     rw (one, two, three) refl
 
--- the kind and the mark of a rule, of the number that has both
-kind_of_both : (x : Rule) → kind_with_mark x % 2 ≡ kind x.right
-kind_of_both x = omega (arith, kind_right x.right, mark_small x.marked)
-
-mark_of_both : (x : Rule) → kind_with_mark x / 2 ≡ mark_byte x.marked
-mark_of_both x = omega (arith, kind_right x.right, mark_small x.marked)
-
 -- The numbers, one by one.
-module _ (s : Reading) {r : Reader} (e : r ≡ reader_of s) where
+module _ (s : Reading) {r : Numbers} (e : r ≡ numbers_of s) where
   pub place_number : r.place ≡ place_of s.place
-  unfolding reader_of
-  place_number = ap (λ (x : Reader). x.place) e
+  unfolding numbers_of
+  place_number = ap (λ (x : Numbers). x.place) e
 
   pub symbols_number : r.symbols ≡ length s.symbols
-  unfolding reader_of
-  symbols_number = ap (λ (x : Reader). x.symbols) e
+  unfolding numbers_of
+  symbols_number = ap (λ (x : Numbers). x.symbols) e
 
   pub words_number : r.words ≡ length s.words
-  unfolding reader_of
-  words_number = ap (λ (x : Reader). x.words) e
+  unfolding numbers_of
+  words_number = ap (λ (x : Numbers). x.words) e
 
   pub events_number : r.events ≡ s.events
-  unfolding reader_of
-  events_number = ap (λ (x : Reader). x.events) e
+  unfolding numbers_of
+  events_number = ap (λ (x : Numbers). x.events) e
 
   pub rules-number : r.rules ≡ length s.rules
-  unfolding reader_of
-  rules-number = ap (λ (x : Reader). x.rules) e
+  unfolding numbers_of
+  rules-number = ap (λ (x : Numbers). x.rules) e
 
   pub bodies_number : r.bodies ≡ length (bodies_of s)
-  unfolding reader_of
-  bodies_number = ap (λ (x : Reader). x.bodies) e
+  unfolding numbers_of
+  bodies_number = ap (λ (x : Numbers). x.bodies) e
 
   pub left_number : r.left ≡ left_of s.place
-  unfolding reader_of
-  left_number = ap (λ (x : Reader). x.left) e
+  unfolding numbers_of
+  left_number = ap (λ (x : Numbers). x.left) e
 
   pub side_number : r.side ≡ side_of s.place
-  unfolding reader_of
-  side_number = ap (λ (x : Reader). x.side) e
+  unfolding numbers_of
+  side_number = ap (λ (x : Numbers). x.side) e
 
-  pub kind-number : r.kind ≡ kind_with_mark (rule_at s.place)
-  unfolding reader_of
-  kind-number = ap (λ (x : Reader). x.kind) e
+  pub kind-number : r.kind ≡ kind_of (rule_at s.place).right
+  unfolding numbers_of
+  kind-number = ap (λ (x : Numbers). x.kind) e
+
+  pub mark-told : r.marked ≡ (rule_at s.place).marked
+  unfolding numbers_of
+  mark-told = ap (λ (x : Numbers). x.marked) e
 
 -- Those of the rule begun, where the place is p.
-module _ (s : Reading) {r : Reader} (e : r ≡ reader_of s) {p : Place} (here : s.place ≡ p) where
+module _ (s : Reading) {r : Numbers} (e : r ≡ numbers_of s) {p : Place} (here : s.place ≡ p) where
   pub bodies_at : r.bodies ≡ length (flat_map body s.rules ++ body (rule_at p))
   bodies_at = bodies_number s e ∙ ap (λ (q : Place). length (flat_map body s.rules ++ body (rule_at q))) here
 
@@ -103,17 +93,21 @@ module _ (s : Reading) {r : Reader} (e : r ≡ reader_of s) {p : Place} (here : 
   pub side_at : r.side ≡ side_of p
   side_at = side_number s e ∙ ap side_of here
 
-  pub kind_at : r.kind ≡ kind_with_mark (rule_at p)
-  kind_at = kind-number s e ∙ ap (λ (q : Place). kind_with_mark (rule_at q)) here
+  pub kind_at : r.kind ≡ kind_of (rule_at p).right
+  kind_at = kind-number s e ∙ ap (λ (q : Place). kind_of (rule_at q).right) here
+
+  pub mark_at : r.marked ≡ (rule_at p).marked
+  mark_at = mark-told s e ∙ ap (λ (q : Place). (rule_at q).marked) here
 
 -- the rule begun is the same at both places
 pub record Alike (p q : Place) : Type 0 where
   pub left : left_of p ≡ left_of q
   pub side : side_of p ≡ side_of q
-  pub kinds : kind_with_mark (rule_at p) ≡ kind_with_mark (rule_at q)
+  pub kinds : kind_of (rule_at p).right ≡ kind_of (rule_at q).right
+  pub marks : (rule_at p).marked ≡ (rule_at q).marked
   pub bodies : body (rule_at p) ≡ body (rule_at q)
 
-module _ {s : Reading} {r : Reader} {a b c d : List ℕ} (k : Keeps s r a b c d) where
+module _ {s : Reading} {r : Numbers} {a b c d : List ℕ} (k : Keeps s r a b c d) where
   -- at another place
   pub keeps_placed :
       (q : Place) → Alike s.place q
@@ -128,8 +122,9 @@ module _ {s : Reading} {r : Reader} {a b c d : List ℕ} (k : Keeps s r a b c d)
         left = r.left;
         side = r.side;
         kind = r.kind;
+        marked = r.marked;
       }) a b c d
-  unfolding placed reader_of
+  unfolding placed numbers_of
   keeps_placed q h =
       let old : List ℕ = flat_map body s.rules in
       record {
@@ -145,6 +140,7 @@ module _ {s : Reading} {r : Reader} {a b c d : List ℕ} (k : Keeps s r a b c d)
               left = (left_number s k.numbers ∙ h.left) i;
               side = (side_number s k.numbers ∙ h.side) i;
               kind = (kind-number s k.numbers ∙ h.kinds) i;
+              marked = (mark-told s k.numbers ∙ h.marks) i;
             };
         symbol-slots = k.symbol-slots;
         word-slots = k.word-slots;
@@ -177,8 +173,9 @@ module _ {s : Reading} {r : Reader} {a b c d : List ℕ} (k : Keeps s r a b c d)
         left = r.left;
         side = r.side + 1;
         kind = r.kind;
+        marked = r.marked;
       }) area b c (set d r.bodies number)
-  unfolding reader_of
+  unfolding numbers_of
   keeps_longer {side} {to} {q} n number count area h at_number at_count at_area room =
       let x : ℕ = n.number in
       let old : List ℕ = flat_map body s.rules in
@@ -188,7 +185,9 @@ module _ {s : Reading} {r : Reader} {a b c d : List ℕ} (k : Keeps s r a b c d)
       let size : r.bodies + 1 ≡ length (old ++ body (rule_at (to (side ++ x ∷ [])))) =
       rw (longer, length-append) (omega (arith, bodies_number s k.numbers))
       in
-      let side_size : r.side + 1 ≡ side_of (to (side ++ x ∷ [])) = rw (h.longer x) (omega (arith, side_number s k.numbers, h.size)) in
+      let side_size : r.side + 1 ≡ side_of (to (side ++ x ∷ [])) =
+      rw (h.longer x) (omega (arith, side_number s k.numbers, h.size))
+      in
       record {
         numbers =
             λ i.
@@ -201,7 +200,8 @@ module _ {s : Reading} {r : Reader} {a b c d : List ℕ} (k : Keeps s r a b c d)
               bodies = size i;
               left = (left_number s k.numbers ∙ sym (h.left x)) i;
               side = side_size i;
-              kind = (kind-number s k.numbers ∙ sym (h.kept x)) i;
+              kind = (kind-number s k.numbers ∙ sym (h.kinds x)) i;
+              marked = (mark-told s k.numbers ∙ sym (h.marks x)) i;
             };
         symbol-slots = at_area;
         word-slots = k.word-slots;
@@ -228,8 +228,9 @@ module _ {s : Reading} {r : Reader} {a b c d : List ℕ} (k : Keeps s r a b c d)
         left = r.left;
         side = r.side;
         kind = r.kind;
+        marked = r.marked;
       }) area b c d
-  unfolding reader_of
+  unfolding numbers_of
   keeps_event n count area here at_count at_area =
       record {
         numbers =
@@ -244,6 +245,7 @@ module _ {s : Reading} {r : Reader} {a b c d : List ℕ} (k : Keeps s r a b c d)
               left = left_at s k.numbers here i;
               side = side_at s k.numbers here i;
               kind = kind_at s k.numbers here i;
+              marked = mark_at s k.numbers here i;
             };
         symbol-slots = at_area;
         word-slots = k.word-slots;
@@ -267,8 +269,9 @@ module _ {s : Reading} {r : Reader} {a b c d : List ℕ} (k : Keeps s r a b c d)
         left = r.side;
         side = 0;
         kind = r.kind;
+        marked = r.marked;
       }) a b c d
-  unfolding placed reader_of place_of left_of side_of rule_at
+  unfolding placed numbers_of place_of left_of side_of rule_at
   keeps_arrow m l here =
       record {
         numbers =
@@ -283,6 +286,7 @@ module _ {s : Reading} {r : Reader} {a b c d : List ℕ} (k : Keeps s r a b c d)
               left = side_at s k.numbers here i;
               side = 0;
               kind = kind_at s k.numbers here i;
+              marked = mark_at s k.numbers here i;
             };
         symbol-slots = k.symbol-slots;
         word-slots = k.word-slots;
@@ -305,9 +309,10 @@ module _ {s : Reading} {r : Reader} {a b c d : List ℕ} (k : Keeps s r a b c d)
         bodies = r.bodies;
         left = r.left;
         side = r.side;
-        kind = 2;
+        kind = r.kind;
+        marked = true;
       }) a b c d
-  unfolding placed reader_of place_of left_of side_of rule_at kind mark_byte body
+  unfolding placed numbers_of place_of left_of side_of rule_at body
   keeps_mark here =
       record {
         numbers =
@@ -321,7 +326,8 @@ module _ {s : Reading} {r : Reader} {a b c d : List ℕ} (k : Keeps s r a b c d)
               bodies = bodies_at s k.numbers here i;
               left = left_at s k.numbers here i;
               side = side_at s k.numbers here i;
-              kind = 2;
+              kind = kind_at s k.numbers here i;
+              marked = true;
             };
         symbol-slots = k.symbol-slots;
         word-slots = k.word-slots;
@@ -352,11 +358,11 @@ module _ {s : Reading} {r : Reader} {a b c d : List ℕ} (k : Keeps s r a b c d)
         bodies = r.bodies;
         left = r.left;
         side = number;
-        kind = r.kind + 1;
+        kind = kinds.Close;
+        marked = r.marked;
       }) a area c d
-  unfolding reader_of place_of left_of side_of rule_at kind length_or_verdict body symbols_of
+  unfolding numbers_of place_of left_of side_of rule_at kind_of length_or_verdict body symbols_of
   keeps_verdict m l n number count area here at_number at_count at_area =
-      let kinds : r.kind + 1 ≡ kind_with_mark (rule_with m l (Close n.number)) = omega (arith, kind_at s k.numbers here) in
       record {
         numbers =
             λ i.
@@ -369,7 +375,8 @@ module _ {s : Reading} {r : Reader} {a b c d : List ℕ} (k : Keeps s r a b c d)
               bodies = bodies_at s k.numbers here i;
               left = left_at s k.numbers here i;
               side = at_number i;
-              kind = kinds i;
+              kind = kinds.Close;
+              marked = mark_at s k.numbers here i;
             };
         symbol-slots = k.symbol-slots;
         word-slots = at_area;
@@ -400,8 +407,9 @@ module _ {s : Reading} {r : Reader} {a b c d : List ℕ} (k : Keeps s r a b c d)
         left = r.left;
         side = r.side;
         kind = r.kind;
+        marked = r.marked;
       }) a b c d
-  unfolding reader_of place_of left_of side_of rule_at
+  unfolding numbers_of place_of left_of side_of rule_at
   keeps_events here =
       record {
         numbers =
@@ -416,6 +424,7 @@ module _ {s : Reading} {r : Reader} {a b c d : List ℕ} (k : Keeps s r a b c d)
               left = left_at s k.numbers here i;
               side = side_at s k.numbers here i;
               kind = kind_at s k.numbers here i;
+              marked = mark_at s k.numbers here i;
             };
         symbol-slots = k.symbol-slots;
         word-slots = k.word-slots;
@@ -427,7 +436,8 @@ module _ {s : Reading} {r : Reader} {a b c d : List ℕ} (k : Keeps s r a b c d)
 
   -- one rule more: its contents
   pub keeps_rule :
-      Closed s.place → 4 * r.rules + 4 ≤ length c
+      (kind_byte mark : ℕ) → kind_byte ≡ kind (rule_at s.place).right → mark ≡ mark_byte (rule_at s.place).marked
+      → Closed s.place → 4 * r.rules + 4 ≤ length c
       → Keeps
       (record {
         symbols = s.symbols;
@@ -445,22 +455,21 @@ module _ {s : Reading} {r : Reader} {a b c d : List ℕ} (k : Keeps s r a b c d)
         bodies = r.bodies;
         left = 0;
         side = 0;
-        kind = 0;
+        kind = kinds.Put;
+        marked = false;
       }) a b
-      (sets c (4 * r.rules) (r.left ∷ r.kind % 2 ∷ r.side ∷ r.kind / 2 ∷ [])) d
-  unfolding reader_of place_of left_of side_of kind mark_byte rule_at contents body symbols_of
-  keeps_rule h room =
+      (sets c (4 * r.rules) (r.left ∷ kind_byte ∷ r.side ∷ mark ∷ [])) d
+  unfolding numbers_of place_of left_of side_of kind_of rule_at contents body symbols_of
+  keeps_rule kind_byte mark at_kind at_mark h room =
       let old : List Rule = s.rules in
       let new : Rule = rule_at s.place in
       let all_bodies : bodies_of s ≡ flat_map body (old ++ new ∷ []) ++ body (rule_at Between) =
       sym (append-nil (flat_map body (old ++ new ∷ [])) ∙ flat_map_snoc body old new)
       in
       let size : r.rules + 1 ≡ length (old ++ new ∷ []) = rw length-append (omega (arith, rules-number s k.numbers)) in
-      let written : r.left ∷ r.kind % 2 ∷ r.side ∷ r.kind / 2 ∷ [] ≡ contents new =
+      let written : r.left ∷ kind_byte ∷ r.side ∷ mark ∷ [] ≡ contents new =
       let left : r.left ≡ length new.left = left_number s k.numbers ∙ h.left in
-      let kinds : r.kind % 2 ≡ kind new.right = ap (λ (n : ℕ). n % 2) (kind-number s k.numbers) ∙ kind_of_both new in
       let right : r.side ≡ length_or_verdict new.right = side_number s k.numbers ∙ h.right in
-      let mark : r.kind / 2 ≡ mark_byte new.marked = ap (λ (n : ℕ). n / 2) (kind-number s k.numbers) ∙ mark_of_both new in
       cc
       in
       let at : 4 * r.rules ≡ length (flat_map contents old) = omega (arith, rules-number s k.numbers, length-contents old) in
@@ -476,16 +485,22 @@ module _ {s : Reading} {r : Reader} {a b c d : List ℕ} (k : Keeps s r a b c d)
               bodies = (bodies_number s k.numbers ∙ ap length all_bodies) i;
               left = 0;
               side = 0;
-              kind = 0;
+              kind = kinds.Put;
+              marked = false;
             };
         symbol-slots = k.symbol-slots;
         word-slots = k.word-slots;
         contents_begin =
             ap (λ (v : List ℕ). prefix (flat_map contents (old ++ new ∷ [])) (sets c (4 * r.rules) v)) written
             ∙ ap (λ (n : ℕ). prefix (flat_map contents (old ++ new ∷ [])) (sets c n (contents new))) at
-            ∙ ap (λ (l : List ℕ). prefix l (sets c (length (flat_map contents old)) (contents new))) (flat_map_snoc contents old new)
+            ∙ ap (λ (l : List ℕ). prefix l (sets c (length (flat_map contents old)) (contents new)))
+            (flat_map_snoc contents old new)
             ∙ prefix-sets (flat_map contents old) (contents new) c k.contents_begin (omega arith);
-        contents_size_lem = length-sets c (4 * r.rules) (r.left ∷ r.kind % 2 ∷ r.side ∷ r.kind / 2 ∷ []) ∙ k.contents_size_lem;
+        contents_size_lem = length-sets c (4 * r.rules) (r.left ∷ kind_byte ∷ r.side ∷ mark ∷ []) ∙ k.contents_size_lem;
         bodies_begin = rw (← all_bodies) k.bodies_begin;
         bodies_size_lem = k.bodies_size_lem;
       }
+
+-- the place, where the code's is q
+pub here_at : {s : Reading} {r : Numbers} {a b c d : List ℕ} (k : Keeps s r a b c d) (q : code.Place) → r.place ≡ q → At q s.place
+here_at {s} k q e = place_at q s.place (sym (place_number s k.numbers) ∙ e)

@@ -13,13 +13,13 @@ use Rattle.rewriting.specs.Rules.{symbols_of}
 use Rattle.layout.specs.Image.{contents, body, image_of}
 use Rattle.layout.specs.Refusals.{refusal}
 use Rattle.layout.proofs.Image.{length-contents, length_image}
-use Rattle.parser.specs.declared.Reader.{Reader}
 use Rattle.grammar.specs.declared.TextError.{TextError}
 use Rattle.layout.specs.Refusals.{number}
 use Rattle.grammar.specs.Grammar.{Place, Between, Reading, rule_set_of}
 use Rattle.grammar.specs.Read.{ReadText, read_text, names_of, Outcome, read_checks, written, unless, read_of}
 use Rattle.grammar.specs.Sound.{EventsKnown, Sound}
-use Rattle.parser.specs.Held.{rule_at, bodies_of, Keeps, FinishedIs, Small}
+use Rattle.parser.specs.Held.{rule_at, bodies_of, Numbers, Keeps}
+use Rattle.parser.specs.Reads.{FinishedIs, Small}
 use Rattle.grammar.proofs.Sound.{place_sound}
 use Rattle.parser.proofs.Keeping.{
   prefix-take,
@@ -53,8 +53,8 @@ unfolding over
 over_four area w x y z room = sets-eq (w ∷ x ∷ y ∷ z ∷ []) area 0 room
 
 -- The image.
-module _ {s : Reading} {r : Reader} {a b c d : List ℕ} (sound : Sound s) (here : s.place ≡ Between) (k : Keeps s r a b c d) (image : List ℕ)
-    (room : 1284 ≤ length image) where
+module _ {s : Reading} {r : Numbers} {a b c d : List ℕ} (sound : Sound s) (here : s.place ≡ Between) (k : Keeps s r a b c d)
+    (image : List ℕ) (room : 1284 ≤ length image) where
   bodies_there : bodies_of s ≡ flat_map body s.rules
   unfolding rule_at body symbols_of
   bodies_there =
@@ -106,7 +106,9 @@ module _ {s : Reading} {r : Reader} {a b c d : List ℕ} (sound : Sound s) (here
       let all_contents : take (4 * r.rules) c ≡ flat_map contents s.rules =
       prefix-take (flat_map contents s.rules) c (4 * r.rules) n k.contents_begin
       in
-      let all_bodies : take r.bodies d ≡ flat_map body s.rules = prefix-take (bodies_of s) d r.bodies m k.bodies_begin ∙ bodies_there in
+      let all_bodies : take r.bodies d ≡ flat_map body s.rules =
+      prefix-take (bodies_of s) d r.bodies m k.bodies_begin ∙ bodies_there
+      in
       let size : length (flat_map body s.rules) ≡ r.bodies = omega (arith, m, ap length bodies_there) in
       let whole_contents : take (4 * r.rules) (flat_map contents s.rules) ≡ flat_map contents s.rules =
       take_all (4 * r.rules) (flat_map contents s.rules) (omega (arith, n))
@@ -121,7 +123,8 @@ module _ {s : Reading} {r : Reader} {a b c d : List ℕ} (sound : Sound s) (here
         over-paste head image (flat_map contents s.rules) 4 (4 * r.rules) refl (omega (arith, n)),
         whole_contents,
         all_bodies,
-        over-paste (head ++ flat_map contents s.rules) image (flat_map body s.rules) (4 + 4 * r.rules) r.bodies third (omega (arith, size)),
+        over-paste (head ++ flat_map contents s.rules) image (flat_map body s.rules) (4 + 4 * r.rules) r.bodies third
+            (omega (arith, size)),
         whole_bodies,
       )
       (ap (λ (l : List ℕ). over l image) numbers_there)
@@ -174,34 +177,34 @@ module _ (text image names : List ℕ) where
     unfolding read_of read_checks refusal unless
     passed = rw (le-leb (length text) 16384 fits, le-leb 1284 (length image) image_room, le-leb 1200 (length names) names_room)
 
-    pub text_bad : (a b c d : List ℕ) (e : TextError) (answer : Result Reader TextError) → answer ≡ Err e
-        → FinishedIs (read_text text) answer a b c d
+    pub text_bad : (r : Numbers) (a b c d : List ℕ) (e : TextError) (answer : Result (Unit {0}) TextError) → answer ≡ Err e
+        → FinishedIs (read_text text) answer r a b c d
         → read_of text image names ≡ record { answer = Err (number e.refusal, e.place); image = image; names = names }
     unfolding written
-    text_bad a b c d e answer told h = passed ∙ go (read_text text) (rw told at h)
+    text_bad r a b c d e answer told h = passed ∙ go (read_text text) (rw told at h)
       where
-        go : (t : ReadText) → FinishedIs t (Err e) a b c d
+        go : (t : ReadText) → FinishedIs t (Err e) r a b c d
             → written t image names ≡ record { answer = Err (number e.refusal, e.place); image = image; names = names }
         go (Ok s) g = absurd g
         go (Err (m, at)) g = λ i. record { answer = Err (sym g.0 i, sym g.1 i); image = image; names = names }
 
     -- a good text, with what is kept of it
-    pub record IsGood (r : Reader) (a b c d : List ℕ) : Type 0 where
+    pub record IsGood (r : Numbers) (a b c d : List ℕ) : Type 0 where
       pub reading : Reading
       pub read_as : read_text text ≡ Ok reading
       pub sound : Sound reading
       pub complete : reading.place ≡ Between
       pub keeps : Keeps reading r a b c d
 
-    pub text_good : (r : Reader) (a b c d : List ℕ) (answer : Result Reader TextError) → answer ≡ Ok r
-        → FinishedIs (read_text text) answer a b c d → IsGood r a b c d
+    pub text_good : (r : Numbers) (a b c d : List ℕ) (answer : Result (Unit {0}) TextError) → answer ≡ Ok tt
+        → FinishedIs (read_text text) answer r a b c d → IsGood r a b c d
     text_good r a b c d answer told h = go (read_text text) refl (rw told at h)
       where
-        go : (t : ReadText) → read_text text ≡ t → FinishedIs t (Ok r) a b c d → IsGood r a b c d
+        go : (t : ReadText) → read_text text ≡ t → FinishedIs t (Ok tt) r a b c d → IsGood r a b c d
         go (Ok s) e g = record { reading = s; read_as = e; sound = g.0; complete = g.1; keeps = g.2 }
         go (Err (m, at)) e g = absurd g
 
-    pub good_outcome : {r : Reader} {a b c d : List ℕ} (g : IsGood r a b c d)
+    pub good_outcome : {r : Numbers} {a b c d : List ℕ} (g : IsGood r a b c d)
         → read_of text image names
         ≡ record {
           answer = Ok (length (image_of (rule_set_of g.reading)));
@@ -211,7 +214,7 @@ module _ (text image names : List ℕ) where
     unfolding written
     good_outcome g = passed ∙ ap (λ (t : ReadText). written t image names) g.read_as
 
-    pub good_names : {r : Reader} {a b c d : List ℕ} (g : IsGood r a b c d) → a ++ b ≡ names_of g.reading
+    pub good_names : {r : Numbers} {a b c d : List ℕ} (g : IsGood r a b c d) → a ++ b ≡ names_of g.reading
     unfolding names_of
     good_names g = rw (g.keeps.symbol-slots, g.keeps.word-slots)
 

@@ -13,18 +13,18 @@ pub returns : goal.returns
 returns c =
     let lent = c.args in
     let q = c.requires in
-    let r = lent.reader in
+    let r = lent.reader.now in
     let rules : ℕ = r.rules in
     let size : ℕ = r.bodies in
     let four : List ℕ = set (set (set (set lent.image.now 0 r.symbols) 1 rules) 2 r.words) 3 r.events in
-    let inner = put_mid-paste 4 (4 + 4 * rules - 4) four _ (take (4 * rules) lent.contents.now) (4 * rules)
+    let inner = put_mid-paste 4 (4 + 4 * rules - 4) four _ (take (4 * rules) r.contents) (4 * rules)
     c.copy_from_slice.ensures.after (omega arith)
-    (sym (length-take-le (4 * rules) lent.contents.now (omega (arith, q.small.rules, c.told-contents)))) in
-    λ a b s sound here k. (
+    (sym (length-take-le (4 * rules) r.contents (omega (arith, q.small.rules)))) in
+    λ s sound here k. (
       image_size sound here k lent.image.now q.room,
-      put_mid-paste (4 + 4 * rules) (4 + 4 * rules + size - (4 + 4 * rules)) _ _ (take size lent.bodies.now) size
+      put_mid-paste (4 + 4 * rules) (4 + 4 * rules + size - (4 + 4 * rules)) _ _ (take size r.body_bytes) size
           c.copy_from_slice-2.ensures.after (omega arith)
-          (sym (length-take-le size lent.bodies.now (omega (arith, q.small.bodies, c.told-bodies))))
-          ∙ ap (λ (v : List ℕ). paste v (4 + 4 * rules) (take size lent.bodies.now) size) inner
+          (sym (length-take-le size r.body_bytes (omega (arith, q.small.bodies))))
+          ∙ ap (λ (v : List ℕ). paste v (4 + 4 * rules) (take size r.body_bytes) size) inner
           ∙ image_written sound here k lent.image.now q.room,
     )

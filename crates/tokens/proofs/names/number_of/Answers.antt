@@ -19,7 +19,8 @@ returns-in-Some c =
 pub returns-then-area-at : goal.returns-then-area-at
 returns-then-area-at c = record {
   numbered = λ most names kept all_kept few all_named named. number_full most names _ _ _ _ kept all_kept few all_named named
-      c.slot_of-key.ensures (sym c.find.ensures ∙ c.in_default.is) c.if-area-at.true;
+      c.slot_of-key.ensures
+      (sym c.find.ensures ∙ c.in_default.is) c.if-area-at.true;
   near = tt;
 }
 
@@ -31,7 +32,8 @@ returns c =
     let after = put_mid-paste at (at + 25 - at) a.area.now _ c.slot_of-key.result 25
     c.copy_from_slice.ensures.after (omega arith) (sym size) in record {
       numbered = λ most names kept all_kept few all_named named. rw after
-          (number_new most names _ _ _ _ kept all_kept few all_named named c.slot_of-key.ensures (sym c.find.ensures ∙ c.in_default.is)
+          (number_new most names _ _ _ _ kept all_kept few all_named named c.slot_of-key.ensures
+          (sym c.find.ensures ∙ c.in_default.is)
           c.if-area-at.false);
       near = omega arith;
     }
