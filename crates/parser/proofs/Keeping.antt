@@ -1,24 +1,28 @@
 -- What the code keeps of a reading (`Keeps`), token by token.
 -- Assumes nothing.
-use Prim.Native.Nat.{ℕ, suc, ◌+◌, ◌*◌, ◌≤◌, ◌<◌}
+use Prim.Native.Nat.{ℕ, ◌+◌, ◌≤◌, ◌<◌}
 use mathlib.Core.Path.{◌≡◌, refl, sym, ap, ◌∙◌}
 use mathlib.Core.Bool.{Bool, true, false}
 use mathlib.Core.List.{List, [], ◌∷◌, ◌++◌, append_assoc, append-nil, flat_map}
 use native.Mathlib.Omega.{arith}
 use lib.ListN.{length, set, take, drop, length-append, length-set}
-use lib.Seq.{sets, sets-eq, length-sets, take-append_seam}
+use lib.Seq.{sets, sets-eq, take-append_seam}
 use Rattle.rewriting.specs.Lists.{prefix}
 use Rattle.rewriting.specs.Rules.{Close, symbols_of, Rule}
 use Rattle.rewriting.proofs.Lists.{prefix_rest, prefix_append, flat_map_snoc}
-use Rattle.layout.specs.Image.{kind, length_or_verdict, mark_byte, contents, body}
-use Rattle.layout.proofs.Image.{length-contents}
+use Rattle.layout.specs.Image.{length_or_verdict, contents, body}
 use Rattle.parser.specs.declared.Place as code
 use Rattle.parser.specs.declared.Place.TheVariants as places
 use Rattle.parser.specs.declared.RightKind.TheVariants as kinds
+use Rattle.std.specs.Prelude.{map}
+use Rattle.std.proofs.lemmas.List.{map-append}
+use Rattle.std.proofs.lemmas.Grind.{take-set_at}
 use Rattle.grammar.specs.Names.{Numbered, slots}
+use Rattle.tokens.specs.Numbered.{slots_of}
 use Rattle.grammar.specs.Grammar.{Place, Events, Between, Marked, InLeft, InRight, Ending, Reading, placed}
 use Rattle.parser.specs.Held.{rule_at, place_of, left_of, side_of, kind_of, bodies_of}
-use Rattle.parser.specs.Held.{Numbers, numbers_of, Keeps, Lengthens, Closed}
+use Rattle.parser.specs.Held.{Numbers, numbers_of, Keeps, Lengthens}
+use Rattle.tokens.proofs.Numbering.{slots_flat}
 use Rattle.parser.proofs.Places.{At, place_at}
 
 -- what an area begins with
@@ -30,15 +34,6 @@ pub prefix-sets : (p v b : List ℕ) → prefix p b ≡ true → length p + leng
     → prefix (p ++ v) (sets b (length p) v) ≡ true
 prefix-sets p v b e room =
     rw (sets-eq v b (length p) room, prefix-take p b (length p) refl e) (prefix_append (p ++ v) (drop (length p + length v) b))
-
--- four places written one by one
-pub sets_four : (b : List ℕ) (n w x y z : ℕ)
-    → set (set (set (set b n w) (n + 1) x) (n + 2) y) (n + 3) z ≡ sets b n (w ∷ x ∷ y ∷ z ∷ [])
-sets_four b n w x y z =
-    let one : n + 1 ≡ suc n = omega arith in
-    let two : n + 2 ≡ suc (suc n) = omega arith in
-    let three : n + 3 ≡ suc (suc (suc n)) = omega arith in
-    rw (one, two, three) refl
 
 -- The numbers, one by one.
 module _ (s : Reading) {r : Numbers} (e : r ≡ numbers_of s) where
@@ -107,7 +102,7 @@ pub record Alike (p q : Place) : Type 0 where
   pub marks : (rule_at p).marked ≡ (rule_at q).marked
   pub bodies : body (rule_at p) ≡ body (rule_at q)
 
-module _ {s : Reading} {r : Numbers} {a b c d : List ℕ} (k : Keeps s r a b c d) where
+module _ {s : Reading} {r : Numbers} {a b c : List (List ℕ)} {d : List ℕ} (k : Keeps s r a b c d) where
   -- at another place
   pub keeps_placed :
       (q : Place) → Alike s.place q
@@ -152,8 +147,8 @@ module _ {s : Reading} {r : Numbers} {a b c d : List ℕ} (k : Keeps s r a b c d
 
   -- one symbol more in a side
   pub keeps_longer :
-      {side : List ℕ} {to : List ℕ → Place} {q : _} (n : Numbered) (number count : ℕ) (area : List ℕ)
-      → Lengthens s.place side to q → number ≡ n.number → count ≡ length n.names → area ≡ slots 32 n.names
+      {side : List ℕ} {to : List ℕ → Place} {q : _} (n : Numbered) (number count : ℕ) (area : List (List ℕ))
+      → Lengthens s.place side to q → number ≡ n.number → count ≡ length n.names → area ≡ slots_of 32 n.names
       → r.bodies < length d
       → Keeps
       (record {
@@ -215,7 +210,7 @@ module _ {s : Reading} {r : Numbers} {a b c d : List ℕ} (k : Keeps s r a b c d
 
   -- one event more
   pub keeps_event :
-      (n : Numbered) (count : ℕ) (area : List ℕ) → s.place ≡ Events → count ≡ length n.names → area ≡ slots 32 n.names
+      (n : Numbered) (count : ℕ) (area : List (List ℕ)) → s.place ≡ Events → count ≡ length n.names → area ≡ slots_of 32 n.names
       → Keeps
       (record { symbols = n.names; words = s.words; events = s.events; rules = s.rules; place = Events })
       (record {
@@ -339,8 +334,8 @@ module _ {s : Reading} {r : Numbers} {a b c d : List ℕ} (k : Keeps s r a b c d
 
   -- behind a word that is the verdict n
   pub keeps_verdict :
-      (m : Bool) (l : List ℕ) (n : Numbered) (number count : ℕ) (area : List ℕ) → s.place ≡ InRight m l []
-      → number ≡ n.number → count ≡ length n.names → area ≡ slots 16 n.names
+      (m : Bool) (l : List ℕ) (n : Numbered) (number count : ℕ) (area : List (List ℕ)) → s.place ≡ InRight m l []
+      → number ≡ n.number → count ≡ length n.names → area ≡ slots_of 16 n.names
       → Keeps
       (record {
         symbols = s.symbols;
@@ -436,8 +431,7 @@ module _ {s : Reading} {r : Numbers} {a b c d : List ℕ} (k : Keeps s r a b c d
 
   -- one rule more: its contents
   pub keeps_rule :
-      (kind_byte mark : ℕ) → kind_byte ≡ kind (rule_at s.place).right → mark ≡ mark_byte (rule_at s.place).marked
-      → Closed s.place → 4 * r.rules + 4 ≤ length c
+      (row : List ℕ) → row ≡ contents (rule_at s.place) → r.rules < length c
       → Keeps
       (record {
         symbols = s.symbols;
@@ -457,22 +451,18 @@ module _ {s : Reading} {r : Numbers} {a b c d : List ℕ} (k : Keeps s r a b c d
         side = 0;
         kind = kinds.Put;
         marked = false;
-      }) a b
-      (sets c (4 * r.rules) (r.left ∷ kind_byte ∷ r.side ∷ mark ∷ [])) d
-  unfolding numbers_of place_of left_of side_of kind_of rule_at contents body symbols_of
-  keeps_rule kind_byte mark at_kind at_mark h room =
+      }) a b (set c r.rules row) d
+  unfolding numbers_of place_of left_of side_of kind_of rule_at body symbols_of
+  keeps_rule row written room =
       let old : List Rule = s.rules in
       let new : Rule = rule_at s.place in
       let all_bodies : bodies_of s ≡ flat_map body (old ++ new ∷ []) ++ body (rule_at Between) =
       sym (append-nil (flat_map body (old ++ new ∷ [])) ∙ flat_map_snoc body old new)
       in
       let size : r.rules + 1 ≡ length (old ++ new ∷ []) = rw length-append (omega (arith, rules-number s k.numbers)) in
-      let written : r.left ∷ kind_byte ∷ r.side ∷ mark ∷ [] ≡ contents new =
-      let left : r.left ≡ length new.left = left_number s k.numbers ∙ h.left in
-      let right : r.side ≡ length_or_verdict new.right = side_number s k.numbers ∙ h.right in
-      cc
+      let first : take r.rules c ≡ map contents old =
+      ap (λ (n : ℕ). take n c) (rules-number s k.numbers) ∙ k.contents_begin
       in
-      let at : 4 * r.rules ≡ length (flat_map contents old) = omega (arith, rules-number s k.numbers, length-contents old) in
       record {
         numbers =
             λ i.
@@ -491,16 +481,23 @@ module _ {s : Reading} {r : Numbers} {a b c d : List ℕ} (k : Keeps s r a b c d
         symbol-slots = k.symbol-slots;
         word-slots = k.word-slots;
         contents_begin =
-            ap (λ (v : List ℕ). prefix (flat_map contents (old ++ new ∷ [])) (sets c (4 * r.rules) v)) written
-            ∙ ap (λ (n : ℕ). prefix (flat_map contents (old ++ new ∷ [])) (sets c n (contents new))) at
-            ∙ ap (λ (l : List ℕ). prefix l (sets c (length (flat_map contents old)) (contents new)))
-            (flat_map_snoc contents old new)
-            ∙ prefix-sets (flat_map contents old) (contents new) c k.contents_begin (omega arith);
-        contents_size_lem = length-sets c (4 * r.rules) (r.left ∷ kind_byte ∷ r.side ∷ mark ∷ []) ∙ k.contents_size_lem;
+            take-set_at c r.rules (length (old ++ new ∷ [])) row (sym size) room
+            ∙ rw (first, written) (sym (map-append contents old (new ∷ [])));
+        contents_size_lem = length-set c r.rules row ∙ k.contents_size_lem;
         bodies_begin = rw (← all_bodies) k.bodies_begin;
         bodies_size_lem = k.bodies_size_lem;
       }
 
 -- the place, where the code's is q
-pub here_at : {s : Reading} {r : Numbers} {a b c d : List ℕ} (k : Keeps s r a b c d) (q : code.Place) → r.place ≡ q → At q s.place
+pub here_at : {s : Reading} {r : Numbers} {a b c : List (List ℕ)} {d : List ℕ} (k : Keeps s r a b c d) (q : code.Place)
+    → r.place ≡ q → At q s.place
 here_at {s} k q e = place_at q s.place (sym (place_number s k.numbers) ∙ e)
+
+-- the bytes of the slots
+pub symbol_bytes : {s : Reading} {r : Numbers} {a b c : List (List ℕ)} {d : List ℕ} → Keeps s r a b c d
+    → flat_map (λ (x : List ℕ). x) a ≡ slots 32 s.symbols
+symbol_bytes {s} k = ap (flat_map (λ (x : List ℕ). x)) k.symbol-slots ∙ slots_flat 32 s.symbols
+
+pub word_bytes : {s : Reading} {r : Numbers} {a b c : List (List ℕ)} {d : List ℕ} → Keeps s r a b c d
+    → flat_map (λ (x : List ℕ). x) b ≡ slots 16 s.words
+word_bytes {s} k = ap (flat_map (λ (x : List ℕ). x)) k.word-slots ∙ slots_flat 16 s.words

@@ -24,20 +24,23 @@ not_refused (Ok x) h = refl
 not_refused (Err m) h = absurd (h m refl)
 
 -- The end of the text.
-module _ {s : Reading} {r : Numbers} {a b c d : List ℕ} (size : ℕ) (sound : Sound s) (k : Keeps s r a b c d) where
-  pub ended_good : s.place ≡ Between → FinishedIs (ended size s) (Ok tt) r a b c d
-  unfolding ended complete
-  ended_good here =
-      let e : ended size s ≡ Ok s = ap (λ (b : Bool). cond {A = ReadText} b (Ok s) (Err (4, size))) (ap complete here) in
-      rw e (sound, here, k)
+module _ {s : Reading} {r : Numbers} {a b c : List (List ℕ)} {d : List ℕ} (size : ℕ) (sound : Sound s) (k : Keeps s r a b c d)
+  where
+    pub ended_good : s.place ≡ Between → FinishedIs (ended size s) (Ok tt) r a b c d
+    unfolding ended complete
+    ended_good here =
+        let e : ended size s ≡ Ok s = ap (λ (b : Bool). cond {A = ReadText} b (Ok s) (Err (4, size))) (ap complete here) in
+        rw e (sound, here, k)
 
-  pub ended_early : complete s.place ≡ false
-      → FinishedIs (ended size s) (Err (record { refusal = Refusal.Misplaced; place = size })) r a b c d
-  unfolding ended
-  ended_early e = rw e (refl, refl)
+    pub ended_early : complete s.place ≡ false
+        → FinishedIs (ended size s) (Err (record { refusal = Refusal.Misplaced; place = size })) r a b c d
+    unfolding ended
+    ended_early e = rw e (refl, refl)
 
 -- what is read before the place `at` is kept, and the rest decides the whole
-pub record Going (whole : ReadText) (text : List ℕ) (r : Numbers) (symbols words contents bodies : List ℕ) (at : ℕ) : Type 0 where
+pub record Going
+    (whole : ReadText) (text : List ℕ) (r : Numbers) (symbols words contents : List (List ℕ)) (bodies : List ℕ) (at : ℕ)
+    : Type 0 where
   pub reading : Reading
   pub sound : Sound reading
   pub keeps : Keeps reading r symbols words contents bodies
@@ -45,13 +48,14 @@ pub record Going (whole : ReadText) (text : List ℕ) (r : Numbers) (symbols wor
   pub rest : whole ≡ read_runs (length text) reading (runs_from true at (drop at text))
 
 pub going_first :
-    (text : List ℕ) (s : Reading) (r : Numbers) (a b c d : List ℕ) → Sound s → Keeps s r a b c d
+    (text : List ℕ) (s : Reading) (r : Numbers) (a b c : List (List ℕ)) (d : List ℕ) → Sound s → Keeps s r a b c d
     → Going (read_runs (length text) s (runs text)) text r a b c d 0
 unfolding runs
 going_first text s r a b c d sound k =
     record { reading = s; sound = sound; keeps = k; inside = omega arith; rest = refl }
 
-module _ {whole : ReadText} {text : List ℕ} {r : Numbers} {a b c d : List ℕ} {at : ℕ} (g : Going whole text r a b c d at) where
+module _ {whole : ReadText} {text : List ℕ} {r : Numbers} {a b c : List (List ℕ)} {d : List ℕ} {at : ℕ}
+    (g : Going whole text r a b c d at) where
   -- no run is left
   pub going_ended :
       (answer : Result (Unit {0}) TextError) → runs_from true at (drop at text) ≡ []
@@ -82,7 +86,7 @@ module _ {whole : ReadText} {text : List ℕ} {r : Numbers} {a b c d : List ℕ}
         in
         rw broken (refl, refl)
 
-    module _ (r' : Numbers) (a' b' c' d' : List ℕ) (answer : Result (Unit {0}) Refusal) (o : Option Token)
+    module _ (r' : Numbers) (a' b' c' : List (List ℕ)) (d' : List ℕ) (answer : Result (Unit {0}) Refusal) (o : Option Token)
         (same : token_of (rest_of text start) ≡ o)
         (is : TakenIs (after_run g.reading o) answer r' a' b' c' d') where
       after : (t : Taken) → after_run g.reading o ≡ t

@@ -30,7 +30,7 @@ use Rattle.parser.proofs.Keeping.{
 pub old_bodies : (s : Reading) → Sound s → length (flat_map body s.rules) ≤ 16 * length s.rules
 old_bodies s h = length_bodies (rule_set_of s) s.rules h.all_rules
 
-module _ {r : Numbers} {a b c d : List ℕ} (h : Held r a b c d) where
+module _ {r : Numbers} {a b c : List (List ℕ)} {d : List ℕ} (h : Held r a b c d) where
   place_told : (q : _) → r.place ≡ q → place_of h.reading.place ≡ q
   place_told q e = sym (place_number h.reading h.keeps.numbers) ∙ e
 

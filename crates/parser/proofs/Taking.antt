@@ -1,6 +1,6 @@
 -- What the code answers to a token is what the grammar makes of it (`TakenIs`), case by case.
 -- Assumes nothing.
-use Prim.Native.Nat.{ℕ, ◌+◌, ◌*◌, ◌≤◌, ◌<◌}
+use Prim.Native.Nat.{ℕ, ◌+◌, ◌≤◌, ◌<◌}
 use mathlib.Core.Path.{◌≡◌, refl, sym, ap, ◌∙◌}
 use mathlib.Core.Bool.{Bool, true, false, cond}
 use Rattle.std.specs.Prelude.{Option, None, Some, Result, Ok, Err}
@@ -8,19 +8,17 @@ use mathlib.Core.List.{List, [], ◌∷◌, ◌++◌, append-nil, append_assoc}
 use native.Mathlib.Omega.{arith}
 use lib.Dec.{ltb}
 use lib.ListN.{length, set, length-append}
-use borrow.Author.Tests.{lt-ltb, le-ltb}
+use borrow.Author.Tests.{lt-ltb, le-ltb, ltb-true, ltb-false}
 use Rattle.std.specs.Option.{ok_or}
 use Rattle.std.specs.Result.{IsErrAnd}
 use Rattle.std.proofs.lemmas.Result.{err_from_is_err_and}
 use Rattle.rewriting.specs.Lists.{same}
-use Rattle.rewriting.specs.Rules.{Right, Put, Close, symbols_of}
-use Rattle.layout.specs.Image.{kind, length_or_verdict, mark_byte, body}
+use Rattle.rewriting.specs.Rules.{Right, Put, Close, symbols_of, Rule}
+use Rattle.layout.specs.Image.{kind, length_or_verdict, mark_byte, contents, body}
 use Rattle.parser.specs.declared.Place as code
 use Rattle.parser.specs.declared.Place.TheVariants as places
 use Rattle.parser.specs.declared.RightKind.TheVariants as kinds
 use Rattle.layout.specs.declared.Refusal.{Refusal}
-use Rattle.tokens.specs.declared.Numbered as numbered_as
-use Rattle.grammar.specs.Names as Names
 use Rattle.grammar.specs.Names.{number_of, Numbered, or_new, numbered}
 use Rattle.grammar.specs.Grammar.{
   Place,
@@ -55,10 +53,13 @@ use Rattle.grammar.specs.Grammar.{
 use Rattle.parser.specs.Held.{rule_at, place_of, left_of, side_of, kind_of, byte_of}
 use Rattle.parser.specs.Held.{Numbers, Keeps, Held, MayBegin, LeadsTo, Lengthens, MayClose, Closed}
 use Rattle.parser.specs.Reads.{TakenIs}
-use Rattle.tokens.specs.Numbered.{NumberedIs}
-use Rattle.grammar.proofs.Sound.{number-below, KeepsSound}
+use Rattle.tokens.specs.Numbered.{slots_of, NumberedIs}
+use Rattle.grammar.specs.Tokens.{is_name}
+use Rattle.grammar.proofs.Sound.{number-below, KeepsSound, sound_name}
 use Rattle.parser.proofs.Keeping.{
-  sets_four,
+  here_at,
+  left_number,
+  words_number,
   kind-number,
   mark-told,
   keeps_rule,
@@ -82,94 +83,98 @@ pub err_by : {A B : Type 0} (o : Option A) (r : Result B Refusal) (m e : Refusal
 err_by None r m e back value = let b = err_from_is_err_and r back in let p : m ≡ e = cc in b.1 ∙ ap Err (b.2 ∙ p)
 err_by (Some x) r m e back value = let z : ◌≡◌ {A = ℕ} 0 1 = cc in absurd (omega arith)
 
--- the name x has a number, and the code has it, with the slots of the names then
-pub record HasNumber (most : ℕ) (names : List (List ℕ)) (x : List ℕ) (n : numbered_as.Numbered) (area : List ℕ) : Type 0 where
+-- the name x has a number, and the code has it, with how many names there are then and their slots
+pub record HasNumber (most : ℕ) (names : List (List ℕ)) (x : List ℕ) (number count : ℕ) (slots : List (List ℕ)) : Type 0 where
   pub is : Numbered
   pub found : numbered most names x ≡ Some is
-  pub number : n.number ≡ is.number
-  pub count : n.count ≡ length is.names
-  pub slots : area ≡ Names.slots most is.names
+  pub at_number : number ≡ is.number
+  pub at_count : count ≡ length is.names
+  pub at_slots : slots ≡ slots_of most is.names
 
--- A name's number as the code has it. (`few` and `all_named`: what a sound reading keeps.)
-module _ (most : ℕ) (names : List (List ℕ)) (x : List ℕ) (area : List ℕ) where
-  -- no number: a name too many
-  pub too_many : NumberedIs most names (numbered most names x) None area → numbered most names x ≡ None
-  too_many h = go (numbered most names x) refl h
-    where
-      go : (o : Option Numbered) → numbered most names x ≡ o → NumberedIs most names o None area → numbered most names x ≡ None
-      go None e g = e
-      go (Some m) e g = absurd g
+-- A name's number as the code has it.
+module _ (most : ℕ) (names : List (List ℕ)) (x : List ℕ) (count : ℕ) (slots : List (List ℕ)) where
+  -- all names and slots are as they were
+  abbrev pub AsBefore : Type 0
+  AsBefore = (count ≡ length names) × (slots ≡ slots_of most names)
 
-  -- the slots are then as they were
-  pub too_many_slots : NumberedIs most names (numbered most names x) None area → area ≡ Names.slots most names
-  too_many_slots h = go (numbered most names x) h
-    where
-      go : (o : Option Numbered) → NumberedIs most names o None area → area ≡ Names.slots most names
-      go None g = g
-      go (Some m) g = absurd g
+  module _ (h : NumberedIs most names (numbered most names x) None count slots) where
+    -- no number: a name too many
+    pub too_many : numbered most names x ≡ None
+    too_many = go (numbered most names x) refl h
+      where
+        go : (o : Option Numbered) → numbered most names x ≡ o → NumberedIs most names o None count slots
+            → numbered most names x ≡ None
+        go None e g = e
+        go (Some m) e g = absurd g
 
-  -- which is new
-  pub too_many_new : NumberedIs most names (numbered most names x) None area → number_of names x ≡ None
-  unfolding numbered or_new
-  too_many_new h = go (number_of names x) refl h
-    where
-      go : (o : Option ℕ) → number_of names x ≡ o → NumberedIs most names (or_new most names x o) None area
-          → number_of names x ≡ None
-      go None e g = e
-      go (Some i) e g = absurd g
+    pub too_many_kept : AsBefore
+    too_many_kept = go (numbered most names x) h
+      where
+        go : (o : Option Numbered) → NumberedIs most names o None count slots → AsBefore
+        go None g = g
+        go (Some m) g = absurd g
 
-  module _ (n : numbered_as.Numbered) (is : NumberedIs most names (numbered most names x) (Some n) area) where
+    -- which is new
+    pub too_many_new : number_of names x ≡ None
+    unfolding numbered or_new
+    too_many_new = go (number_of names x) refl h
+      where
+        go : (o : Option ℕ) → number_of names x ≡ o → NumberedIs most names (or_new most names x o) None count slots
+            → number_of names x ≡ None
+        go None e g = e
+        go (Some i) e g = absurd g
+
+  module _ (number : ℕ) (is : NumberedIs most names (numbered most names x) (Some number) count slots) where
     -- a number, and the names with it
-    pub has_number : HasNumber most names x n area
+    pub has_number : HasNumber most names x number count slots
     has_number = go (numbered most names x) refl is
       where
-        go : (o : Option Numbered) → numbered most names x ≡ o → NumberedIs most names o (Some n) area
-            → HasNumber most names x n area
+        go : (o : Option Numbered) → numbered most names x ≡ o → NumberedIs most names o (Some number) count slots
+            → HasNumber most names x number count slots
         go None e g = absurd g
-        go (Some m) e g = record { is = m; found = e; number = g.0; count = g.1; slots = g.2 }
+        go (Some m) e g = record { is = m; found = e; at_number = g.0; at_count = g.1; at_slots = g.2 }
 
-    -- a number below that of the names is one of theirs
-    pub old_number : n.number < length names → (i : ℕ) × (number_of names x ≡ Some i)
-    unfolding numbered or_new
-    old_number low = go (number_of names x) refl is
-      where
-        new : (b : Bool)
-            → NumberedIs most names (cond b (Some (record { number = length names; names = names ++ x ∷ [] })) None) (Some n) area
-            → ⊥
-        new true g = omega (arith, g.0, low)
-        new false g = g
+    -- what the number of one name more would be
+    no_less : (b : Bool)
+        → NumberedIs most names
+        (cond b (Some (record { number = length names; names = names ++ x ∷ [] })) None)
+        (Some number)
+        count
+        slots
+        → length names ≤ number
+    no_less true g = omega (arith, g.0)
+    no_less false g = absurd g
 
-        go : (o : Option ℕ) → number_of names x ≡ o → NumberedIs most names (or_new most names x o) (Some n) area
-            → (i : ℕ) × (number_of names x ≡ Some i)
-        go None e g = absurd (new (ltb (length names) most) g)
-        go (Some i) e g = (i, e)
+    module _ (low : number < length names) where
+      -- a number below that of the names is one of theirs
+      pub old_number : (i : ℕ) × (number_of names x ≡ Some i)
+      unfolding numbered or_new
+      old_number = go (number_of names x) refl is
+        where
+          go : (o : Option ℕ) → number_of names x ≡ o → NumberedIs most names (or_new most names x o) (Some number) count slots
+              → (i : ℕ) × (number_of names x ≡ Some i)
+          go None e g = absurd (omega (arith, no_less (ltb (length names) most) g, low))
+          go (Some i) e g = (i, e)
 
-    -- and the slots are as they were
-    pub old_slots : n.number < length names → area ≡ Names.slots most names
-    unfolding numbered or_new
-    old_slots low = go (number_of names x) is
-      where
-        new : (b : Bool)
-            → NumberedIs most names (cond b (Some (record { number = length names; names = names ++ x ∷ [] })) None) (Some n) area
-            → ⊥
-        new true g = omega (arith, g.0, low)
-        new false g = g
-
-        go : (o : Option ℕ) → NumberedIs most names (or_new most names x o) (Some n) area → area ≡ Names.slots most names
-        go None g = absurd (new (ltb (length names) most) g)
-        go (Some i) g = g.2
+      pub old_kept : AsBefore
+      unfolding numbered or_new
+      old_kept = go (number_of names x) is
+        where
+          go : (o : Option ℕ) → NumberedIs most names (or_new most names x o) (Some number) count slots → AsBefore
+          go None g = absurd (omega (arith, no_less (ltb (length names) most) g, low))
+          go (Some i) g = (g.1, g.2)
 
     -- and one that is not is new
-    pub new_number : length names ≤ n.number → number_of names x ≡ None
+    pub new_number : length names ≤ number → number_of names x ≡ None
     unfolding numbered or_new
     new_number high = go (number_of names x) refl is
       where
-        go : (o : Option ℕ) → number_of names x ≡ o → NumberedIs most names (or_new most names x o) (Some n) area
+        go : (o : Option ℕ) → number_of names x ≡ o → NumberedIs most names (or_new most names x o) (Some number) count slots
             → number_of names x ≡ None
         go None e g = e
         go (Some i) e g = absurd (omega (arith, g.0, number-below names x i e, high))
 
-module _ {s : Reading} {r : Numbers} {a b c d : List ℕ} (k : Keeps s r a b c d) where
+module _ {s : Reading} {r : Numbers} {a b c : List (List ℕ)} {d : List ℕ} (k : Keeps s r a b c d) where
   -- The first token.
   pub first_events : (x : List ℕ) → s.place ≡ First → same x events_word ≡ true
       → TakenIs (name s x s.place)
@@ -198,25 +203,25 @@ module _ {s : Reading} {r : Numbers} {a b c d : List ℕ} (k : Keeps s r a b c d
   first_other x here e = rw (here, e) refl
 
   -- The list of events.
-  module _ (x area : List ℕ) (here : s.place ≡ Events) where
-    pub event_33 : NumberedIs 32 s.symbols (numbered 32 s.symbols x) None area
-        → TakenIs (name s x s.place) (Err Refusal.TooMany) r area b c d
+  module _ (x : List ℕ) (count : ℕ) (area : List (List ℕ)) (here : s.place ≡ Events) where
+    pub event_33 : NumberedIs 32 s.symbols (numbered 32 s.symbols x) None count area → (r' : Numbers)
+        → TakenIs (name s x s.place) (Err Refusal.TooMany) r' area b c d
     unfolding name event symbol with_symbol
-    event_33 is = rw (here, too_many_new 32 s.symbols x area is, too_many 32 s.symbols x area is) refl
+    event_33 is r' = rw (here, too_many_new 32 s.symbols x count area is, too_many 32 s.symbols x count area is) refl
 
-    module _ (n : numbered_as.Numbered) (is : NumberedIs 32 s.symbols (numbered 32 s.symbols x) (Some n) area) where
-      pub event_twice : n.number < r.symbols → TakenIs (name s x s.place) (Err Refusal.Repeated) r area b c d
+    module _ (number : ℕ) (is : NumberedIs 32 s.symbols (numbered 32 s.symbols x) (Some number) count area) where
+      pub event_twice : number < r.symbols → (r' : Numbers) → TakenIs (name s x s.place) (Err Refusal.Repeated) r' area b c d
       unfolding name event
-      event_twice low =
-          let old = old_number 32 s.symbols x area n is (omega (arith, symbols_number s k.numbers)) in
+      event_twice low r' =
+          let old = old_number 32 s.symbols x count area number is (omega (arith, symbols_number s k.numbers)) in
           rw (here, old.1) refl
 
-      pub event_new : r.symbols ≤ n.number
+      pub event_new : r.symbols ≤ number
           → TakenIs (name s x s.place)
           (Ok tt)
           (record {
             place = r.place;
-            symbols = n.count;
+            symbols = count;
             words = r.words;
             events = r.events;
             rules = r.rules;
@@ -228,10 +233,10 @@ module _ {s : Reading} {r : Numbers} {a b c d : List ℕ} (k : Keeps s r a b c d
           }) area b c d
       unfolding name event symbol with_symbol
       event_new high =
-          let m = has_number 32 s.symbols x area n is in
+          let m = has_number 32 s.symbols x count area number is in
           let new : number_of s.symbols x ≡ None =
-          new_number 32 s.symbols x area n is (omega (arith, symbols_number s k.numbers)) in
-          rw (here, new, m.found) (keeps_event k m.is n.count area here m.count m.slots)
+          new_number 32 s.symbols x count area number is (omega (arith, symbols_number s k.numbers)) in
+          rw (here, new, m.found) (keeps_event k m.is count area here m.at_count m.at_slots)
 
   -- A symbol of a side.
   module _ (x side : List ℕ) (to : List ℕ → Place) where
@@ -239,22 +244,22 @@ module _ {s : Reading} {r : Numbers} {a b c d : List ℕ} (k : Keeps s r a b c d
     unfolding side_symbol
     ninth size full = rw (le-ltb (length side) 8 (omega (arith, side_number s k.numbers))) refl
 
-    module _ {q : code.Place} (h : Lengthens s.place side to q) (area : List ℕ) (room : r.side < 8) where
+    module _ {q : code.Place} (h : Lengthens s.place side to q) (count : ℕ) (area : List (List ℕ)) (room : r.side < 8) where
       short : ltb (length side) 8 ≡ true
       short = lt-ltb (length side) 8 (omega (arith, side_number s k.numbers, h.size))
 
-      pub symbol_33 : NumberedIs 32 s.symbols (numbered 32 s.symbols x) None area
-          → TakenIs (side_symbol s x side to) (Err Refusal.TooMany) r area b c d
+      pub symbol_33 : NumberedIs 32 s.symbols (numbered 32 s.symbols x) None count area → (r' : Numbers)
+          → TakenIs (side_symbol s x side to) (Err Refusal.TooMany) r' area b c d
       unfolding side_symbol symbol with_symbol
-      symbol_33 is = rw (short, too_many 32 s.symbols x area is) refl
+      symbol_33 is r' = rw (short, too_many 32 s.symbols x count area is) refl
 
-      pub side_longer : (n : numbered_as.Numbered) → NumberedIs 32 s.symbols (numbered 32 s.symbols x) (Some n) area
+      pub side_longer : (number : ℕ) → NumberedIs 32 s.symbols (numbered 32 s.symbols x) (Some number) count area
           → r.bodies < length d
           → TakenIs (side_symbol s x side to)
           (Ok tt)
           (record {
             place = q;
-            symbols = n.count;
+            symbols = count;
             words = r.words;
             events = r.events;
             rules = r.rules;
@@ -263,11 +268,11 @@ module _ {s : Reading} {r : Numbers} {a b c d : List ℕ} (k : Keeps s r a b c d
             side = r.side + 1;
             kind = r.kind;
             marked = r.marked;
-          }) area b c (set d r.bodies n.number)
+          }) area b c (set d r.bodies number)
       unfolding side_symbol symbol with_symbol
-      side_longer n is inside =
-          let m = has_number 32 s.symbols x area n is in
-          rw (short, m.found) (keeps_longer k m.is n.number n.count area h m.number m.count m.slots inside)
+      side_longer number is inside =
+          let m = has_number 32 s.symbols x count area number is in
+          rw (short, m.found) (keeps_longer k m.is number count area h m.at_number m.at_count m.at_slots inside)
 
   -- A rule's first name, with a mark or without.
   module _ (x : List ℕ) (m : Bool) where
@@ -344,32 +349,32 @@ module _ {s : Reading} {r : Numbers} {a b c d : List ℕ} (k : Keeps s r a b c d
           (keeps_placed k (Ending m l (Put []))
           (rw (empty_side none_yet) (record { left = refl; side = refl; kinds = refl; marks = refl; bodies = refl })))
 
-      module _ (none_yet : r.side ≡ 0) (other : same x epsilon_word ≡ false) (area : List ℕ) where
-        pub word_17 : NumberedIs 16 s.words (numbered 16 s.words x) None area
-            → TakenIs (word s x s.place) (Err Refusal.TooMany) r a area c d
+      module _ (none_yet : r.side ≡ 0) (other : same x epsilon_word ≡ false) (count : ℕ) (area : List (List ℕ)) where
+        pub word_17 : NumberedIs 16 s.words (numbered 16 s.words x) None count area → (r' : Numbers)
+            → TakenIs (word s x s.place) (Err Refusal.TooMany) r' a area c d
         unfolding word right_word with_verdict
-        word_17 is = rw (empty_side none_yet, other, too_many 16 s.words x area is) refl
+        word_17 is r' = rw (empty_side none_yet, other, too_many 16 s.words x count area is) refl
 
-        pub word_verdict : (n : numbered_as.Numbered) → NumberedIs 16 s.words (numbered 16 s.words x) (Some n) area
+        pub word_verdict : (number : ℕ) → NumberedIs 16 s.words (numbered 16 s.words x) (Some number) count area
             → TakenIs (word s x s.place)
             (Ok tt)
             (record {
               place = places.Ending;
               symbols = r.symbols;
-              words = n.count;
+              words = count;
               events = r.events;
               rules = r.rules;
               bodies = r.bodies;
               left = r.left;
-              side = n.number;
+              side = number;
               kind = kinds.Close;
               marked = r.marked;
             }) a area c d
         unfolding word right_word with_verdict
-        word_verdict n is =
-            let w = has_number 16 s.words x area n is in
+        word_verdict number is =
+            let w = has_number 16 s.words x count area number is in
             rw (empty_side none_yet, other, w.found)
-            (keeps_verdict k m l w.is n.number n.count area (empty_side none_yet) w.number w.count w.slots)
+            (keeps_verdict k m l w.is number count area (empty_side none_yet) w.at_number w.at_count w.at_slots)
 
   -- `->`
   pub arrow_left : (m : Bool) (l : List ℕ) → s.place ≡ InLeft m l
@@ -556,8 +561,8 @@ pub record InSide (s : Reading) (x : List ℕ) (q : code.Place) : Type 0 where
   pub longer : Lengthens s.place side to q
   pub is : name s x s.place ≡ side_symbol s x side to
 
-pub in_side : {s : Reading} {r : Numbers} {a b c d : List ℕ} (k : Keeps s r a b c d) (x : List ℕ) (q : code.Place)
-    → LeadsTo r.place q → r.rules < 64 → InSide s x q
+pub in_side : {s : Reading} {r : Numbers} {a b c : List (List ℕ)} {d : List ℕ} (k : Keeps s r a b c d) (x : List ℕ)
+    (q : code.Place) → LeadsTo r.place q → r.rules < 64 → InSide s x q
 unfolding place_of
 in_side {s} {r} k x q leads few = go s.place refl (rw (place_number s k.numbers) at leads)
   where
@@ -587,8 +592,8 @@ in_side {s} {r} k x q leads few = go s.place refl (rw (place_number s k.numbers)
     go (Ending m v w) e l = absurd l
 
 -- where there are 64 rules, and the name would be the first of one more
-pub name_65 : {s : Reading} {r : Numbers} {a b c d : List ℕ} (k : Keeps s r a b c d) (x : List ℕ) → MayBegin r.place
-    → 64 ≤ r.rules → TakenIs (name s x s.place) (Err Refusal.TooMany) r a b c d
+pub name_65 : {s : Reading} {r : Numbers} {a b c : List (List ℕ)} {d : List ℕ} (k : Keeps s r a b c d) (x : List ℕ)
+    → MayBegin r.place → 64 ≤ r.rules → TakenIs (name s x s.place) (Err Refusal.TooMany) r a b c d
 unfolding place_of
 name_65 {s} {r} {a} {b} {c} {d} k x begins full = go s.place refl (rw (place_number s k.numbers) at begins)
   where
@@ -602,7 +607,7 @@ name_65 {s} {r} {a} {b} {c} {d} k x begins full = go s.place refl (rw (place_num
     go (Ending m v w) e l = absurd l
 
 -- A `.` behind a rule: both sides are known.
-pub may_close : {s : Reading} {r : Numbers} {a b c d : List ℕ} (k : Keeps s r a b c d) → MayClose r.place r.side
+pub may_close : {s : Reading} {r : Numbers} {a b c : List (List ℕ)} {d : List ℕ} (k : Keeps s r a b c d) → MayClose r.place r.side
     → Closed s.place × (stop s s.place ≡ close_rule s (rule_at s.place))
 unfolding place_of
 may_close {s} {r} k may = go s.place refl (rw (place_number s k.numbers) at may)
@@ -623,10 +628,10 @@ unfolding byte_of kind_of kind
 byte_is (Put v) = refl
 byte_is (Close n) = refl
 
--- A rule is closed: its contents are written one by one.
+-- A rule is closed: its contents are written.
 pub rule_closed :
-    {s : Reading} {r : Numbers} {a b c d : List ℕ} (k : Keeps s r a b c d) (kind_byte mark : ℕ) → MayClose r.place r.side
-    → kind_byte ≡ byte_of r.kind → mark ≡ mark_byte r.marked → 4 * r.rules + 4 ≤ length c
+    {s : Reading} {r : Numbers} {a b c : List (List ℕ)} {d : List ℕ} (k : Keeps s r a b c d) (kind_byte mark : ℕ)
+    → MayClose r.place r.side → kind_byte ≡ byte_of r.kind → mark ≡ mark_byte r.marked → r.rules < length c
     → TakenIs (stop s s.place)
     (Ok tt)
     (record {
@@ -640,56 +645,104 @@ pub rule_closed :
       side = 0;
       kind = kinds.Put;
       marked = false;
-    }) a b
-    (set
-    (set (set (set c (4 * r.rules) r.left) (4 * r.rules + 1) kind_byte) (4 * r.rules + 2) r.side)
-    (4 * r.rules + 3)
-    mark) d
-unfolding close_rule
+    }) a b (set c r.rules (r.left ∷ kind_byte ∷ r.side ∷ mark ∷ [])) d
+unfolding close_rule contents
 rule_closed {s} {r} {c = c} k kind_byte mark may at_kind at_mark room =
     let m = may_close k may in
-    let kinds_byte : kind_byte ≡ kind (rule_at s.place).right =
-    at_kind ∙ ap byte_of (kind-number s k.numbers) ∙ byte_is (rule_at s.place).right
+    let new : Rule = rule_at s.place in
+    let written : r.left ∷ kind_byte ∷ r.side ∷ mark ∷ [] ≡ contents new =
+    let left : r.left ≡ length new.left = left_number s k.numbers ∙ m.0.left in
+    let kinds_byte : kind_byte ≡ kind new.right = at_kind ∙ ap byte_of (kind-number s k.numbers) ∙ byte_is new.right in
+    let right : r.side ≡ length_or_verdict new.right = side_number s k.numbers ∙ m.0.right in
+    let marks_byte : mark ≡ mark_byte new.marked = at_mark ∙ ap mark_byte (mark-told s k.numbers) in
+    cc
     in
-    let marks_byte : mark ≡ mark_byte (rule_at s.place).marked = at_mark ∙ ap mark_byte (mark-told s k.numbers) in
-    rw (m.1, sets_four c (4 * r.rules) r.left kind_byte r.side mark) (keeps_rule k kind_byte mark kinds_byte marks_byte m.0 room)
+    rw m.1 (keeps_rule k (r.left ∷ kind_byte ∷ r.side ∷ mark ∷ []) written room)
 
 -- What a token leaves kept: where it is taken a sound reading, where not the one from before.
-pub still_held : (t : Taken) → KeepsSound t → {r : Numbers} {a b c d : List ℕ} → TakenIs t (Ok tt) r a b c d → Held r a b c d
+pub still_held : (t : Taken) → KeepsSound t → {r : Numbers} {a b c : List (List ℕ)} {d : List ℕ} → TakenIs t (Ok tt) r a b c d
+    → Held r a b c d
 still_held (Ok s) sound k = record { reading = s; sound = sound s refl; keeps = k }
 still_held (Err i) sound k = absurd k
 
-module _ {r : Numbers} {a b c d : List ℕ} (h : Held r a b c d) where
-  pub held_symbols : (area : List ℕ) → area ≡ Names.slots 32 h.reading.symbols → Held r area b c d
-  held_symbols area e =
-      record {
-        reading = h.reading;
-        sound = h.sound;
-        keeps =
-            record {
-              numbers = h.keeps.numbers;
-              symbol-slots = e;
-              word-slots = h.keeps.word-slots;
-              contents_begin = h.keeps.contents_begin;
-              contents_size_lem = h.keeps.contents_size_lem;
-              bodies_begin = h.keeps.bodies_begin;
-              bodies_size_lem = h.keeps.bodies_size_lem;
-            };
-      }
+module _ {r : Numbers} {a b c : List (List ℕ)} {d : List ℕ} (h : Held r a b c d) (count : ℕ) (slots : List (List ℕ)) where
+  pub held_symbols : AsBefore 32 h.reading.symbols [] count slots
+      → Held
+      (record {
+        place = r.place;
+        symbols = count;
+        words = r.words;
+        events = r.events;
+        rules = r.rules;
+        bodies = r.bodies;
+        left = r.left;
+        side = r.side;
+        kind = r.kind;
+        marked = r.marked;
+      }) slots b c d
+  held_symbols e =
+      let same_count : count ≡ r.symbols = e.0 ∙ sym (symbols_number h.reading h.keeps.numbers) in
+      let same_slots : slots ≡ a = e.1 ∙ sym h.keeps.symbol-slots in
+      rw (same_count, same_slots) h
 
-  pub held_words : (area : List ℕ) → area ≡ Names.slots 16 h.reading.words → Held r a area c d
-  held_words area e =
-      record {
-        reading = h.reading;
-        sound = h.sound;
-        keeps =
-            record {
-              numbers = h.keeps.numbers;
-              symbol-slots = h.keeps.symbol-slots;
-              word-slots = e;
-              contents_begin = h.keeps.contents_begin;
-              contents_size_lem = h.keeps.contents_size_lem;
-              bodies_begin = h.keeps.bodies_begin;
-              bodies_size_lem = h.keeps.bodies_size_lem;
-            };
-      }
+  pub held_words : AsBefore 16 h.reading.words [] count slots
+      → Held
+      (record {
+        place = r.place;
+        symbols = r.symbols;
+        words = count;
+        events = r.events;
+        rules = r.rules;
+        bodies = r.bodies;
+        left = r.left;
+        side = r.side;
+        kind = r.kind;
+        marked = r.marked;
+      }) a slots c d
+  held_words e =
+      let same_count : count ≡ r.words = e.0 ∙ sym (words_number h.reading h.keeps.numbers) in
+      let same_slots : slots ≡ b = e.1 ∙ sym h.keeps.word-slots in
+      rw (same_count, same_slots) h
+
+-- behind a name in the list of events, whatever its number
+pub event_held : {r : Numbers} {a b c : List (List ℕ)} {d : List ℕ} (h : Held r a b c d) (x : List ℕ) → is_name x ≡ true
+    → r.place ≡ places.Events → (o : Option ℕ) (count : ℕ) (slots : List (List ℕ))
+    → NumberedIs 32 h.reading.symbols (numbered 32 h.reading.symbols x) o count slots
+    → Held
+    (record {
+      place = r.place;
+      symbols = count;
+      words = r.words;
+      events = r.events;
+      rules = r.rules;
+      bodies = r.bodies;
+      left = r.left;
+      side = r.side;
+      kind = r.kind;
+      marked = r.marked;
+    }) slots b c d
+event_held h x named here None count slots is = held_symbols h count slots (too_many_kept 32 h.reading.symbols x count slots is)
+event_held {r} {a} {b} {c} {d} h x named here (Some i) count slots is = go (ltb i (length h.reading.symbols)) refl
+  where
+    s : Reading
+    s = h.reading
+
+    go : (low : Bool) → ltb i (length s.symbols) ≡ low
+        → Held
+        (record {
+          place = r.place;
+          symbols = count;
+          words = r.words;
+          events = r.events;
+          rules = r.rules;
+          bodies = r.bodies;
+          left = r.left;
+          side = r.side;
+          kind = r.kind;
+          marked = r.marked;
+        }) slots b c d
+    go true e = held_symbols h count slots (old_kept 32 s.symbols x count slots i is (ltb-true i (length s.symbols) e))
+    go false e =
+        still_held _ (sound_name s x s.place h.sound h.sound.here named)
+        (event_new h.keeps x count slots (here_at h.keeps places.Events here) i is
+        (omega (arith, ltb-false i (length s.symbols) e, symbols_number s h.keeps.numbers)))

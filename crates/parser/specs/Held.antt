@@ -1,5 +1,5 @@
 -- How the code keeps a reading: numbers, two areas of name slots, the contents and the bodies of the rules.
-use Rattle.std.specs.Prelude.{ℕ, ◌+◌, ◌≡◌, Bool, true, length}
+use Rattle.std.specs.Prelude.{ℕ, ◌+◌, ◌≡◌, Bool, true, length, map, take}
 use mathlib.Core.List.{List, [], ◌∷◌, ◌++◌, flat_map}
 use Rattle.rewriting.specs.Lists.{prefix}
 use Rattle.rewriting.specs.Rules.{Right, Put, Close, Rule, ◌⇒◌, at_start}
@@ -9,13 +9,13 @@ use Rattle.parser.specs.declared.Place as code
 use Rattle.parser.specs.declared.Place.TheVariants as places
 use Rattle.parser.specs.declared.RightKind.{RightKind}
 use Rattle.parser.specs.declared.RightKind.TheVariants as kinds
-use Rattle.grammar.specs.Names.{slots}
+use Rattle.tokens.specs.Numbered.{slots_of}
 use Rattle.grammar.specs.Grammar.{Place, First, Events, Between, Marked, InLeft, InRight, Ending, Reading, rule_with}
 use Rattle.grammar.specs.Sound.{Sound}
 
--- the bytes that contents and bodies of 64 rules need: four for each, and sixteen symbols for each
-abbrev pub contents_size : ℕ
-contents_size = 256
+-- the most rules, and the bytes that their bodies need: sixteen symbols for each
+abbrev pub rules_most : ℕ
+rules_most = 64
 
 abbrev pub bodies_size : ℕ
 bodies_size = 1024
@@ -105,17 +105,17 @@ numbers_of s =
     }
 
 -- The code keeps the reading s: its numbers, the slots of symbols and of words, contents and bodies.
-pub record Keeps (s : Reading) (r : Numbers) (symbols words contents bodies : List ℕ) : Type 0 where
+pub record Keeps (s : Reading) (r : Numbers) (symbols words contents : List (List ℕ)) (bodies : List ℕ) : Type 0 where
   pub numbers : r ≡ numbers_of s
-  pub symbol-slots : symbols ≡ slots 32 s.symbols
-  pub word-slots : words ≡ slots 16 s.words
-  pub contents_begin : prefix (flat_map Image.contents s.rules) contents ≡ true
-  pub contents_size_lem : length contents ≡ contents_size
+  pub symbol-slots : symbols ≡ slots_of 32 s.symbols
+  pub word-slots : words ≡ slots_of 16 s.words
+  pub contents_begin : take (length s.rules) contents ≡ map Image.contents s.rules
+  pub contents_size_lem : length contents ≡ rules_most
   pub bodies_begin : prefix (bodies_of s) bodies ≡ true
   pub bodies_size_lem : length bodies ≡ bodies_size
 
 -- some sound reading is kept so
-pub record Held (r : Numbers) (symbols words contents bodies : List ℕ) : Type 0 where
+pub record Held (r : Numbers) (symbols words contents : List (List ℕ)) (bodies : List ℕ) : Type 0 where
   pub reading : Reading
   pub sound : Sound reading
   pub keeps : Keeps reading r symbols words contents bodies

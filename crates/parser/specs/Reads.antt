@@ -14,8 +14,8 @@ abbrev pub numbers_in : Reader → Numbers
 numbers_in r =
     record {
       place = r.place;
-      symbols = r.symbols;
-      words = r.words;
+      symbols = r.symbols.count;
+      words = r.words.count;
       events = r.events;
       rules = r.rules;
       bodies = r.bodies;
@@ -27,10 +27,10 @@ numbers_in r =
 
 -- the reader keeps the reading s
 abbrev pub KeptIn : Reading → Reader → Type 0
-KeptIn s r = Keeps s (numbers_in r) r.symbol_slots r.word_slots r.contents r.body_bytes
+KeptIn s r = Keeps s (numbers_in r) r.symbols.slots r.words.slots r.contents r.body_bytes
 
 -- the code's answer to a token is the definition's, with these numbers and areas then
-abbrev pub TakenIs : Taken → Result (Unit {0}) Refusal → Numbers → List ℕ → List ℕ → List ℕ → List ℕ → Type 0
+abbrev pub TakenIs : Taken → Result (Unit {0}) Refusal → Numbers → List (List ℕ) → List (List ℕ) → List (List ℕ) → List ℕ → Type 0
 TakenIs (Ok s) (Ok r) n symbols words contents bodies = Keeps s n symbols words contents bodies
 TakenIs (Ok s) (Err m) n symbols words contents bodies = ⊥
 TakenIs (Err i) (Ok r) n symbols words contents bodies = ⊥
@@ -40,10 +40,11 @@ TakenIs (Err i) (Err m) n symbols words contents bodies = number m ≡ i
 abbrev pub Takes : (Reading → Taken) → Reader → Result (Unit {0}) Refusal → Reader → Type 0
 Takes f r answer r' =
     (s : Reading) → Sound s → KeptIn s r
-    → TakenIs (f s) answer (numbers_in r') r'.symbol_slots r'.word_slots r'.contents r'.body_bytes
+    → TakenIs (f s) answer (numbers_in r') r'.symbols.slots r'.words.slots r'.contents r'.body_bytes
 
 -- how the reading of a text ended, with these numbers and areas then
-abbrev pub FinishedIs : ReadText → Result (Unit {0}) TextError → Numbers → List ℕ → List ℕ → List ℕ → List ℕ → Type 0
+abbrev pub FinishedIs :
+    ReadText → Result (Unit {0}) TextError → Numbers → List (List ℕ) → List (List ℕ) → List (List ℕ) → List ℕ → Type 0
 FinishedIs (Ok s) (Ok r) n symbols words contents bodies =
     Sound s × (s.place ≡ Between) × Keeps s n symbols words contents bodies
 FinishedIs (Ok s) (Err e) n symbols words contents bodies = ⊥
@@ -54,7 +55,7 @@ FinishedIs (Err (i, p)) (Err e) n symbols words contents bodies = (number e.refu
 abbrev pub Finishes : (Reading → ReadText) → Reader → Result (Unit {0}) TextError → Reader → Type 0
 Finishes f r answer r' =
     (s : Reading) → Sound s → KeptIn s r
-    → FinishedIs (f s) answer (numbers_in r') r'.symbol_slots r'.word_slots r'.contents r'.body_bytes
+    → FinishedIs (f s) answer (numbers_in r') r'.symbols.slots r'.words.slots r'.contents r'.body_bytes
 
 -- the numbers of an image are bytes, and what it is made of is inside its areas
 pub record Small (r : Numbers) : Type 0 where

@@ -9,7 +9,7 @@ ghost use Rattle.parser.specs.Reads.{Takes};
 
 use crate::{Place, Reader, RightKind};
 use layout::Refusal;
-use tokens::{Kind, names};
+use tokens::Kind;
 
 impl RightKind {
     // Its byte in the contents of a rule.
@@ -42,11 +42,11 @@ impl Reader {
         requires named { is_name x.now ≡ true }
         ensures { Takes (λ s. name s x.now s.place) self.old result self.new }
     {
-        let n = names::number_of(&mut self.symbol_slots, self.symbols, x).ok_or(Refusal::TooMany)?;
-        if n.number < self.symbols {
+        let before = self.symbols.count;
+        let number = self.symbols.number_of(x).ok_or(Refusal::TooMany)?;
+        if number < before {
             return Err(Refusal::Repeated);
         }
-        self.symbols = n.count;
         Ok(())
     }
 
@@ -60,10 +60,9 @@ impl Reader {
         if 8 <= self.side {
             return Err(Refusal::TooMany);
         }
-        let n = names::number_of(&mut self.symbol_slots, self.symbols, x).ok_or(Refusal::TooMany)?;
-        self.body_bytes[self.bodies] = n.number as u8;
+        let number = self.symbols.number_of(x).ok_or(Refusal::TooMany)?;
+        self.body_bytes[self.bodies] = number as u8;
         self.place = to;
-        self.symbols = n.count;
         self.bodies += 1;
         self.side += 1;
         Ok(())
@@ -109,10 +108,9 @@ impl Reader {
             self.place = Place::Ending;
             return Ok(());
         }
-        let n = names::number_of(&mut self.word_slots, self.words, x).ok_or(Refusal::TooMany)?;
+        let number = self.words.number_of(x).ok_or(Refusal::TooMany)?;
         self.place = Place::Ending;
-        self.words = n.count;
-        self.side = n.number as u8;
+        self.side = number as u8;
         self.kind = RightKind::Close;
         Ok(())
     }
@@ -162,11 +160,11 @@ impl Reader {
         requires { self.old.place ≡ Place.Events }
         ensures { Takes (λ s. stop s s.place) self.old result self.new }
     {
-        if self.symbols == 0 {
+        if self.symbols.count == 0 {
             return Err(Refusal::Misplaced);
         }
         self.place = Place::Between;
-        self.events = self.symbols;
+        self.events = self.symbols.count;
         Ok(())
     }
 
@@ -175,11 +173,12 @@ impl Reader {
         requires { MayClose self.old.place self.old.side }
         ensures { Takes (λ s. stop s s.place) self.old result self.new }
     {
-        let at = 4 * self.rules;
-        self.contents[at] = self.left;
-        self.contents[at + 1] = self.kind.byte();
-        self.contents[at + 2] = self.side;
-        self.contents[at + 3] = u8::from(self.marked);
+        self.contents[self.rules] = [
+            self.left,
+            self.kind.byte(),
+            self.side,
+            u8::from(self.marked),
+        ];
         self.place = Place::Between;
         self.rules += 1;
         self.left = 0;

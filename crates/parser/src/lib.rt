@@ -1,20 +1,22 @@
 // The tokens of a rule text, and what each makes of what has been read.
 #![tactic(auto)]
 
-ghost use Rattle.std.specs.Prelude.{◌≡◌, replicate};
-ghost use Rattle.grammar.specs.Names.{words_size, slots};
-ghost use Rattle.grammar.specs.Grammar.{begun};
 ghost use Rattle.parser.specs.Held.{Held};
 
-use grammar::{SLOT_BYTES, SYMBOLS_BYTES, TextError, WORDS_BYTES};
+use grammar::{SLOT_BYTES, TextError};
 use layout::Refusal;
 use tokens::bytes::Class;
+use tokens::names::Names;
 use tokens::{bytes, names};
 
 mod after_token;
 
-// What the code keeps the contents and the bodies of 64 rules in.
-pub const CONTENTS_BYTES: usize = 256;
+// The most symbols, words and rules, and the most bytes of the bodies of so many rules.
+pub const SYMBOLS: usize = 32;
+
+pub const WORDS: usize = 16;
+
+pub const RULES: usize = 64;
 
 pub const BODIES_BYTES: usize = 1024;
 
@@ -42,11 +44,14 @@ pub enum RightKind {
 #[derive(Drop)]
 pub struct Reader {
     pub place: Place,
-    // How many there are of each, and how many bytes the bodies of the rules have.
-    pub symbols: usize,
-    pub words: usize,
+    pub symbols: Names<SYMBOLS>,
+    pub words: Names<WORDS>,
     pub events: usize,
+    // How many rules there are, and the contents of each.
     pub rules: usize,
+    pub contents: [[u8; 4]; RULES],
+    // The bodies of the rules one behind another, and how many bytes they have.
+    pub body_bytes: [u8; BODIES_BYTES],
     pub bodies: usize,
     // Of the rule begun: the length of its left side, that of the side that is open or the verdict, what its right side is, and
     // whether it has the mark.
@@ -54,16 +59,11 @@ pub struct Reader {
     pub side: u8,
     pub kind: RightKind,
     pub marked: bool,
-    // The slots of symbols and of words, the contents and the bodies of the rules.
-    pub symbol_slots: [u8; SYMBOLS_BYTES],
-    pub word_slots: [u8; WORDS_BYTES],
-    pub contents: [u8; CONTENTS_BYTES],
-    pub body_bytes: [u8; BODIES_BYTES],
     ghost held: { ∥ Held
         (record {
           place = place;
-          symbols = symbols;
-          words = words;
+          symbols = symbols.count;
+          words = words.count;
           events = events;
           rules = rules;
           bodies = bodies;
@@ -71,21 +71,13 @@ pub struct Reader {
           side = side;
           kind = kind;
           marked = marked;
-        }) symbol_slots word_slots contents body_bytes ∥₁ },
-}
-
-// The slots of the first words, `fail` and `succeed`.
-fn write_first(word_slots: &mut [u8])
-    requires { word_slots.old ≡ replicate words_size 0 }
-    ensures { word_slots.new ≡ slots 16 begun.words }
-{
-    word_slots[..SLOT_BYTES].copy_from_slice(&names::slot_of(b"fail"));
-    word_slots[SLOT_BYTES..2 * SLOT_BYTES].copy_from_slice(&names::slot_of(b"succeed"));
+        }) symbols.slots words.slots contents body_bytes ∥₁ },
 }
 
 impl Reader {
     ghost use Rattle.std.specs.Prelude.{length};
     ghost use Rattle.grammar.specs.Tokens.{runs};
+    ghost use Rattle.grammar.specs.Grammar.{begun};
     ghost use Rattle.grammar.specs.Read.{ended, read_runs};
     ghost use Rattle.parser.specs.Reads.{KeptIn, Finishes};
 
@@ -93,23 +85,28 @@ impl Reader {
     pub fn new() -> Reader
         ensures { KeptIn begun result }
     {
-        let mut word_slots = [0; WORDS_BYTES];
-        write_first(&mut word_slots);
+        let mut words = [[0; SLOT_BYTES]; WORDS];
+        words[0] = names::slot_of(b"fail");
+        words[1] = names::slot_of(b"succeed");
         Reader {
             place: Place::First,
-            symbols: 0,
-            words: 2,
+            symbols: Names {
+                slots: [[0; SLOT_BYTES]; SYMBOLS],
+                count: 0,
+            },
+            words: Names {
+                slots: words,
+                count: 2,
+            },
             events: 0,
             rules: 0,
+            contents: [[0; 4]; RULES],
+            body_bytes: [0; BODIES_BYTES],
             bodies: 0,
             left: 0,
             side: 0,
             kind: RightKind::Put,
             marked: false,
-            symbol_slots: [0; SYMBOLS_BYTES],
-            word_slots,
-            contents: [0; CONTENTS_BYTES],
-            body_bytes: [0; BODIES_BYTES],
         }
     }
 

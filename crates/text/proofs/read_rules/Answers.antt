@@ -1,4 +1,5 @@
 -- `text::read_rules` meets its contract.
+use mathlib.Core.List.{flat_map}
 use Rattle.std.proofs.lemmas.Result.{err_from_is_err_and}
 use Rattle.grammar.specs.Grammar.{begun}
 use Rattle.grammar.specs.Read.{read_text}
@@ -67,7 +68,7 @@ returns-in_err-read_tokens c =
     }
 
 pub returns : goal.returns
-unfolding read_text
+unfolding read_text flat_map
 returns c =
     let a = c.args in
     let short = c.if-text-gt-TEXT_BYTES.false in

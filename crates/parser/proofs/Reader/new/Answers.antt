@@ -3,15 +3,16 @@ use mathlib.Core.Path.{refl}
 use mathlib.Core.List.{flat_map}
 use Rattle.rewriting.specs.Rules.{symbols_of}
 use Rattle.layout.specs.Image.{body}
-use Rattle.grammar.specs.Names.{slots}
+use Rattle.grammar.specs.Names.{slot}
+use Rattle.tokens.specs.Numbered.{slots_of}
 use Rattle.grammar.specs.Grammar.{begun}
 use Rattle.grammar.proofs.Sound.{sound_begun}
 use Rattle.parser.specs.Held.{place_of, rule_at, left_of, side_of, kind_of, numbers_of}
 use Rattle.parser.proofs.Reader.new.Goals as goal
 
-pub invariant_of-result : goal.invariant_of-result
-unfolding begun numbers_of place_of rule_at left_of side_of kind_of body symbols_of flat_map slots
-invariant_of-result c =
+pub invariant_of-result-3 : goal.invariant_of-result-3
+unfolding begun numbers_of place_of rule_at left_of side_of kind_of body symbols_of flat_map slot slots_of
+invariant_of-result-3 c =
     record {
       held = ∣ record {
         reading = begun;
@@ -20,7 +21,7 @@ invariant_of-result c =
             record {
               numbers = refl;
               symbol-slots = refl;
-              word-slots = c.write_first.ensures;
+              word-slots = rw (c.slot_of.ensures, c.slot_of-2.ensures) refl;
               contents_begin = refl;
               contents_size_lem = refl;
               bodies_begin = refl;
@@ -30,12 +31,12 @@ invariant_of-result c =
     }
 
 pub returns : goal.returns
-unfolding begun numbers_of place_of rule_at left_of side_of kind_of body symbols_of flat_map slots
+unfolding begun numbers_of place_of rule_at left_of side_of kind_of body symbols_of flat_map slot slots_of
 returns c =
     record {
       numbers = refl;
       symbol-slots = refl;
-      word-slots = c.write_first.ensures;
+      word-slots = rw (c.slot_of.ensures, c.slot_of-2.ensures) refl;
       contents_begin = refl;
       contents_size_lem = refl;
       bodies_begin = refl;

@@ -21,7 +21,7 @@ invariant-tokens l =
       inside : l.at ≤ length l.text;
       going : (s : Reading) → Sound s → KeptIn s l.fn.self
           → Going (read_runs (length l.text) s (runs l.text)) l.text (numbers_in l.self)
-          l.self.symbol_slots l.self.word_slots l.self.contents l.self.body_bytes l.at;
+          l.self.symbols.slots l.self.words.slots l.self.contents l.self.body_bytes l.at;
     }
 
 abbrev pub decreases-tokens : goal.decreases-tokens

@@ -1,15 +1,13 @@
 -- `parser::Reader::right_word` meets its contract.
 use mathlib.Core.Path.{sym, ◌∙◌}
 use native.Mathlib.Omega.{arith}
-use Rattle.std.proofs.Math.Logic.{∥∥₁_elim, ∥∥₁_map}
-use Rattle.std.proofs.Math.Bridge.{le_prop}
+use Rattle.std.proofs.Math.Logic.{∥∥₁_map}
 use Rattle.grammar.proofs.Slots.{name_short}
 use Rattle.grammar.proofs.Sound.{sound_word}
-use Rattle.parser.proofs.Room.{few_words}
 use Rattle.parser.proofs.Keeping.{words_number, here_at}
 use Rattle.parser.proofs.Taking.{
   err_by,
-  too_many_slots,
+  too_many_kept,
   word_behind,
   word_epsilon,
   word_17,
@@ -39,38 +37,29 @@ returns-then-eq c = λ s sound k.
     let w = here_at k _ c.requires.place in
     word_epsilon k w.0 w.1 w.2 w.3 c.args.x.now c.if-self-ne0.false (rw c.as_slice.ensures at (sym c.eq.ensures ∙ c.if-eq.true))
 
-pub number_of-requires-clause-slots : goal.number_of-requires-clause-slots
-number_of-requires-clause-slots c =
-    let few = ∥∥₁_elim c.args.self.now.held le_prop few_words in omega (arith, few)
-
-pub number_of-requires-clause-short : goal.number_of-requires-clause-short
-number_of-requires-clause-short c = name_short _ c.requires.named
+pub number_of-requires : goal.number_of-requires
+number_of-requires c = (omega arith, name_short _ c.requires.named)
 
 pub invariant_of-self-in-Break-1 : goal.invariant_of-self-in-Break-1
 invariant_of-self-in-Break-1 c =
     record {
       held = ∥∥₁_map c.args.self.now.held (λ h.
           let s = h.reading in
-          held_words h _
-          (too_many_slots 16 s.words c.args.x.now _
-          (rw c.in_err-n.ensures.ok_part at (c.number_of.ensures.numbered 16 s.words h.keeps.word-slots
-          (words_number s h.keeps.numbers) h.sound.few_words h.sound.words_named c.requires.named))));
+          held_words h _ _
+          (too_many_kept 16 s.words c.args.x.now _ _
+          (rw c.in_err-number.ensures.ok_part at (c.number_of.ensures.numbered s.words h.keeps.word-slots
+          (words_number s h.keeps.numbers)
+          h.sound.few_words h.sound.words_named c.requires.named))));
     }
 
-pub returns-in_err-n : goal.returns-in_err-n
-returns-in_err-n c = λ s sound k.
+pub returns-in_err-number : goal.returns-in_err-number
+returns-in_err-number c = λ s sound k.
     let w = here_at k _ c.requires.place in
-    rw (err_by _ _ _ _ c.from_residual.ensures.1 c.in_err-n.ensures.value)
+    rw (err_by _ _ _ _ c.from_residual.ensures.1 c.in_err-number.ensures.value)
     (word_17 k w.0 w.1 w.2 w.3 c.args.x.now c.if-self-ne0.false
-    (rw c.as_slice.ensures at (sym c.eq.ensures ∙ c.if-eq.false)) _
-    (rw c.in_err-n.ensures.ok_part at (c.number_of.ensures.numbered 16 s.words k.word-slots (words_number s k.numbers)
-    sound.few_words sound.words_named c.requires.named)))
-
-pub overflow_cast-self : goal.overflow_cast-self
-overflow_cast-self c =
-    let few = ∥∥₁_elim c.args.self.now.held le_prop few_words in
-    let near = rw c.in_ok-n.ensures.ok_part at c.number_of.ensures.near in
-    omega (arith, near, few)
+    (rw c.as_slice.ensures at (sym c.eq.ensures ∙ c.if-eq.false)) _ _
+    (rw c.in_err-number.ensures.ok_part at (c.number_of.ensures.numbered s.words k.word-slots (words_number s k.numbers)
+    sound.few_words sound.words_named c.requires.named)) _)
 
 pub invariant_of-self-2 : goal.invariant_of-self-2
 invariant_of-self-2 c =
@@ -80,15 +69,16 @@ invariant_of-self-2 c =
           let w = here_at h.keeps _ c.requires.place in
           still_held _ (sound_word s c.args.x.now s.place h.sound h.sound.here c.requires.named)
           (word_verdict h.keeps w.0 w.1 w.2 w.3 c.args.x.now c.if-self-ne0.false
-          (rw c.as_slice.ensures at (sym c.eq.ensures ∙ c.if-eq.false)) _ c.in_ok-n.n
-          (rw c.in_ok-n.ensures.ok_part at (c.number_of.ensures.numbered 16 s.words h.keeps.word-slots
-          (words_number s h.keeps.numbers) h.sound.few_words h.sound.words_named c.requires.named))));
+          (rw c.as_slice.ensures at (sym c.eq.ensures ∙ c.if-eq.false)) _ _ c.in_ok-number.number
+          (rw c.in_ok-number.ensures.ok_part at (c.number_of.ensures.numbered s.words h.keeps.word-slots
+          (words_number s h.keeps.numbers)
+          h.sound.few_words h.sound.words_named c.requires.named))));
     }
 
 pub returns : goal.returns
 returns c = λ s sound k.
     let w = here_at k _ c.requires.place in
     word_verdict k w.0 w.1 w.2 w.3 c.args.x.now c.if-self-ne0.false
-    (rw c.as_slice.ensures at (sym c.eq.ensures ∙ c.if-eq.false)) _ c.in_ok-n.n
-    (rw c.in_ok-n.ensures.ok_part at (c.number_of.ensures.numbered 16 s.words k.word-slots (words_number s k.numbers)
+    (rw c.as_slice.ensures at (sym c.eq.ensures ∙ c.if-eq.false)) _ _ c.in_ok-number.number
+    (rw c.in_ok-number.ensures.ok_part at (c.number_of.ensures.numbered s.words k.word-slots (words_number s k.numbers)
     sound.few_words sound.words_named c.requires.named))

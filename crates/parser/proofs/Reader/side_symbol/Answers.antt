@@ -5,9 +5,9 @@ use Rattle.std.proofs.Math.Bridge.{le_prop}
 use Rattle.grammar.proofs.Slots.{name_short}
 use Rattle.grammar.proofs.Sound.{sound_name}
 use Rattle.parser.specs.Held.{Held}
-use Rattle.parser.proofs.Room.{few_symbols, side_room}
+use Rattle.parser.proofs.Room.{side_room}
 use Rattle.parser.proofs.Keeping.{symbols_number}
-use Rattle.parser.proofs.Taking.{err_by, too_many_slots, ninth, symbol_33, side_longer, in_side, still_held, held_symbols}
+use Rattle.parser.proofs.Taking.{err_by, too_many_kept, ninth, symbol_33, side_longer, in_side, still_held, held_symbols}
 use Rattle.parser.proofs.Reader.side_symbol.Goals as goal
 
 pub returns-then-self-ge8 : goal.returns-then-self-ge8
@@ -15,37 +15,28 @@ returns-then-self-ge8 c = λ s sound k.
     let i = in_side k c.args.x.now _ c.requires.place c.requires.few in
     rw i.is (ninth k c.args.x.now i.side i.to i.longer.size c.if-self-ge8.true)
 
-pub number_of-requires-clause-slots : goal.number_of-requires-clause-slots
-number_of-requires-clause-slots c =
-    let few = ∥∥₁_elim c.args.self.now.held le_prop few_symbols in omega (arith, few)
-
-pub number_of-requires-clause-short : goal.number_of-requires-clause-short
-number_of-requires-clause-short c = name_short _ c.requires.named
+pub number_of-requires : goal.number_of-requires
+number_of-requires c = (omega arith, name_short _ c.requires.named)
 
 pub invariant_of-self : goal.invariant_of-self
 invariant_of-self c =
     record {
       held = ∥∥₁_map c.args.self.now.held (λ h.
           let s = h.reading in
-          held_symbols h _
-          (too_many_slots 32 s.symbols c.args.x.now _
-          (rw c.in_err-n.ensures.ok_part at (c.number_of.ensures.numbered 32 s.symbols h.keeps.symbol-slots
-          (symbols_number s h.keeps.numbers) h.sound.few_symbols h.sound.symbols_named c.requires.named))));
+          held_symbols h _ _
+          (too_many_kept 32 s.symbols c.args.x.now _ _
+          (rw c.in_err-number.ensures.ok_part at (c.number_of.ensures.numbered s.symbols h.keeps.symbol-slots
+          (symbols_number s h.keeps.numbers)
+          h.sound.few_symbols h.sound.symbols_named c.requires.named))));
     }
 
-pub returns-in_err-n : goal.returns-in_err-n
-returns-in_err-n c = λ s sound k.
+pub returns-in_err-number : goal.returns-in_err-number
+returns-in_err-number c = λ s sound k.
     let i = in_side k c.args.x.now _ c.requires.place c.requires.few in
-    rw (err_by _ _ _ _ c.from_residual.ensures.1 c.in_err-n.ensures.value, i.is)
-    (symbol_33 k c.args.x.now i.side i.to i.longer _ c.if-self-ge8.false
-    (rw c.in_err-n.ensures.ok_part at (c.number_of.ensures.numbered 32 s.symbols k.symbol-slots (symbols_number s k.numbers)
-    sound.few_symbols sound.symbols_named c.requires.named)))
-
-pub overflow_cast-self : goal.overflow_cast-self
-overflow_cast-self c =
-    let few = ∥∥₁_elim c.args.self.now.held le_prop few_symbols in
-    let near = rw c.in_ok-n.ensures.ok_part at c.number_of.ensures.near in
-    omega (arith, near, few)
+    rw (err_by _ _ _ _ c.from_residual.ensures.1 c.in_err-number.ensures.value, i.is)
+    (symbol_33 k c.args.x.now i.side i.to i.longer _ _ c.if-self-ge8.false
+    (rw c.in_err-number.ensures.ok_part at (c.number_of.ensures.numbered s.symbols k.symbol-slots (symbols_number s k.numbers)
+    sound.few_symbols sound.symbols_named c.requires.named)) _)
 
 pub bounds-self-self : goal.bounds-self-self
 bounds-self-self c =
@@ -64,9 +55,10 @@ invariant_of-self-2 c =
           let i = in_side h.keeps c.args.x.now _ c.requires.place c.requires.few in
           still_held _ (sound_name s c.args.x.now s.place h.sound h.sound.here c.requires.named)
           (rw i.is
-          (side_longer h.keeps c.args.x.now i.side i.to i.longer _ c.if-self-ge8.false c.in_ok-n.n
-          (rw c.in_ok-n.ensures.ok_part at (c.number_of.ensures.numbered 32 s.symbols h.keeps.symbol-slots
-          (symbols_number s h.keeps.numbers) h.sound.few_symbols h.sound.symbols_named c.requires.named))
+          (side_longer h.keeps c.args.x.now i.side i.to i.longer _ _ c.if-self-ge8.false c.in_ok-number.number
+          (rw c.in_ok-number.ensures.ok_part at (c.number_of.ensures.numbered s.symbols h.keeps.symbol-slots
+          (symbols_number s h.keeps.numbers)
+          h.sound.few_symbols h.sound.symbols_named c.requires.named))
           (rw h.keeps.bodies_size_lem (side_room h _ c.requires.place c.requires.few c.if-self-ge8.false)))));
     }
 
@@ -75,7 +67,7 @@ returns c = λ s sound k.
     let i = in_side k c.args.x.now _ c.requires.place c.requires.few in
     let h : Held _ _ _ _ _ = record { reading = s; sound = sound; keeps = k } in
     rw i.is
-    (side_longer k c.args.x.now i.side i.to i.longer _ c.if-self-ge8.false c.in_ok-n.n
-    (rw c.in_ok-n.ensures.ok_part at (c.number_of.ensures.numbered 32 s.symbols k.symbol-slots (symbols_number s k.numbers)
+    (side_longer k c.args.x.now i.side i.to i.longer _ _ c.if-self-ge8.false c.in_ok-number.number
+    (rw c.in_ok-number.ensures.ok_part at (c.number_of.ensures.numbered s.symbols k.symbol-slots (symbols_number s k.numbers)
     sound.few_symbols sound.symbols_named c.requires.named))
     (rw k.bodies_size_lem (side_room h _ c.requires.place c.requires.few c.if-self-ge8.false)))
