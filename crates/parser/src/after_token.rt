@@ -1,4 +1,6 @@
-// What a token makes of what has been read. The module is private: what its functions ask, `token` has looked up.
+// What a token makes of what has been read. The module is private: what its functions ask, their callers have looked up.
+// Kinds and places are told by a `match` on an enum and not by a closure or a trait object for each: it is the plainest, since an
+// arm knows the place and so may call what asks for it.
 ghost use Rattle.std.specs.Prelude.{◌<◌, ◌≡◌, true};
 ghost use Rattle.parser.specs.declared.Place.{Place};
 ghost use Rattle.grammar.specs.Tokens.{is_name};
@@ -10,6 +12,13 @@ ghost use Rattle.parser.specs.Reads.{Takes};
 use crate::{Place, Reader, RightKind};
 use layout::Refusal;
 use tokens::Kind;
+
+// A name: a letter, then letters, digits or `_`, at most 24 bytes.
+#[derive(Clone, Copy)]
+struct Name<'a> {
+    bytes: &'a [u8],
+    ghost named: { is_name bytes.now ≡ true },
+}
 
 impl RightKind {
     // Its byte in the contents of a rule.
@@ -23,12 +32,11 @@ impl RightKind {
 
 impl Reader {
     // The text's first name.
-    fn first(&mut self, x: &[u8]) -> Result<(), Refusal>
-        requires place { self.old.place ≡ Place.First }
-        requires named { is_name x.now ≡ true }
-        ensures { Takes (λ s. name s x.now s.place) self.old result self.new }
+    fn first(&mut self, x: Name<'_>) -> Result<(), Refusal>
+        requires { self.old.place ≡ Place.First }
+        ensures { Takes (λ s. name s x.entry.bytes.now s.place) self.old result self.new }
     {
-        if x == b"events".as_slice() {
+        if x.bytes == b"events".as_slice() {
             self.place = Place::Events;
             Ok(())
         } else {
@@ -37,13 +45,12 @@ impl Reader {
     }
 
     // A name in the list of events.
-    fn event(&mut self, x: &[u8]) -> Result<(), Refusal>
-        requires place { self.old.place ≡ Place.Events }
-        requires named { is_name x.now ≡ true }
-        ensures { Takes (λ s. name s x.now s.place) self.old result self.new }
+    fn event(&mut self, x: Name<'_>) -> Result<(), Refusal>
+        requires { self.old.place ≡ Place.Events }
+        ensures { Takes (λ s. name s x.entry.bytes.now s.place) self.old result self.new }
     {
         let before = self.symbols.count;
-        let number = self.symbols.number_of(x).ok_or(Refusal::TooMany)?;
+        let number = self.symbols.number_of(x.bytes).ok_or(Refusal::TooMany)?;
         if number < before {
             return Err(Refusal::Repeated);
         }
@@ -51,16 +58,15 @@ impl Reader {
     }
 
     // A name in a side: the place behind it is `to`.
-    fn side_symbol(&mut self, to: Place, x: &[u8]) -> Result<(), Refusal>
+    fn side_symbol(&mut self, to: Place, x: Name<'_>) -> Result<(), Refusal>
         requires place { LeadsTo self.old.place to }
         requires few { self.old.rules < 64 }
-        requires named { is_name x.now ≡ true }
-        ensures { Takes (λ s. name s x.now s.place) self.old result self.new }
+        ensures { Takes (λ s. name s x.entry.bytes.now s.place) self.old result self.new }
     {
         if 8 <= self.side {
             return Err(Refusal::TooMany);
         }
-        let number = self.symbols.number_of(x).ok_or(Refusal::TooMany)?;
+        let number = self.symbols.number_of(x.bytes).ok_or(Refusal::TooMany)?;
         self.body_bytes[self.bodies] = number as u8;
         self.place = to;
         self.bodies += 1;
@@ -69,10 +75,9 @@ impl Reader {
     }
 
     // A rule's first name, behind `.` or `^`.
-    fn left_symbol(&mut self, x: &[u8]) -> Result<(), Refusal>
-        requires place { MayBegin self.old.place }
-        requires named { is_name x.now ≡ true }
-        ensures { Takes (λ s. name s x.now s.place) self.old result self.new }
+    fn left_symbol(&mut self, x: Name<'_>) -> Result<(), Refusal>
+        requires { MayBegin self.old.place }
+        ensures { Takes (λ s. name s x.entry.bytes.now s.place) self.old result self.new }
     {
         if 64 <= self.rules {
             return Err(Refusal::TooMany);
@@ -81,9 +86,8 @@ impl Reader {
     }
 
     // A name.
-    fn name(&mut self, x: &[u8]) -> Result<(), Refusal>
-        requires { is_name x.now ≡ true }
-        ensures { Takes (λ s. name s x.now s.place) self.old result self.new }
+    fn name(&mut self, x: Name<'_>) -> Result<(), Refusal>
+        ensures { Takes (λ s. name s x.entry.bytes.now s.place) self.old result self.new }
     {
         match self.place {
             Place::First => self.first(x),
@@ -96,19 +100,18 @@ impl Reader {
     }
 
     // A `#` word as a right side.
-    fn right_word(&mut self, x: &[u8]) -> Result<(), Refusal>
-        requires place { self.old.place ≡ Place.Right }
-        requires named { is_name x.now ≡ true }
-        ensures { Takes (λ s. word s x.now s.place) self.old result self.new }
+    fn right_word(&mut self, x: Name<'_>) -> Result<(), Refusal>
+        requires { self.old.place ≡ Place.Right }
+        ensures { Takes (λ s. word s x.entry.bytes.now s.place) self.old result self.new }
     {
         if self.side != 0 {
             return Err(Refusal::Misplaced);
         }
-        if x == b"epsilon".as_slice() {
+        if x.bytes == b"epsilon".as_slice() {
             self.place = Place::Ending;
             return Ok(());
         }
-        let number = self.words.number_of(x).ok_or(Refusal::TooMany)?;
+        let number = self.words.number_of(x.bytes).ok_or(Refusal::TooMany)?;
         self.place = Place::Ending;
         self.side = number as u8;
         self.kind = RightKind::Close;
@@ -116,9 +119,8 @@ impl Reader {
     }
 
     // A `#` word.
-    fn word(&mut self, x: &[u8]) -> Result<(), Refusal>
-        requires { is_name x.now ≡ true }
-        ensures { Takes (λ s. word s x.now s.place) self.old result self.new }
+    fn word(&mut self, x: Name<'_>) -> Result<(), Refusal>
+        ensures { Takes (λ s. word s x.entry.bytes.now s.place) self.old result self.new }
     {
         match self.place {
             Place::Right => self.right_word(x),
@@ -211,8 +213,8 @@ impl Reader {
         ensures { Takes (λ s. after_run s (token_as kind x.now)) self.old result self.new }
     {
         match kind.ok_or(Refusal::NoToken)? {
-            Kind::Name => self.name(x),
-            Kind::Word => self.word(x),
+            Kind::Name => self.name(Name { bytes: x }),
+            Kind::Word => self.word(Name { bytes: x }),
             Kind::Arrow => self.arrow(),
             Kind::Stop => self.stop(),
             Kind::Mark => self.mark(),

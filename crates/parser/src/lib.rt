@@ -47,10 +47,11 @@ pub struct Reader {
     pub symbols: Names<SYMBOLS>,
     pub words: Names<WORDS>,
     pub events: usize,
-    // How many rules there are, and the contents of each.
+    // How many rules there are, and the contents of each: bytes and no struct, since they go into the image as they are.
     pub rules: usize,
     pub contents: [[u8; 4]; RULES],
-    // The bodies of the rules one behind another, and how many bytes they have.
+    // The bodies of the rules one behind another, and how many bytes they have. They differ in length, so they are no rows; and a
+    // struct of their own would be no plainer: one place writes a byte of them, and `held` bounds their number.
     pub body_bytes: [u8; BODIES_BYTES],
     pub bodies: usize,
     // Of the rule begun: the length of its left side, that of the side that is open or the verdict, what its right side is, and

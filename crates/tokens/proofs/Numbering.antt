@@ -7,9 +7,9 @@ use Rattle.std.specs.Prelude.{None, Some, map}
 use mathlib.Core.List.{List, [], ◌∷◌, ◌++◌, flat_map}
 use native.Mathlib.Omega.{arith}
 use lib.Dec.{leb, ltb}
-use lib.ListN.{length, set, take, drop, replicate, length-append, length-replicate}
+use lib.ListN.{length, set, take, drop, replicate, length-append}
 use borrow.Author.Tests.{lt-ltb, le-ltb, le-leb, lt-leb}
-use Rattle.std.proofs.lemmas.List.{length-map, replicate-append-replicate}
+use Rattle.std.proofs.lemmas.List.{replicate-append-replicate}
 use Rattle.std.proofs.lemmas.Grind.{flat_map-append}
 use Rattle.rewriting.specs.Lists.{same, between}
 use Rattle.grammar.specs.Names.{number_of, or_new, numbered, slot, slots}
@@ -26,10 +26,6 @@ slots_used : (x : List ℕ) (names rest : List (List ℕ))
 unfolding slot_among number_of
 slots_used x [] rest = refl
 slots_used x (y ∷ names) rest = rw (same-slot x y, slots_used x names rest)
-
-pub length-slots_of : (n : ℕ) (names : List (List ℕ)) → length names ≤ n → length (slots_of n names) ≡ n
-unfolding slots_of
-length-slots_of n names few = simp (length-append, length-map, length-replicate) (omega arith)
 
 -- one more in the next slot
 slots_set : (n : ℕ) (names : List (List ℕ)) (x : List ℕ) → length names < n

@@ -1,8 +1,7 @@
 -- Slots one by one, the place of one among them, and the number of a name, as the code answers it.
-use Rattle.std.specs.Prelude.{ℕ, suc, ◌-◌, ◌≤◌, ◌≡◌, true, cond, List, [], ◌∷◌, ◌++◌, length, map, replicate}
+use Rattle.std.specs.Prelude.{ℕ, suc, ◌-◌, ◌≤◌, ◌≡◌, cond, List, [], ◌∷◌, ◌++◌, length, map, replicate}
 use Rattle.std.specs.Prelude.{Option, None, Some, option_map}
-use Rattle.rewriting.specs.Lists.{all, same}
-use Rattle.grammar.specs.Tokens.{is_name}
+use Rattle.rewriting.specs.Lists.{same}
 use Rattle.grammar.specs.Names.{slot_size, slot, Numbered, numbered}
 
 -- n slots, each a list of its own; all their bytes are `slots n names`
@@ -23,5 +22,5 @@ NumberedIs most names (Some n) (Some i) count slots = (i ≡ n.number) × (count
 
 abbrev pub NumberedAs : ℕ → List (List ℕ) → ℕ → List (List ℕ) → List ℕ → Option ℕ → ℕ → List (List ℕ) → Type 0
 NumberedAs most names count slots x i count' slots' =
-    slots ≡ slots_of most names → count ≡ length names → length names ≤ most → all is_name names ≡ true → is_name x ≡ true
+    slots ≡ slots_of most names → count ≡ length names → length names ≤ most
     → NumberedIs most names (numbered most names x) i count' slots'

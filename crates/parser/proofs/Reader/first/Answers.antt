@@ -8,18 +8,18 @@ use Rattle.parser.proofs.Reader.first.Goals as goal
 
 pub invariant_of-self : goal.invariant_of-self
 invariant_of-self c =
-    let x = c.args.x.now in
+    let x = c.args.x.bytes.now in
     record {
       held = ∥∥₁_map c.args.self.now.held (λ h.
-          still_held _ (sound_name h.reading x h.reading.place h.sound h.sound.here c.requires.named)
-          (first_events h.keeps x (here_at h.keeps _ c.requires.place)
+          still_held _ (sound_name h.reading x h.reading.place h.sound h.sound.here c.args.x.named)
+          (first_events h.keeps x (here_at h.keeps _ c.requires)
           (rw c.as_slice.ensures at (sym c.eq.ensures ∙ c.if-eq.true))));
     }
 
 pub returns-then-eq : goal.returns-then-eq
 returns-then-eq c = λ s sound k.
-    first_events k c.args.x.now (here_at k _ c.requires.place) (rw c.as_slice.ensures at (sym c.eq.ensures ∙ c.if-eq.true))
+    first_events k c.args.x.bytes.now (here_at k _ c.requires) (rw c.as_slice.ensures at (sym c.eq.ensures ∙ c.if-eq.true))
 
 pub returns-else-eq : goal.returns-else-eq
 returns-else-eq c = λ s sound k.
-    first_other k c.args.x.now (here_at k _ c.requires.place) (rw c.as_slice.ensures at (sym c.eq.ensures ∙ c.if-eq.false))
+    first_other k c.args.x.bytes.now (here_at k _ c.requires) (rw c.as_slice.ensures at (sym c.eq.ensures ∙ c.if-eq.false))

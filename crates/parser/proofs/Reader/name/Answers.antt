@@ -15,4 +15,4 @@ side_symbol-requires-in-Right-clause-few c = ∥∥₁_elim c.args.self.now.held
 
 pub returns-in-Ending : goal.returns-in-Ending
 returns-in-Ending c = λ s sound k.
-    let here = here_at k _ c.in-Ending.is in rw (name-ending s c.args.x.now here.0 here.1 here.2 here.3) refl
+    let here = here_at k _ c.in-Ending.is in rw (name-ending s c.args.x.bytes.now here.0 here.1 here.2 here.3) refl

@@ -12,11 +12,11 @@ use Rattle.parser.proofs.Reader.side_symbol.Goals as goal
 
 pub returns-then-self-ge8 : goal.returns-then-self-ge8
 returns-then-self-ge8 c = λ s sound k.
-    let i = in_side k c.args.x.now _ c.requires.place c.requires.few in
-    rw i.is (ninth k c.args.x.now i.side i.to i.longer.size c.if-self-ge8.true)
+    let i = in_side k c.args.x.bytes.now _ c.requires.place c.requires.few in
+    rw i.is (ninth k c.args.x.bytes.now i.side i.to i.longer.size c.if-self-ge8.true)
 
 pub number_of-requires : goal.number_of-requires
-number_of-requires c = (omega arith, name_short _ c.requires.named)
+number_of-requires c = (omega arith, name_short _ c.args.x.named)
 
 pub invariant_of-self : goal.invariant_of-self
 invariant_of-self c =
@@ -24,19 +24,19 @@ invariant_of-self c =
       held = ∥∥₁_map c.args.self.now.held (λ h.
           let s = h.reading in
           held_symbols h _ _
-          (too_many_kept 32 s.symbols c.args.x.now _ _
+          (too_many_kept 32 s.symbols c.args.x.bytes.now _ _
           (rw c.in_err-number.ensures.ok_part at (c.number_of.ensures.numbered s.symbols h.keeps.symbol-slots
           (symbols_number s h.keeps.numbers)
-          h.sound.few_symbols h.sound.symbols_named c.requires.named))));
+          h.sound.few_symbols))));
     }
 
 pub returns-in_err-number : goal.returns-in_err-number
 returns-in_err-number c = λ s sound k.
-    let i = in_side k c.args.x.now _ c.requires.place c.requires.few in
+    let i = in_side k c.args.x.bytes.now _ c.requires.place c.requires.few in
     rw (err_by _ _ _ _ c.from_residual.ensures.1 c.in_err-number.ensures.value, i.is)
-    (symbol_33 k c.args.x.now i.side i.to i.longer _ _ c.if-self-ge8.false
+    (symbol_33 k c.args.x.bytes.now i.side i.to i.longer _ _ c.if-self-ge8.false
     (rw c.in_err-number.ensures.ok_part at (c.number_of.ensures.numbered s.symbols k.symbol-slots (symbols_number s k.numbers)
-    sound.few_symbols sound.symbols_named c.requires.named)) _)
+    sound.few_symbols)) _)
 
 pub bounds-self-self : goal.bounds-self-self
 bounds-self-self c =
@@ -52,22 +52,22 @@ invariant_of-self-2 c =
     record {
       held = ∥∥₁_map c.args.self.now.held (λ h.
           let s = h.reading in
-          let i = in_side h.keeps c.args.x.now _ c.requires.place c.requires.few in
-          still_held _ (sound_name s c.args.x.now s.place h.sound h.sound.here c.requires.named)
+          let i = in_side h.keeps c.args.x.bytes.now _ c.requires.place c.requires.few in
+          still_held _ (sound_name s c.args.x.bytes.now s.place h.sound h.sound.here c.args.x.named)
           (rw i.is
-          (side_longer h.keeps c.args.x.now i.side i.to i.longer _ _ c.if-self-ge8.false c.in_ok-number.number
+          (side_longer h.keeps c.args.x.bytes.now i.side i.to i.longer _ _ c.if-self-ge8.false c.in_ok-number.number
           (rw c.in_ok-number.ensures.ok_part at (c.number_of.ensures.numbered s.symbols h.keeps.symbol-slots
           (symbols_number s h.keeps.numbers)
-          h.sound.few_symbols h.sound.symbols_named c.requires.named))
+          h.sound.few_symbols))
           (rw h.keeps.bodies_size_lem (side_room h _ c.requires.place c.requires.few c.if-self-ge8.false)))));
     }
 
 pub returns : goal.returns
 returns c = λ s sound k.
-    let i = in_side k c.args.x.now _ c.requires.place c.requires.few in
+    let i = in_side k c.args.x.bytes.now _ c.requires.place c.requires.few in
     let h : Held _ _ _ _ _ = record { reading = s; sound = sound; keeps = k } in
     rw i.is
-    (side_longer k c.args.x.now i.side i.to i.longer _ _ c.if-self-ge8.false c.in_ok-number.number
+    (side_longer k c.args.x.bytes.now i.side i.to i.longer _ _ c.if-self-ge8.false c.in_ok-number.number
     (rw c.in_ok-number.ensures.ok_part at (c.number_of.ensures.numbered s.symbols k.symbol-slots (symbols_number s k.numbers)
-    sound.few_symbols sound.symbols_named c.requires.named))
+    sound.few_symbols))
     (rw k.bodies_size_lem (side_room h _ c.requires.place c.requires.few c.if-self-ge8.false)))

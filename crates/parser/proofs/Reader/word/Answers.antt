@@ -6,4 +6,4 @@ use Rattle.parser.proofs.Reader.word.Goals as goal
 
 pub returns-in_default : goal.returns-in_default
 returns-in_default c = λ s sound k.
-    rw (word_elsewhere s c.args.x.now s.place (rw (place_number s k.numbers) at c.in_default.not-Right)) refl
+    rw (word_elsewhere s c.args.x.bytes.now s.place (rw (place_number s k.numbers) at c.in_default.not-Right)) refl
