@@ -35,6 +35,67 @@ pub prefix-sets : (p v b : List ℕ) → prefix p b ≡ true → length p + leng
 prefix-sets p v b e room =
     rw (sets-eq v b (length p) room, prefix-take p b (length p) refl e) (prefix_append (p ++ v) (drop (length p + length v) b))
 
+-- The same numbers at another place, with other symbols, with other words, and behind the list of events.
+abbrev pub at_place : Numbers → code.Place → Numbers
+at_place r q =
+    record {
+      place = q;
+      symbols = r.symbols;
+      words = r.words;
+      events = r.events;
+      rules = r.rules;
+      bodies = r.bodies;
+      left = r.left;
+      side = r.side;
+      kind = r.kind;
+      marked = r.marked;
+    }
+
+abbrev pub with_symbols : Numbers → ℕ → Numbers
+with_symbols r count =
+    record {
+      place = r.place;
+      symbols = count;
+      words = r.words;
+      events = r.events;
+      rules = r.rules;
+      bodies = r.bodies;
+      left = r.left;
+      side = r.side;
+      kind = r.kind;
+      marked = r.marked;
+    }
+
+abbrev pub with_words : Numbers → ℕ → Numbers
+with_words r count =
+    record {
+      place = r.place;
+      symbols = r.symbols;
+      words = count;
+      events = r.events;
+      rules = r.rules;
+      bodies = r.bodies;
+      left = r.left;
+      side = r.side;
+      kind = r.kind;
+      marked = r.marked;
+    }
+
+abbrev pub behind_events : Numbers → Numbers
+behind_events r =
+    record {
+      place = places.Between;
+      symbols = r.symbols;
+      words = r.words;
+      events = r.symbols;
+      rules = r.rules;
+      bodies = r.bodies;
+      left = r.left;
+      side = r.side;
+      kind = r.kind;
+      marked = r.marked;
+    }
+
 -- The numbers, one by one.
 module _ (s : Reading) {r : Numbers} (e : r ≡ numbers_of s) where
   pub place_number : r.place ≡ place_of s.place
@@ -107,18 +168,7 @@ module _ {s : Reading} {r : Numbers} {a b c : List (List ℕ)} {d : List ℕ} (k
   pub keeps_placed :
       (q : Place) → Alike s.place q
       → Keeps (placed s q)
-      (record {
-        place = place_of q;
-        symbols = r.symbols;
-        words = r.words;
-        events = r.events;
-        rules = r.rules;
-        bodies = r.bodies;
-        left = r.left;
-        side = r.side;
-        kind = r.kind;
-        marked = r.marked;
-      }) a b c d
+      (at_place r (place_of q)) a b c d
   unfolding placed numbers_of
   keeps_placed q h =
       let old : List ℕ = flat_map body s.rules in
@@ -213,18 +263,7 @@ module _ {s : Reading} {r : Numbers} {a b c : List (List ℕ)} {d : List ℕ} (k
       (n : Numbered) (count : ℕ) (area : List (List ℕ)) → s.place ≡ Events → count ≡ length n.names → area ≡ slots_of 32 n.names
       → Keeps
       (record { symbols = n.names; words = s.words; events = s.events; rules = s.rules; place = Events })
-      (record {
-        place = r.place;
-        symbols = count;
-        words = r.words;
-        events = r.events;
-        rules = r.rules;
-        bodies = r.bodies;
-        left = r.left;
-        side = r.side;
-        kind = r.kind;
-        marked = r.marked;
-      }) area b c d
+      (with_symbols r count) area b c d
   unfolding numbers_of
   keeps_event n count area here at_count at_area =
       record {
@@ -392,18 +431,7 @@ module _ {s : Reading} {r : Numbers} {a b c : List (List ℕ)} {d : List ℕ} (k
         rules = s.rules;
         place = Between;
       })
-      (record {
-        place = places.Between;
-        symbols = r.symbols;
-        words = r.words;
-        events = r.symbols;
-        rules = r.rules;
-        bodies = r.bodies;
-        left = r.left;
-        side = r.side;
-        kind = r.kind;
-        marked = r.marked;
-      }) a b c d
+      (behind_events r) a b c d
   unfolding numbers_of place_of left_of side_of rule_at
   keeps_events here =
       record {

@@ -57,6 +57,10 @@ use Rattle.tokens.specs.Numbered.{slots_of, NumberedIs}
 use Rattle.grammar.specs.Tokens.{is_name}
 use Rattle.grammar.proofs.Sound.{number-below, KeepsSound, sound_name}
 use Rattle.parser.proofs.Keeping.{
+  at_place,
+  with_symbols,
+  with_words,
+  behind_events,
   here_at,
   left_number,
   words_number,
@@ -177,20 +181,7 @@ module _ (most : ℕ) (names : List (List ℕ)) (x : List ℕ) (count : ℕ) (sl
 module _ {s : Reading} {r : Numbers} {a b c : List (List ℕ)} {d : List ℕ} (k : Keeps s r a b c d) where
   -- The first token.
   pub first_events : (x : List ℕ) → s.place ≡ First → same x events_word ≡ true
-      → TakenIs (name s x s.place)
-      (Ok tt)
-      (record {
-        place = places.Events;
-        symbols = r.symbols;
-        words = r.words;
-        events = r.events;
-        rules = r.rules;
-        bodies = r.bodies;
-        left = r.left;
-        side = r.side;
-        kind = r.kind;
-        marked = r.marked;
-      }) a b c d
+      → TakenIs (name s x s.place) (Ok tt) (at_place r places.Events) a b c d
   unfolding name placed place_of left_of side_of rule_at
   first_events x here e =
       rw (here, e)
@@ -217,20 +208,7 @@ module _ {s : Reading} {r : Numbers} {a b c : List (List ℕ)} {d : List ℕ} (k
           rw (here, old.1) refl
 
       pub event_new : r.symbols ≤ number
-          → TakenIs (name s x s.place)
-          (Ok tt)
-          (record {
-            place = r.place;
-            symbols = count;
-            words = r.words;
-            events = r.events;
-            rules = r.rules;
-            bodies = r.bodies;
-            left = r.left;
-            side = r.side;
-            kind = r.kind;
-            marked = r.marked;
-          }) area b c d
+          → TakenIs (name s x s.place) (Ok tt) (with_symbols r count) area b c d
       unfolding name event symbol with_symbol
       event_new high =
           let m = has_number 32 s.symbols x count area number is in
@@ -329,20 +307,7 @@ module _ {s : Reading} {r : Numbers} {a b c : List (List ℕ)} {d : List ℕ} (k
           go (y ∷ w) Some_of = refl
 
       pub word_epsilon : r.side ≡ 0 → same x epsilon_word ≡ true
-          → TakenIs (word s x s.place)
-          (Ok tt)
-          (record {
-            place = places.Ending;
-            symbols = r.symbols;
-            words = r.words;
-            events = r.events;
-            rules = r.rules;
-            bodies = r.bodies;
-            left = r.left;
-            side = r.side;
-            kind = r.kind;
-            marked = r.marked;
-          }) a b c d
+          → TakenIs (word s x s.place) (Ok tt) (at_place r places.Ending) a b c d
       unfolding word right_word placed place_of left_of side_of kind_of rule_at length_or_verdict
       word_epsilon none_yet e =
           rw (empty_side none_yet, e)
@@ -424,38 +389,12 @@ module _ {s : Reading} {r : Numbers} {a b c : List (List ℕ)} {d : List ℕ} (k
       go (y ∷ names) e = absurd (omega arith)
 
   pub some_events : s.place ≡ Events → (r.symbols ≡ 0 → ⊥)
-      → TakenIs (stop s s.place)
-      (Ok tt)
-      (record {
-        place = places.Between;
-        symbols = r.symbols;
-        words = r.words;
-        events = r.symbols;
-        rules = r.rules;
-        bodies = r.bodies;
-        left = r.left;
-        side = r.side;
-        kind = r.kind;
-        marked = r.marked;
-      }) a b c d
+      → TakenIs (stop s s.place) (Ok tt) (behind_events r) a b c d
   unfolding stop close_events
   some_events here some_yet = rw (ap (stop s) here) (go s.symbols (λ e. some_yet (symbols_number s k.numbers ∙ e)))
     where
       go : (names : List (List ℕ)) → (length names ≡ 0 → ⊥)
-          → TakenIs (close_events s names)
-          (Ok tt)
-          (record {
-            place = places.Between;
-            symbols = r.symbols;
-            words = r.words;
-            events = r.symbols;
-            rules = r.rules;
-            bodies = r.bodies;
-            left = r.left;
-            side = r.side;
-            kind = r.kind;
-            marked = r.marked;
-          }) a b c d
+          → TakenIs (close_events s names) (Ok tt) (behind_events r) a b c d
       go [] e = absurd (e refl)
       go (y ∷ names) e = keeps_events k here
 
@@ -667,38 +606,14 @@ still_held (Err i) sound k = absurd k
 
 module _ {r : Numbers} {a b c : List (List ℕ)} {d : List ℕ} (h : Held r a b c d) (count : ℕ) (slots : List (List ℕ)) where
   pub held_symbols : AsBefore 32 h.reading.symbols [] count slots
-      → Held
-      (record {
-        place = r.place;
-        symbols = count;
-        words = r.words;
-        events = r.events;
-        rules = r.rules;
-        bodies = r.bodies;
-        left = r.left;
-        side = r.side;
-        kind = r.kind;
-        marked = r.marked;
-      }) slots b c d
+      → Held (with_symbols r count) slots b c d
   held_symbols e =
       let same_count : count ≡ r.symbols = e.0 ∙ sym (symbols_number h.reading h.keeps.numbers) in
       let same_slots : slots ≡ a = e.1 ∙ sym h.keeps.symbol-slots in
       rw (same_count, same_slots) h
 
   pub held_words : AsBefore 16 h.reading.words [] count slots
-      → Held
-      (record {
-        place = r.place;
-        symbols = r.symbols;
-        words = count;
-        events = r.events;
-        rules = r.rules;
-        bodies = r.bodies;
-        left = r.left;
-        side = r.side;
-        kind = r.kind;
-        marked = r.marked;
-      }) a slots c d
+      → Held (with_words r count) a slots c d
   held_words e =
       let same_count : count ≡ r.words = e.0 ∙ sym (words_number h.reading h.keeps.numbers) in
       let same_slots : slots ≡ b = e.1 ∙ sym h.keeps.word-slots in
@@ -708,19 +623,7 @@ module _ {r : Numbers} {a b c : List (List ℕ)} {d : List ℕ} (h : Held r a b 
 pub event_held : {r : Numbers} {a b c : List (List ℕ)} {d : List ℕ} (h : Held r a b c d) (x : List ℕ) → is_name x ≡ true
     → r.place ≡ places.Events → (o : Option ℕ) (count : ℕ) (slots : List (List ℕ))
     → NumberedIs 32 h.reading.symbols (numbered 32 h.reading.symbols x) o count slots
-    → Held
-    (record {
-      place = r.place;
-      symbols = count;
-      words = r.words;
-      events = r.events;
-      rules = r.rules;
-      bodies = r.bodies;
-      left = r.left;
-      side = r.side;
-      kind = r.kind;
-      marked = r.marked;
-    }) slots b c d
+    → Held (with_symbols r count) slots b c d
 event_held h x named here None count slots is = held_symbols h count slots (too_many_kept 32 h.reading.symbols x count slots is)
 event_held {r} {a} {b} {c} {d} h x named here (Some i) count slots is = go (ltb i (length h.reading.symbols)) refl
   where
@@ -728,19 +631,7 @@ event_held {r} {a} {b} {c} {d} h x named here (Some i) count slots is = go (ltb 
     s = h.reading
 
     go : (low : Bool) → ltb i (length s.symbols) ≡ low
-        → Held
-        (record {
-          place = r.place;
-          symbols = count;
-          words = r.words;
-          events = r.events;
-          rules = r.rules;
-          bodies = r.bodies;
-          left = r.left;
-          side = r.side;
-          kind = r.kind;
-          marked = r.marked;
-        }) slots b c d
+        → Held (with_symbols r count) slots b c d
     go true e = held_symbols h count slots (old_kept 32 s.symbols x count slots i is (ltb-true i (length s.symbols) e))
     go false e =
         still_held _ (sound_name s x s.place h.sound h.sound.here named)
