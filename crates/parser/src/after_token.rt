@@ -1,275 +1,222 @@
-// What a token makes of what has been read.
-// The module is private: what its functions ask, the reader keeps from token to token.
-ghost use Rattle.std.specs.Prelude.{ℕ, ◌+◌, ◌*◌, ◌<◌, ◌≤◌, ◌≡◌, Bool, true, List, [], length};
+// What a token makes of what has been read. The module is private: what its functions ask, their callers have looked up.
+// Kinds and places are told by a `match` on an enum and not by a closure or a trait object for each: it is the plainest, since an
+// arm knows the place and so may call what asks for it.
+ghost use Rattle.std.specs.Prelude.{◌<◌, ◌≡◌, true};
 ghost use Rattle.parser.specs.declared.Place.{Place};
 ghost use Rattle.grammar.specs.Tokens.{is_name};
 ghost use Rattle.tokens.specs.Scanned.{token_as, Named};
-ghost use Rattle.grammar.specs.Grammar as Grammar;
-ghost use Rattle.grammar.specs.Grammar.{InLeft, name, word, arrow, mark, stop, side_symbol, first_symbol, close_rule, after_run};
-ghost use Rattle.grammar.specs.Sound.{Sound};
-ghost use Rattle.parser.specs.Held.{contents_size, bodies_size, Keeps, Held, TakenIs, Takes, Lengthens, Closed, rule_at};
-ghost use Rattle.grammar.specs.Names.{slot_size, symbols_size, words_size};
+ghost use Rattle.grammar.specs.Grammar.{name, word, arrow, mark, stop, after_run};
+ghost use Rattle.parser.specs.Held.{byte_of, MayBegin, LeadsTo, MayClose};
+ghost use Rattle.parser.specs.Reads.{Takes};
 
-use crate::{Place, Reader};
+use crate::{Place, Reader, RightKind};
 use layout::Refusal;
-use tokens::{Kind, names};
+use tokens::Kind;
+
+// A name: a letter, then letters, digits or `_`, at most 24 bytes.
+#[derive(Clone, Copy)]
+struct Name<'a> {
+    bytes: &'a [u8],
+    ghost named: { is_name bytes.now ≡ true },
+}
+
+impl RightKind {
+    // Its byte in the contents of a rule.
+    #[tactic(auto, unfolding(crate::specs::Held::byte_of))]
+    fn byte(self) -> u8
+        ensures { result ≡ byte_of self }
+    {
+        self as u8
+    }
+}
 
 impl Reader {
-    // The same at another place.
-    fn at(self, place: Place) -> Reader
-        ensures { result
-            ≡ record {
-              place = place;
-              symbols = self.symbols;
-              words = self.words;
-              events = self.events;
-              rules = self.rules;
-              bodies = self.bodies;
-              left = self.left;
-              side = self.side;
-              kind = self.kind;
-            } }
-    {
-        Reader { place, ..self }
-    }
-
     // The text's first name.
-    fn first(self, x: &[u8]) -> Result<Reader, Refusal>
-        ensures { (a b c d : List ℕ) → self.place ≡ Place.First → Takes (λ s. name s x.now s.place) self a b c d result a b c d }
+    fn first(&mut self, x: Name<'_>) -> Result<(), Refusal>
+        requires { self.old.place ≡ Place.First }
+        ensures { Takes (λ s. name s x.entry.bytes.now s.place) self.old result self.new }
     {
-        if x == b"events".as_slice() {
-            Ok(self.at(Place::Events))
+        if x.bytes == b"events".as_slice() {
+            self.place = Place::Events;
+            Ok(())
         } else {
             Err(Refusal::Misplaced)
         }
     }
 
     // A name in the list of events.
-    fn event(self, x: &[u8], symbols: &mut [u8]) -> Result<Reader, Refusal>
-        requires slots { slot_size * self.symbols ≤ length symbols.old }
-        requires named { is_name x.now ≡ true }
-        ensures { (b c d : List ℕ) → self.place ≡ Place.Events
-            → Takes (λ s. name s x.now s.place) self symbols.old b c d result symbols.new b c d }
+    fn event(&mut self, x: Name<'_>) -> Result<(), Refusal>
+        requires { self.old.place ≡ Place.Events }
+        ensures { Takes (λ s. name s x.entry.bytes.now s.place) self.old result self.new }
     {
-        let n = names::number_of(symbols, self.symbols, x).ok_or(Refusal::TooMany)?;
-        if n.number < self.symbols {
+        let before = self.symbols.count;
+        let number = self.symbols.number_of(x.bytes).ok_or(Refusal::TooMany)?;
+        if number < before {
             return Err(Refusal::Repeated);
         }
-        let mut next = self;
-        next.symbols = n.count;
-        Ok(next)
+        Ok(())
     }
 
     // A name in a side: the place behind it is `to`.
-    fn side_symbol(
-        self,
-        to: Place,
-        x: &[u8],
-        symbols: &mut [u8],
-        bodies: &mut [u8],
-    ) -> Result<Reader, Refusal>
-        requires few { self.symbols ≤ 32 }
-        requires slots { slot_size * self.symbols ≤ length symbols.old }
-        requires named { is_name x.now ≡ true }
-        requires room { self.side < 8 → self.bodies < length bodies.old }
-        ensures { (b c side : List ℕ) (p : List ℕ → Grammar.Place) (s : Grammar.Reading)
-            → Lengthens s.place side p to → Sound s → Keeps s self symbols.old b c bodies.old
-            → TakenIs (side_symbol s x.now side p) result symbols.new b c bodies.new }
+    fn side_symbol(&mut self, to: Place, x: Name<'_>) -> Result<(), Refusal>
+        requires place { LeadsTo self.old.place to }
+        requires few { self.old.rules < 64 }
+        ensures { Takes (λ s. name s x.entry.bytes.now s.place) self.old result self.new }
     {
         if 8 <= self.side {
             return Err(Refusal::TooMany);
         }
-        let n = names::number_of(symbols, self.symbols, x).ok_or(Refusal::TooMany)?;
-        let end = self.bodies;
-        bodies[end] = n.number as u8;
-        let mut next = self.at(to);
-        next.symbols = n.count;
-        next.bodies = end + 1;
-        next.side = self.side + 1;
-        Ok(next)
+        let number = self.symbols.number_of(x.bytes).ok_or(Refusal::TooMany)?;
+        self.body_bytes[self.bodies] = number as u8;
+        self.place = to;
+        self.bodies += 1;
+        self.side += 1;
+        Ok(())
     }
 
     // A rule's first name, behind `.` or `^`.
-    fn left_symbol(self, x: &[u8], symbols: &mut [u8], bodies: &mut [u8]) -> Result<Reader, Refusal>
-        requires few { self.symbols ≤ 32 }
-        requires slots { slot_size * self.symbols ≤ length symbols.old }
-        requires named { is_name x.now ≡ true }
-        requires room { self.rules < 64 → self.bodies < length bodies.old }
-        ensures { (b c : List ℕ) (m : Bool) (s : Grammar.Reading)
-            → Lengthens s.place [] (InLeft m) Place.Left → Sound s → Keeps s self symbols.old b c bodies.old
-            → TakenIs (first_symbol s x.now m) result symbols.new b c bodies.new }
+    fn left_symbol(&mut self, x: Name<'_>) -> Result<(), Refusal>
+        requires { MayBegin self.old.place }
+        ensures { Takes (λ s. name s x.entry.bytes.now s.place) self.old result self.new }
     {
         if 64 <= self.rules {
             return Err(Refusal::TooMany);
         }
-        self.side_symbol(Place::Left, x, symbols, bodies)
+        self.side_symbol(Place::Left, x)
     }
 
     // A name.
-    fn name(self, x: &[u8], symbols: &mut [u8], bodies: &mut [u8]) -> Result<Reader, Refusal>
-        requires held { Held self }
-        requires slots { length symbols.old ≡ symbols_size }
-        requires room { length bodies.old ≡ bodies_size }
-        requires named { is_name x.now ≡ true }
-        ensures { (b c : List ℕ) → Takes (λ s. name s x.now s.place) self
-            symbols.old b c bodies.old result symbols.new b c bodies.new }
+    fn name(&mut self, x: Name<'_>) -> Result<(), Refusal>
+        ensures { Takes (λ s. name s x.entry.bytes.now s.place) self.old result self.new }
     {
-        let place = self.place;
-        match place {
+        match self.place {
             Place::First => self.first(x),
-            Place::Events => self.event(x, symbols),
-            Place::Between => self.left_symbol(x, symbols, bodies),
-            Place::Marked => self.left_symbol(x, symbols, bodies),
-            Place::Left => self.side_symbol(Place::Left, x, symbols, bodies),
-            Place::Right => self.side_symbol(Place::Right, x, symbols, bodies),
+            Place::Events => self.event(x),
+            Place::Between | Place::Marked => self.left_symbol(x),
+            Place::Left => self.side_symbol(Place::Left, x),
+            Place::Right => self.side_symbol(Place::Right, x),
             Place::Ending => Err(Refusal::Misplaced),
         }
     }
 
     // A `#` word as a right side.
-    fn right_word(self, x: &[u8], words: &mut [u8]) -> Result<Reader, Refusal>
-        requires few { self.words ≤ 16 }
-        requires slots { slot_size * self.words ≤ length words.old }
-        requires named { is_name x.now ≡ true }
-        requires kinds { self.kind ≤ 3 }
-        ensures { (a c d : List ℕ) → self.place ≡ Place.Right
-            → Takes (λ s. word s x.now s.place) self a words.old c d result a words.new c d }
+    fn right_word(&mut self, x: Name<'_>) -> Result<(), Refusal>
+        requires { self.old.place ≡ Place.Right }
+        ensures { Takes (λ s. word s x.entry.bytes.now s.place) self.old result self.new }
     {
         if self.side != 0 {
             return Err(Refusal::Misplaced);
         }
-        let mut next = self.at(Place::Ending);
-        if x == b"epsilon".as_slice() {
-            return Ok(next);
+        if x.bytes == b"epsilon".as_slice() {
+            self.place = Place::Ending;
+            return Ok(());
         }
-        let n = names::number_of(words, self.words, x).ok_or(Refusal::TooMany)?;
-        next.words = n.count;
-        next.side = n.number as u8;
-        next.kind = self.kind + 1;
-        Ok(next)
+        let number = self.words.number_of(x.bytes).ok_or(Refusal::TooMany)?;
+        self.place = Place::Ending;
+        self.side = number as u8;
+        self.kind = RightKind::Close;
+        Ok(())
     }
 
     // A `#` word.
-    fn word(self, x: &[u8], words: &mut [u8]) -> Result<Reader, Refusal>
-        requires held { Held self }
-        requires slots { length words.old ≡ words_size }
-        requires named { is_name x.now ≡ true }
-        ensures { (a c d : List ℕ) → Takes (λ s. word s x.now s.place) self
-            a words.old c d result a words.new c d }
+    fn word(&mut self, x: Name<'_>) -> Result<(), Refusal>
+        ensures { Takes (λ s. word s x.entry.bytes.now s.place) self.old result self.new }
     {
-        let place = self.place;
-        match place {
-            Place::Right => self.right_word(x, words),
+        match self.place {
+            Place::Right => self.right_word(x),
             _ => Err(Refusal::Misplaced),
         }
     }
 
     // `->`
-    fn arrow(self) -> Result<Reader, Refusal>
-        ensures { (a b c d : List ℕ) → Takes (λ s. arrow s s.place) self a b c d result a b c d }
+    fn arrow(&mut self) -> Result<(), Refusal>
+        ensures { Takes (λ s. arrow s s.place) self.old result self.new }
     {
-        let place = self.place;
-        match place {
+        match self.place {
             Place::Left => {
-                let mut next = self.at(Place::Right);
-                next.left = self.side;
-                next.side = 0;
-                Ok(next)
+                self.place = Place::Right;
+                self.left = self.side;
+                self.side = 0;
+                Ok(())
             }
             _ => Err(Refusal::Misplaced),
         }
     }
 
     // `^`
-    fn mark(self) -> Result<Reader, Refusal>
-        ensures { (a b c d : List ℕ) → Takes (λ s. mark s s.place) self a b c d result a b c d }
+    fn mark(&mut self) -> Result<(), Refusal>
+        ensures { Takes (λ s. mark s s.place) self.old result self.new }
     {
-        let place = self.place;
-        match place {
+        match self.place {
             Place::Between => {
-                let mut next = self.at(Place::Marked);
-                next.kind = 2;
-                Ok(next)
+                self.place = Place::Marked;
+                self.marked = true;
+                Ok(())
             }
             _ => Err(Refusal::Misplaced),
         }
     }
 
     // The end of the list of events.
-    fn close_events(self) -> Result<Reader, Refusal>
-        ensures { (a b c d : List ℕ) → self.place ≡ Place.Events → Takes (λ s. stop s s.place) self a b c d result a b c d }
+    fn close_events(&mut self) -> Result<(), Refusal>
+        requires { self.old.place ≡ Place.Events }
+        ensures { Takes (λ s. stop s s.place) self.old result self.new }
     {
-        if self.symbols == 0 {
+        if self.symbols.count == 0 {
             return Err(Refusal::Misplaced);
         }
-        let mut next = self.at(Place::Between);
-        next.events = self.symbols;
-        Ok(next)
+        self.place = Place::Between;
+        self.events = self.symbols.count;
+        Ok(())
     }
 
     // The end of a rule: its contents.
-    fn close_rule(self, contents: &mut [u8]) -> Result<Reader, Refusal>
-        requires room { 4 * self.rules + 4 ≤ length contents.old }
-        ensures { (a b d : List ℕ) (s : Grammar.Reading) → Closed s.place → Keeps s self a b contents.old d
-            → TakenIs (close_rule s (rule_at s.place)) result a b contents.new d }
+    fn close_rule(&mut self) -> Result<(), Refusal>
+        requires { MayClose self.old.place self.old.side }
+        ensures { Takes (λ s. stop s s.place) self.old result self.new }
     {
-        let at = 4 * self.rules;
-        contents[at] = self.left;
-        contents[at + 1] = self.kind % 2;
-        contents[at + 2] = self.side;
-        contents[at + 3] = self.kind / 2;
-        let mut next = self.at(Place::Between);
-        next.rules = self.rules + 1;
-        next.left = 0;
-        next.side = 0;
-        next.kind = 0;
-        Ok(next)
+        self.contents[self.rules] = [
+            self.left,
+            self.kind.byte(),
+            self.side,
+            u8::from(self.marked),
+        ];
+        self.place = Place::Between;
+        self.rules += 1;
+        self.left = 0;
+        self.side = 0;
+        self.kind = RightKind::Put;
+        self.marked = false;
+        Ok(())
     }
 
     // `.`
-    fn stop(self, contents: &mut [u8]) -> Result<Reader, Refusal>
-        requires held { Held self }
-        requires room { length contents.old ≡ contents_size }
-        ensures { (a b d : List ℕ) → Takes (λ s. stop s s.place) self
-            a b contents.old d result a b contents.new d }
+    fn stop(&mut self) -> Result<(), Refusal>
+        ensures { Takes (λ s. stop s s.place) self.old result self.new }
     {
-        let place = self.place;
-        match place {
+        match self.place {
             Place::Events => self.close_events(),
             Place::Right => {
                 if self.side == 0 {
                     return Err(Refusal::Misplaced);
                 }
-                self.close_rule(contents)
+                self.close_rule()
             }
-            Place::Ending => self.close_rule(contents),
+            Place::Ending => self.close_rule(),
             _ => Err(Refusal::Misplaced),
         }
     }
 
     // A token of this kind, with this name.
-    pub(crate) fn token(
-        self,
-        kind: Option<Kind>,
-        x: &[u8],
-        symbols: &mut [u8],
-        words: &mut [u8],
-        contents: &mut [u8],
-        bodies: &mut [u8],
-    ) -> Result<Reader, Refusal>
-        requires held { Held self }
-        requires named { Named kind x.now }
-        requires sizes { (length symbols.old ≡ symbols_size) × (length words.old ≡ words_size) × (length contents.old ≡ contents_size)
-            × (length bodies.old ≡ bodies_size) }
-        ensures { Takes (λ s. after_run s (token_as kind x.now)) self
-            symbols.old words.old contents.old bodies.old result
-            symbols.new words.new contents.new bodies.new }
+    pub(crate) fn token(&mut self, kind: Option<Kind>, x: &[u8]) -> Result<(), Refusal>
+        requires { Named kind x.now }
+        ensures { Takes (λ s. after_run s (token_as kind x.now)) self.old result self.new }
     {
         match kind.ok_or(Refusal::NoToken)? {
-            Kind::Name => self.name(x, symbols, bodies),
-            Kind::Word => self.word(x, words),
+            Kind::Name => self.name(Name { bytes: x }),
+            Kind::Word => self.word(Name { bytes: x }),
             Kind::Arrow => self.arrow(),
-            Kind::Stop => self.stop(contents),
+            Kind::Stop => self.stop(),
             Kind::Mark => self.mark(),
         }
     }

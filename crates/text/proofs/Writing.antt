@@ -2,24 +2,24 @@
 -- Assumes nothing.
 use Prim.Native.Nat.{ℕ, ◌+◌, ◌*◌, ◌≤◌, ◌<◌}
 use mathlib.Core.Path.{◌≡◌, refl, sym, ap, ◌∙◌}
-use Rattle.std.specs.Prelude.{Some, Result, Ok, Err}
+use Rattle.std.specs.Prelude.{Some, Result, Ok, Err, map}
 use mathlib.Core.List.{List, [], ◌∷◌, ◌++◌, append-nil, flat_map}
 use native.Mathlib.Omega.{arith}
 use lib.ListN.{length, set, take, drop, length-append}
 use lib.Seq.{sets-eq, paste, take-append_seam, drop-append-add, drop-drop, length-take-le, take_all}
 use borrow.Author.Tests.{le-leb, lt-leb}
 use Rattle.rewriting.specs.Lists.{over}
-use Rattle.rewriting.specs.Rules.{symbols_of}
+use Rattle.rewriting.specs.Rules.{symbols_of, Rule}
 use Rattle.layout.specs.Image.{contents, body, image_of}
 use Rattle.layout.specs.Refusals.{refusal}
 use Rattle.layout.proofs.Image.{length-contents, length_image}
-use Rattle.parser.specs.declared.Reader.{Reader}
 use Rattle.grammar.specs.declared.TextError.{TextError}
 use Rattle.layout.specs.Refusals.{number}
 use Rattle.grammar.specs.Grammar.{Place, Between, Reading, rule_set_of}
 use Rattle.grammar.specs.Read.{ReadText, read_text, names_of, Outcome, read_checks, written, unless, read_of}
 use Rattle.grammar.specs.Sound.{EventsKnown, Sound}
-use Rattle.parser.specs.Held.{rule_at, bodies_of, Keeps, FinishedIs, Small}
+use Rattle.parser.specs.Held.{rule_at, bodies_of, Numbers, Keeps}
+use Rattle.parser.specs.Reads.{FinishedIs, Small}
 use Rattle.grammar.proofs.Sound.{place_sound}
 use Rattle.parser.proofs.Keeping.{
   prefix-take,
@@ -28,6 +28,8 @@ use Rattle.parser.proofs.Keeping.{
   events_number,
   rules-number,
   bodies_number,
+  symbol_bytes,
+  word_bytes,
 }
 use Rattle.parser.proofs.Room.{old_bodies}
 
@@ -52,9 +54,15 @@ pub over_four : (area : List ℕ) (w x y z : ℕ) → 4 ≤ length area
 unfolding over
 over_four area w x y z room = sets-eq (w ∷ x ∷ y ∷ z ∷ []) area 0 room
 
+-- the contents of rules, one behind another
+contents_flat : (rules : List Rule) → flat_map (λ (x : List ℕ). x) (map contents rules) ≡ flat_map contents rules
+unfolding flat_map
+contents_flat [] = refl
+contents_flat (r ∷ rules) = ap (λ (v : List ℕ). contents r ++ v) (contents_flat rules)
+
 -- The image.
-module _ {s : Reading} {r : Reader} {a b c d : List ℕ} (sound : Sound s) (here : s.place ≡ Between) (k : Keeps s r a b c d) (image : List ℕ)
-    (room : 1284 ≤ length image) where
+module _ {s : Reading} {r : Numbers} {a b c : List (List ℕ)} {d : List ℕ} (sound : Sound s) (here : s.place ≡ Between)
+    (k : Keeps s r a b c d) (image : List ℕ) (room : 1284 ≤ length image) where
   bodies_there : bodies_of s ≡ flat_map body s.rules
   unfolding rule_at body symbols_of
   bodies_there =
@@ -90,7 +98,7 @@ module _ {s : Reading} {r : Reader} {a b c d : List ℕ} (sound : Sound s) (here
       (paste
       (set (set (set (set image 0 r.symbols) 1 r.rules) 2 r.words) 3 r.events)
       4
-      (take (4 * r.rules) c)
+      (flat_map (λ (x : List ℕ). x) (take r.rules c))
       (4 * r.rules))
       (4 + 4 * r.rules)
       (take r.bodies d)
@@ -103,10 +111,13 @@ module _ {s : Reading} {r : Reader} {a b c d : List ℕ} (sound : Sound s) (here
       omega (arith, rules-number s k.numbers, length-contents s.rules)
       in
       let m : r.bodies ≡ length (bodies_of s) = bodies_number s k.numbers in
-      let all_contents : take (4 * r.rules) c ≡ flat_map contents s.rules =
-      prefix-take (flat_map contents s.rules) c (4 * r.rules) n k.contents_begin
+      let all_contents : flat_map (λ (x : List ℕ). x) (take r.rules c) ≡ flat_map contents s.rules =
+      ap (λ (n : ℕ). flat_map (λ (x : List ℕ). x) (take n c)) (rules-number s k.numbers)
+      ∙ ap (flat_map (λ (x : List ℕ). x)) k.contents_begin ∙ contents_flat s.rules
       in
-      let all_bodies : take r.bodies d ≡ flat_map body s.rules = prefix-take (bodies_of s) d r.bodies m k.bodies_begin ∙ bodies_there in
+      let all_bodies : take r.bodies d ≡ flat_map body s.rules =
+      prefix-take (bodies_of s) d r.bodies m k.bodies_begin ∙ bodies_there
+      in
       let size : length (flat_map body s.rules) ≡ r.bodies = omega (arith, m, ap length bodies_there) in
       let whole_contents : take (4 * r.rules) (flat_map contents s.rules) ≡ flat_map contents s.rules =
       take_all (4 * r.rules) (flat_map contents s.rules) (omega (arith, n))
@@ -121,7 +132,8 @@ module _ {s : Reading} {r : Reader} {a b c d : List ℕ} (sound : Sound s) (here
         over-paste head image (flat_map contents s.rules) 4 (4 * r.rules) refl (omega (arith, n)),
         whole_contents,
         all_bodies,
-        over-paste (head ++ flat_map contents s.rules) image (flat_map body s.rules) (4 + 4 * r.rules) r.bodies third (omega (arith, size)),
+        over-paste (head ++ flat_map contents s.rules) image (flat_map body s.rules) (4 + 4 * r.rules) r.bodies third
+            (omega (arith, size)),
         whole_bodies,
       )
       (ap (λ (l : List ℕ). over l image) numbers_there)
@@ -174,34 +186,34 @@ module _ (text image names : List ℕ) where
     unfolding read_of read_checks refusal unless
     passed = rw (le-leb (length text) 16384 fits, le-leb 1284 (length image) image_room, le-leb 1200 (length names) names_room)
 
-    pub text_bad : (a b c d : List ℕ) (e : TextError) (answer : Result Reader TextError) → answer ≡ Err e
-        → FinishedIs (read_text text) answer a b c d
+    pub text_bad : (r : Numbers) (a b c : List (List ℕ)) (d : List ℕ) (e : TextError) (answer : Result (Unit {0}) TextError)
+        → answer ≡ Err e → FinishedIs (read_text text) answer r a b c d
         → read_of text image names ≡ record { answer = Err (number e.refusal, e.place); image = image; names = names }
     unfolding written
-    text_bad a b c d e answer told h = passed ∙ go (read_text text) (rw told at h)
+    text_bad r a b c d e answer told h = passed ∙ go (read_text text) (rw told at h)
       where
-        go : (t : ReadText) → FinishedIs t (Err e) a b c d
+        go : (t : ReadText) → FinishedIs t (Err e) r a b c d
             → written t image names ≡ record { answer = Err (number e.refusal, e.place); image = image; names = names }
         go (Ok s) g = absurd g
         go (Err (m, at)) g = λ i. record { answer = Err (sym g.0 i, sym g.1 i); image = image; names = names }
 
     -- a good text, with what is kept of it
-    pub record IsGood (r : Reader) (a b c d : List ℕ) : Type 0 where
+    pub record IsGood (r : Numbers) (a b c : List (List ℕ)) (d : List ℕ) : Type 0 where
       pub reading : Reading
       pub read_as : read_text text ≡ Ok reading
       pub sound : Sound reading
       pub complete : reading.place ≡ Between
       pub keeps : Keeps reading r a b c d
 
-    pub text_good : (r : Reader) (a b c d : List ℕ) (answer : Result Reader TextError) → answer ≡ Ok r
-        → FinishedIs (read_text text) answer a b c d → IsGood r a b c d
+    pub text_good : (r : Numbers) (a b c : List (List ℕ)) (d : List ℕ) (answer : Result (Unit {0}) TextError) → answer ≡ Ok tt
+        → FinishedIs (read_text text) answer r a b c d → IsGood r a b c d
     text_good r a b c d answer told h = go (read_text text) refl (rw told at h)
       where
-        go : (t : ReadText) → read_text text ≡ t → FinishedIs t (Ok r) a b c d → IsGood r a b c d
+        go : (t : ReadText) → read_text text ≡ t → FinishedIs t (Ok tt) r a b c d → IsGood r a b c d
         go (Ok s) e g = record { reading = s; read_as = e; sound = g.0; complete = g.1; keeps = g.2 }
         go (Err (m, at)) e g = absurd g
 
-    pub good_outcome : {r : Reader} {a b c d : List ℕ} (g : IsGood r a b c d)
+    pub good_outcome : {r : Numbers} {a b c : List (List ℕ)} {d : List ℕ} (g : IsGood r a b c d)
         → read_of text image names
         ≡ record {
           answer = Ok (length (image_of (rule_set_of g.reading)));
@@ -211,9 +223,11 @@ module _ (text image names : List ℕ) where
     unfolding written
     good_outcome g = passed ∙ ap (λ (t : ReadText). written t image names) g.read_as
 
-    pub good_names : {r : Reader} {a b c d : List ℕ} (g : IsGood r a b c d) → a ++ b ≡ names_of g.reading
+    pub good_names : {r : Numbers} {a b c : List (List ℕ)} {d : List ℕ} (g : IsGood r a b c d)
+        → flat_map (λ (x : List ℕ). x) a ++ flat_map (λ (x : List ℕ). x) b ≡ names_of g.reading
     unfolding names_of
-    good_names g = rw (g.keeps.symbol-slots, g.keeps.word-slots)
+    good_names g =
+        rw (symbol_bytes g.keeps, word_bytes g.keeps)
 
 -- an outcome, part by part
 pub parts : (o : Outcome) (answer : Result ℕ (ℕ × ℕ)) (image names : List ℕ)

@@ -1,7 +1,7 @@
 // The reader of rule texts.
 #![tactic(auto)]
 
-ghost use Rattle.std.specs.Prelude.{ℕ, ◌+◌, ◌≤◌, ◌≡◌, List, ◌++◌, length};
+ghost use Rattle.std.specs.Prelude.{ℕ, ◌+◌, ◌≤◌, ◌≡◌, List, ◌++◌, flat_map, length};
 ghost use Rattle.std.proofs.Math.Seq.{paste};
 ghost use Rattle.rewriting.specs.Lists.{over};
 ghost use Rattle.layout.specs.Image.{image_most, image_of};
@@ -9,44 +9,42 @@ ghost use Rattle.grammar.specs.Names.{symbols_size, words_size, names_size};
 ghost use Rattle.grammar.specs.Grammar.{Between, Reading, rule_set_of};
 ghost use Rattle.grammar.specs.Read.{answered, read_of};
 ghost use Rattle.grammar.specs.Sound.{Sound};
-ghost use Rattle.parser.specs.Held.{contents_size, bodies_size, Keeps, Small};
+ghost use Rattle.parser.specs.Reads.{numbers_in, KeptIn, Small};
 
-use grammar::{NAMES_BYTES, SYMBOLS_BYTES, TEXT_BYTES, TextError, WORDS_BYTES};
+use grammar::{NAMES_BYTES, SLOT_BYTES, SYMBOLS_BYTES, TEXT_BYTES, TextError};
 use layout::{IMAGE_BYTES, Refusal};
-use parser::{BODIES_BYTES, CONTENTS_BYTES, Reader};
+use parser::{Reader, SYMBOLS, WORDS};
 
 // The image of what has been read. Returns its length.
-fn write_image(
-    reader: Reader,
-    contents: &[u8; CONTENTS_BYTES],
-    bodies: &[u8; BODIES_BYTES],
-    image: &mut [u8],
-) -> usize
-    requires small { Small reader }
+fn write_image(reader: &Reader, image: &mut [u8]) -> usize
+    requires small { Small (numbers_in reader.now) }
     requires room { image_most ≤ length image.old }
-    ensures { (a b : List ℕ) (s : Reading) → Sound s → s.place ≡ Between
-        → Keeps s reader a b contents.now bodies.now
+    ensures { (s : Reading) → Sound s → s.place ≡ Between → KeptIn s reader.now
         → (result ≡ length (image_of (rule_set_of s))) × (image.new ≡ over (image_of (rule_set_of s)) image.old) }
 {
     let rules = reader.rules;
     let size = reader.bodies;
     let first = 4 + 4 * rules;
-    image[0] = reader.symbols as u8;
+    image[0] = reader.symbols.count as u8;
     image[1] = rules as u8;
-    image[2] = reader.words as u8;
+    image[2] = reader.words.count as u8;
     image[3] = reader.events as u8;
-    image[4..first].copy_from_slice(&contents[..4 * rules]);
-    image[first..first + size].copy_from_slice(&bodies[..size]);
+    image[4..first].copy_from_slice(reader.contents[..rules].as_flattened());
+    image[first..first + size].copy_from_slice(&reader.body_bytes[..size]);
     first + size
 }
 
 // The name slots: 32 of symbols, 16 of words.
-fn write_names(symbols: &[u8; SYMBOLS_BYTES], words: &[u8; WORDS_BYTES], names: &mut [u8])
+fn write_names(
+    symbols: &[[u8; SLOT_BYTES]; SYMBOLS],
+    words: &[[u8; SLOT_BYTES]; WORDS],
+    names: &mut [u8],
+)
     requires { names_size ≤ length names.old }
-    ensures { names.new ≡ over (symbols.now ++ words.now) names.old }
+    ensures { names.new ≡ over (flat_map (λ x. x) symbols.now ++ flat_map (λ x. x) words.now) names.old }
 {
-    names[..SYMBOLS_BYTES].copy_from_slice(symbols);
-    names[SYMBOLS_BYTES..NAMES_BYTES].copy_from_slice(words);
+    names[..SYMBOLS_BYTES].copy_from_slice(symbols.as_flattened());
+    names[SYMBOLS_BYTES..NAMES_BYTES].copy_from_slice(words.as_flattened());
 }
 
 // Reads a rule text: its image into one area, its name slots into the other. Both are made beside them and written when the
@@ -74,12 +72,9 @@ pub fn read_rules(text: &[u8], image: &mut [u8], names: &mut [u8]) -> Result<usi
             place: 0,
         });
     }
-    let mut symbols: [u8; SYMBOLS_BYTES] = [0; SYMBOLS_BYTES];
-    let mut words: [u8; WORDS_BYTES] = [0; WORDS_BYTES];
-    let mut contents: [u8; CONTENTS_BYTES] = [0; CONTENTS_BYTES];
-    let mut bodies: [u8; BODIES_BYTES] = [0; BODIES_BYTES];
-    let reader = parser::read_tokens(text, &mut symbols, &mut words, &mut contents, &mut bodies)?;
-    let size = write_image(reader, &contents, &bodies, image);
-    write_names(&symbols, &words, names);
+    let mut reader = Reader::new();
+    reader.read_tokens(text)?;
+    let size = write_image(&reader, image);
+    write_names(&reader.symbols.slots, &reader.words.slots, names);
     Ok(size)
 }

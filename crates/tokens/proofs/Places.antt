@@ -3,7 +3,7 @@
 use Prim.Native.Nat.{ℕ, zero, suc, ◌+◌, ◌≤◌}
 use mathlib.Core.Path.{◌≡◌, refl, sym, ap, ◌∙◌}
 use mathlib.Core.Bool.{Bool, true, false, cond, not, ◌&&◌, and-false}
-use mathlib.Core.List.{List, ◌∷◌}
+use mathlib.Core.List.{List, [], ◌∷◌}
 use native.Mathlib.Omega.{arith}
 use lib.Dec.{eqb, ltb}
 use lib.ListN.{length, get_or, take, drop}
@@ -15,6 +15,7 @@ use Rattle.std.specs.Cmp.Lexicographic.{pointwise}
 use Rattle.rewriting.specs.Lists.{same}
 use Rattle.rewriting.proofs.Lists.{same_eq, eq_same}
 use Rattle.grammar.specs.Lookup.{slot_at}
+use Rattle.tokens.specs.Numbered.{slot_among}
 
 -- the place of the first that passes
 abbrev pub first_place : {A : Type 0} → (A → Bool) → List A → Option ℕ
@@ -55,14 +56,15 @@ key-same key last slot = go (same slot key) refl
         no true f = sym e ∙ eq_same slot key (sym (same_eq key slot f))
         no false f = refl
 
-pub slot_place : (key : List ℕ) (last n k : ℕ) (area : List ℕ) → n ≤ k
-    → first_place (is_key key last) (take n (first_chunks 25 k area)) ≡ slot_at key n area
-unfolding slot_at
-slot_place key last zero k area h = refl
-slot_place key last (suc n) zero area h = absurd (omega arith)
-slot_place key last (suc n) (suc k) area h =
-    rw (
-      next_place (is_key key last) (take 25 area) (take n (first_chunks 25 k (drop 25 area))),
-      key-same key last (take 25 area),
-      slot_place key last n k (drop 25 area) (omega arith),
-    )
+pub slot_place : (key : List ℕ) (last : ℕ) (slots : List (List ℕ)) → first_place (is_key key last) slots ≡ slot_among key slots
+unfolding slot_among
+slot_place key last [] = refl
+slot_place key last (s ∷ slots) = rw (next_place (is_key key last) s slots, key-same key last s, slot_place key last slots)
+
+-- the first slots of an area, taken one by one
+pub slots_taken : (key : List ℕ) (n k : ℕ) (area : List ℕ) → n ≤ k
+    → slot_among key (take n (first_chunks 25 k area)) ≡ slot_at key n area
+unfolding slot_among slot_at
+slots_taken key zero k area h = refl
+slots_taken key (suc n) zero area h = absurd (omega arith)
+slots_taken key (suc n) (suc k) area h = rw (slots_taken key n k (drop 25 area) (omega arith))

@@ -27,7 +27,8 @@ use Rattle.tokens.proofs.TokenOf.{name_of, told}
 
 -- the byte at a place, and a space behind the last
 byte_here : (t : List ℕ) (i : ℕ) → i < length t → get_or t i 0 ≡ get_or t i 32
-byte_here t i h = let e : get_or t i 0 ∷ drop (suc i) t ≡ get_or t i 32 ∷ drop (suc i) t = sym (drop-cons t i 0 h) ∙ drop-cons t i 32 h in
+byte_here t i h =
+    let e : get_or t i 0 ∷ drop (suc i) t ≡ get_or t i 32 ∷ drop (suc i) t = sym (drop-cons t i 0 h) ∙ drop-cons t i 32 h in
     ap (λ (l : List ℕ). get_or l 0 0) e
 
 -- Two bytes that may be in a name.

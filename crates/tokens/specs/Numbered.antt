@@ -1,18 +1,26 @@
--- The number of a name, as the code answers it.
-use Rattle.std.specs.Prelude.{ℕ, ◌≤◌, ◌≡◌, true, List, length, Option, None, Some}
-use Rattle.rewriting.specs.Lists.{all}
-use Rattle.grammar.specs.Tokens.{is_name}
-use Rattle.grammar.specs.Names.{slots, Numbered, numbered}
-use Rattle.tokens.specs.declared.Numbered as numbered_as
+-- Slots one by one, the place of one among them, and the number of a name, as the code answers it.
+use Rattle.std.specs.Prelude.{ℕ, suc, ◌-◌, ◌≤◌, ◌≡◌, cond, List, [], ◌∷◌, ◌++◌, length, map, replicate}
+use Rattle.std.specs.Prelude.{Option, None, Some, option_map}
+use Rattle.rewriting.specs.Lists.{same}
+use Rattle.grammar.specs.Names.{slot_size, slot, Numbered, numbered}
 
--- the code's number of a name, and the slots then, are the definition's
-abbrev pub NumberedIs : ℕ → List (List ℕ) → Option Numbered → Option numbered_as.Numbered → List ℕ → Type 0
-NumberedIs most names None None area = area ≡ slots most names
-NumberedIs most names None (Some r) area = ⊥
-NumberedIs most names (Some n) None area = ⊥
-NumberedIs most names (Some n) (Some r) area = (r.number ≡ n.number) × (r.count ≡ length n.names) × (area ≡ slots most n.names)
+-- n slots, each a list of its own; all their bytes are `slots n names`
+unfoldable pub slots_of : ℕ → List (List ℕ) → List (List ℕ)
+slots_of n names = map slot names ++ replicate (n - length names) (replicate slot_size 0)
 
-abbrev pub NumberedAs : ℕ → List (List ℕ) → ℕ → List ℕ → List ℕ → Option numbered_as.Numbered → List ℕ → Type 0
-NumberedAs most names count area x r area' =
-    area ≡ slots most names → count ≡ length names → length names ≤ most → all is_name names ≡ true → is_name x ≡ true
-    → NumberedIs most names (numbered most names x) r area'
+-- the first slot that is this one
+unfoldable pub slot_among : List ℕ → List (List ℕ) → Option ℕ
+slot_among key [] = None
+slot_among key (s ∷ slots) = cond (same key s) (Some 0) (option_map suc (slot_among key slots))
+
+-- the code's number of a name, how many names there are then and their slots are the definition's
+abbrev pub NumberedIs : ℕ → List (List ℕ) → Option Numbered → Option ℕ → ℕ → List (List ℕ) → Type 0
+NumberedIs most names None None count slots = (count ≡ length names) × (slots ≡ slots_of most names)
+NumberedIs most names None (Some i) count slots = ⊥
+NumberedIs most names (Some n) None count slots = ⊥
+NumberedIs most names (Some n) (Some i) count slots = (i ≡ n.number) × (count ≡ length n.names) × (slots ≡ slots_of most n.names)
+
+abbrev pub NumberedAs : ℕ → List (List ℕ) → ℕ → List (List ℕ) → List ℕ → Option ℕ → ℕ → List (List ℕ) → Type 0
+NumberedAs most names count slots x i count' slots' =
+    slots ≡ slots_of most names → count ≡ length names → length names ≤ most
+    → NumberedIs most names (numbered most names x) i count' slots'

@@ -5,7 +5,7 @@ ghost use Rattle.std.specs.Prelude.{◌≡◌};
 ghost use Rattle.grammar.specs.FirstRun.{first_run};
 ghost use Rattle.grammar.specs.Lookup.{symbol_named};
 
-use grammar::{NAME_BYTES, SYMBOLS_BYTES};
+use grammar::{NAME_BYTES, SLOT_BYTES, SYMBOLS_BYTES};
 use std::ops::Range;
 
 pub mod bytes;
@@ -19,13 +19,6 @@ pub enum Kind {
     Arrow,
     Stop,
     Mark,
-}
-
-// The number of a name, and how many names there are then.
-#[derive(Clone, Copy)]
-pub struct Numbered {
-    pub number: usize,
-    pub count: usize,
 }
 
 // The name reader: the first run of a part of a text, where it begins and ends in it. Where there is none, both are its end.
@@ -44,5 +37,6 @@ pub fn symbol(names: &[u8], x: &[u8]) -> Option<usize>
     if x.is_empty() || NAME_BYTES < x.len() || names.len() < SYMBOLS_BYTES {
         return None;
     }
-    names::find(names, 32, &names::slot_of(x), x.len())
+    let (slots, _) = names.as_chunks::<SLOT_BYTES>();
+    names::find(&slots[..32], &names::slot_of(x), x.len())
 }

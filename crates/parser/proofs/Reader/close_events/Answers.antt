@@ -1,15 +1,20 @@
 -- `parser::Reader::close_events` meets its contract.
-use mathlib.Core.Path.{sym, ◌∙◌}
-use Rattle.parser.proofs.Places.{place_at}
-use Rattle.parser.proofs.Keeping.{place_number}
-use Rattle.parser.proofs.Taking.{no_events, some_events}
+use Rattle.std.proofs.Math.Logic.{∥∥₁_map}
+use Rattle.grammar.proofs.Sound.{sound_stop}
+use Rattle.parser.proofs.Keeping.{here_at}
+use Rattle.parser.proofs.Taking.{no_events, some_events, still_held}
 use Rattle.parser.proofs.Reader.close_events.Goals as goal
 
 pub returns-then-self-eq0 : goal.returns-then-self-eq0
-returns-then-self-eq0 c =
-    λ a b z d told s sound k. no_events k (place_at _ s.place (sym (place_number s k.numbers) ∙ told)) c.if-self-eq0.true
+returns-then-self-eq0 c = λ s sound k. no_events k (here_at k _ c.requires) c.if-self-eq0.true
+
+pub invariant_of-self : goal.invariant_of-self
+invariant_of-self c =
+    record {
+      held = ∥∥₁_map c.args.self.now.held (λ h.
+          still_held _ (sound_stop h.reading h.reading.place h.sound h.sound.here)
+          (some_events h.keeps (here_at h.keeps _ c.requires) c.if-self-eq0.false));
+    }
 
 pub returns : goal.returns
-returns c =
-    λ a b z d told s sound k. rw c.at-next.ensures
-    (some_events k (place_at _ s.place (sym (place_number s k.numbers) ∙ told)) c.if-self-eq0.false)
+returns c = λ s sound k. some_events k (here_at k _ c.requires) c.if-self-eq0.false

@@ -1,26 +1,37 @@
 -- `parser::Reader::close_rule` meets its contract.
-use Prim.Native.Nat.{◌*◌, ◌/◌, ◌%◌}
 use native.Mathlib.Omega.{arith}
-use lib.ListN.{length-set}
-use Rattle.grammar.specs.Grammar.{close_rule}
-use Rattle.parser.proofs.Keeping.{sets_four, keeps_rule}
+use Rattle.std.proofs.Math.Logic.{∥∥₁_elim, ∥∥₁_map}
+use Rattle.std.proofs.Math.Bridge.{le_prop}
+use Rattle.layout.specs.Image.{mark_byte}
+use Rattle.grammar.proofs.Sound.{sound_stop}
+use Rattle.parser.specs.Held.{Held}
+use Rattle.parser.proofs.Room.{close_room}
+use Rattle.parser.proofs.Taking.{rule_closed, still_held}
 use Rattle.parser.proofs.Reader.close_rule.Goals as goal
 
-pub bounds-contents-at : goal.bounds-contents-at
-bounds-contents-at c = omega (arith, c.requires)
+pub offset_bounds-self-self : goal.offset_bounds-self-self
+offset_bounds-self-self c =
+    let few = ∥∥₁_elim c.args.self.now.held le_prop (λ h. close_room h c.requires) in omega (arith, few)
 
-pub bounds-contents-at-2 : goal.bounds-contents-at-2
-bounds-contents-at-2 c = rw length-set (omega (arith, c.requires))
+pub bounds-self-self : goal.bounds-self-self
+bounds-self-self c = ∥∥₁_elim c.args.self.now.held le_prop (λ h. close_room h c.requires)
 
-pub bounds-contents-at-3 : goal.bounds-contents-at-3
-bounds-contents-at-3 c = rw (length-set, length-set) (omega (arith, c.requires))
+pub overflow_add-self : goal.overflow_add-self
+overflow_add-self c =
+    let few = ∥∥₁_elim c.args.self.now.held le_prop (λ h. close_room h c.requires) in omega (arith, few)
 
-pub bounds-contents-at-4 : goal.bounds-contents-at-4
-bounds-contents-at-4 c = rw (length-set, length-set, length-set) (omega (arith, c.requires))
+pub invariant_of-self : goal.invariant_of-self
+unfolding mark_byte
+invariant_of-self c =
+    record {
+      held = ∥∥₁_map c.args.self.now.held (λ h.
+          still_held _ (sound_stop h.reading h.reading.place h.sound h.sound.here)
+          (rule_closed h.keeps _ _ c.requires c.byte.ensures c.from.ensures
+          (rw h.keeps.contents_size_lem (close_room h c.requires))));
+    }
 
 pub returns : goal.returns
-unfolding close_rule
-returns c =
-    let lent = c.args in
-    let four = sets_four lent.contents.now (4 * lent.self.rules) lent.self.left (lent.self.kind % 2) lent.self.side (lent.self.kind / 2) in
-    λ a b d s closed k. rw c.at-next.ensures (rw (← four) at (keeps_rule k closed c.requires.room))
+unfolding mark_byte
+returns c = λ s sound k.
+    let h : Held _ _ _ _ _ = record { reading = s; sound = sound; keeps = k } in
+    rule_closed k _ _ c.requires c.byte.ensures c.from.ensures (rw k.contents_size_lem (close_room h c.requires))
