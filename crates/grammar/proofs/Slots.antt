@@ -1,16 +1,16 @@
 -- Name slots: how the code makes and keeps them. What is found in them: Lookup.antt.
 -- Assumes nothing.
-use Prim.Native.Nat.{ℕ, zero, suc, ◌+◌, ◌*◌, ◌-◌, ◌≤◌, ◌<◌}
+use Prim.Native.Nat.{ℕ, zero, suc, ◌+◌, ◌*◌, ◌-◌, ◌≤◌}
 use mathlib.Core.Path.{◌≡◌, refl, sym, ap, ◌∙◌}
 use mathlib.Core.Bool.{Bool, true, false, ◌&&◌}
 use mathlib.Core.List.{List, [], ◌∷◌, ◌++◌, flat_map}
 use native.Mathlib.Omega.{arith}
 use lib.Dec.{leb}
 use lib.ListN.{length, get_or, set, take, drop, replicate, length-append, length-replicate}
-use lib.Seq.{paste, take-length, take_at, drop-append-add, take-append_seam, take_all}
+use lib.Seq.{paste, take-length, take_at, take-append_seam}
 use borrow.Author.Tests.{leb-true}
 use Rattle.rewriting.specs.Lists.{all, same}
-use Rattle.rewriting.proofs.Lists.{flat_map_snoc, and_left, and_right, same_eq, eq_same}
+use Rattle.rewriting.proofs.Lists.{and_left, and_right, same_eq, eq_same}
 use Rattle.grammar.specs.Tokens.{letter, name_byte, is_name}
 use Rattle.grammar.specs.Names.{slot, slots}
 
@@ -82,21 +82,3 @@ unfolding slots
 length-slots n names few e =
     let m : length (flat_map slot names) ≡ 25 * length names = length_used names e in
     simp (length-append, length-replicate) (omega arith)
-
--- one more name in the next slot
-pub slots_more : (n : ℕ) (names : List (List ℕ)) (x : List ℕ) → all is_name names ≡ true → is_name x ≡ true → length names < n
-    → paste (slots n names) (25 * length names) (slot x) 25 ≡ slots n (names ++ x ∷ [])
-unfolding slots
-slots_more n names x e named room =
-    let used : List ℕ = flat_map slot names in
-    let m : length used ≡ 25 * length names = length_used names e in
-    let before : take (25 * length names) (used ++ replicate (25 * (n - length names)) 0)
-    ≡ used = take_at used (replicate (25 * (n - length names)) 0) (25 * length names) m in
-    let new : take 25 (slot x) ≡ slot x = take_all 25 (slot x) (omega (arith, length-slot x (name_short x named))) in
-    let at : 25 * length names + 25 ≡ length used + 25 = omega arith in
-    let left : 25 * (n - length names) - 25 ≡ 25 * (n - length (names ++ x ∷ [])) = rw length-append (omega arith) in
-    let behind : drop (25 * length names + 25) (used ++ replicate (25 * (n - length names)) 0)
-    ≡ replicate (25 * (n - length (names ++ x ∷ []))) 0 =
-    rw (at, drop-append-add) (drop_zeros 25 (25 * (n - length names)) ∙ ap (λ (k : ℕ). replicate k 0) left)
-    in
-    rw (before, new, behind, flat_map_snoc slot names x)

@@ -72,12 +72,6 @@ passed_lent capacity image table m e =
       holding = passed_holding capacity image table m e;
     }
 
-pub passed_verdict : (capacity : ℕ) (image table : List ℕ) (m : Monitor) → refusal (lent_checks capacity image table m) ≡ None
-    → (v : ℕ) → m.head.verdict ≡ Some v → v < 16
-passed_verdict capacity image table m e =
-    let l : Lent capacity image table m = passed_lent capacity image table m e in
-    holding_verdict capacity image l.good m l.holding
-
 -- they have passed where a call is accepted
 pub accepted_passed : (capacity : ℕ) (image table : List ℕ) (m : Monitor) (c : Call)
     → refused_by (call_of capacity image table m c).answer ≡ None → refusal (lent_checks capacity image table m) ≡ None

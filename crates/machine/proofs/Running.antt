@@ -2,7 +2,7 @@
 -- Assumes nothing.
 use Prim.Native.Nat.{ℕ, zero, suc, ◌+◌, ◌-◌, ◌*◌, ◌≤◌, ◌<◌}
 use mathlib.Core.Path.{◌≡◌, refl, sym, ap, ◌∙◌, subst}
-use mathlib.Core.Bool.{Bool, true, false, cond}
+use mathlib.Core.Bool.{Bool, true, false}
 use Rattle.std.specs.Prelude.{None, Some, Ok}
 use mathlib.Core.List.{List, [], ◌∷◌}
 use native.Mathlib.Omega.{arith}
@@ -87,41 +87,6 @@ tried_yes rules capacity m t to e p = go (fits capacity t.to) refl
         let z : to.taken ≡ false = ap (λ (x : Tried). x.taken) (rw f at p) in
         let y : ◌≡◌ {A = ℕ} 0 1 = cc in
         absurd (omega arith)
-
--- A step that was tried makes at most one rewrite, and puts back at most 8 symbols.
-pub tried_counts : (capacity : ℕ) (image table : List ℕ) (m : Monitor) → Passed capacity image table m → (a : ℕ) (q : List ℕ)
-    → (state_of m).waiting ≡ a ∷ q → (to : Tried)
-    → to ≡ tried (read image).rules capacity m (step_of (read image).rules (state_of m))
-    → (to.rewrites ≤ 1) × (to.put ≤ 8)
-unfolding step_waiting tried
-tried_counts capacity image table m ok a q w to e = rw e (go (fits capacity t.to))
-  where
-    t : Step
-    t = step_of (read image).rules (state_of m)
-
-    counts : (t.rewrites ≤ 1) × (t.put ≤ 8 * t.rewrites)
-    counts =
-        rw w
-        (step_counts (read image) (ranges (read image) (valid-in_range image (passed_valid capacity image table m ok)))
-        (state_of m).settled a q)
-
-    go : (b : Bool)
-        → ((cond {A = Tried} b (record {
-          taken = true;
-          monitor = monitor_of (read image).rules capacity t.to;
-          rewrites = t.rewrites;
-          put = t.put;
-        })
-        (record { taken = false; monitor = m; rewrites = 0; put = 0 })).rewrites ≤ 1)
-        × ((cond {A = Tried} b (record {
-          taken = true;
-          monitor = monitor_of (read image).rules capacity t.to;
-          rewrites = t.rewrites;
-          put = t.put;
-        })
-        (record { taken = false; monitor = m; rewrites = 0; put = 0 })).put ≤ 8)
-    go true = (counts.0, omega (arith, counts.0, counts.1))
-    go false = (omega arith, omega arith)
 
 -- the counts c and then the run r
 abbrev ahead : Counts → Run → Run
