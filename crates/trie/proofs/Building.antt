@@ -10,7 +10,7 @@ use mathlib.Core.List.{List, [], ◌∷◌, ◌++◌, flat_map}
 use native.Mathlib.Omega.{arith}
 use native.Mathlib.Numerals.{add-one}
 use lib.Dec.{eqb, ltb}
-use lib.ListN.{length, get_or, take, replicate, length-set}
+use lib.ListN.{length, get_or, take, replicate, length-set, set}
 use lib.Seq.{take_all, length-take-le, set-get_or}
 use borrow.Author.Tests.{eqb-true, eqb-false, ne_eqb, ltb-true, ltb-false}
 use Rattle.rewriting.specs.Lists.{alike, same}
@@ -167,6 +167,10 @@ first_count set = go (has_mark set.rules)
     go true = refl
     go false = refl
 
+-- a node stored as it is changes nothing
+stored : (t : List Node) (q : ℕ) (x : Node) → x ≡ node t q → set t q x ≡ t
+stored t q x e = ap (set t q) e ∙ set-get_or t q unused
+
 -- nodes that are all unused, with the first nodes planted, hold the trie of no rules
 module _ (set : RuleSet) (in_range_lem : in_range set ≡ true) (t : List Node) (clear : t ≡ replicate (length t) unused) (roomy : Roomy set (length t)) where
   unused_at : (c : ℕ) → node t c ≡ unused
@@ -186,13 +190,14 @@ module _ (set : RuleSet) (in_range_lem : in_range set ≡ true) (t : List Node) 
       ≡ record unused { parent = root set.rules; depth = root set.rules; failure = root set.rules }
   unfolding planted
   planted_first =
-      node_same t 0 (record unused { parent = root set.rules; depth = root set.rules; failure = root set.rules })
-      (omega (arith, roomy))
+      let first : Node = record (node t 0) { parent = root set.rules; depth = root set.rules; failure = root set.rules } in
+      node_same t 0 first (omega (arith, roomy))
+      ∙ ap (λ (x : Node). record x { parent = root set.rules; depth = root set.rules; failure = root set.rules }) (unused_at 0)
 
   planted_other : (c : ℕ) → c ≢ 0 → node (planted (root set.rules) t) c ≡ unused
   unfolding planted
   planted_other c other =
-      node_other t 0 c (record unused { parent = root set.rules; depth = root set.rules; failure = root set.rules }) other
+      node_other t 0 c (record (node t 0) { parent = root set.rules; depth = root set.rules; failure = root set.rules }) other
       ∙ unused_at c
 
   -- no node has a child or a match word yet
@@ -299,7 +304,10 @@ module _ (set : RuleSet) (in_range_lem : in_range set ≡ true) (t : List Node) 
   -- Without a mark nothing needs to be planted: node 0 is as unused as the others.
   pub planted-none : root set.rules ≡ 0 → planted (root set.rules) t ≡ t
   unfolding planted
-  planted-none e = rw (e, ← unused_at 0) (set-get_or t 0 unused)
+  planted-none e =
+      stored t 0 _
+      (ap (λ (x : Node). record x { parent = root set.rules; depth = root set.rules; failure = root set.rules }) (unused_at 0)
+      ∙ rw e (sym (unused_at 0)))
 
 -- how many nodes there are before any rule, and where the first rule's left side begins
 pub build_first : (set : RuleSet) (t : List Node) → Grown set 0 t → (at : ℕ) → at ≡ 4 + 4 * length set.rules → (n : ℕ) → n ≡ root set.rules + 1

@@ -150,7 +150,7 @@ first_node set i = cond (rule set.rules i).marked 0 (root set.rules)
 
 -- t with the first nodes: node 0 has the root as parent and failure state, and the mark's depth where it is not the root
 unfoldable pub planted : ℕ → List Node → List Node
-planted root t = set t 0 (record unused { parent = root; depth = root; failure = root })
+planted root t = set t 0 (record (node t 0) { parent = root; depth = root; failure = root })
 
 -- the states of the first i rules, behind the first states of all
 unfoldable pub states_of : RuleSet → ℕ → List (List ℕ)

@@ -69,9 +69,11 @@ fn note(trie: &mut [Node], q: usize, f: usize)
     ensures { trie.new ≡ noted trie.old q f }
 {
     let other = trie[f].matched;
-    let node = &mut trie[q];
-    node.matched = chosen(node.matched, other);
-    node.failure = f as u16;
+    trie[q] = Node {
+        matched: chosen(trie[q].matched, other),
+        failure: f as u16,
+        ..trie[q]
+    };
 }
 
 // State q, whose turn it is: its failure state, match word and row.
