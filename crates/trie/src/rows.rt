@@ -115,7 +115,7 @@ fn longest(image: Image<'_>) -> usize
 
 // The rows of the table, and its match words in the nodes: short states before long, as a failure state is shorter. A state has at
 // most the symbols of the longest left side, and the mark where there is one.
-pub fn fill(rooted: Rooted<'_>, trie: &mut [Node], rows: &mut [u16])
+fn fill_rows(rooted: Rooted<'_>, trie: &mut [Node], rows: &mut [u16])
     requires trie { Built (set_of rooted.image) (length trie.old) trie.old }
     requires room { length rows.old ≡ length (states (set_of rooted.image).rules) * (set_of rooted.image).symbols }
     ensures { Filled (set_of rooted.entry.image) trie.old trie.new rows.new }
@@ -131,12 +131,22 @@ pub fn fill(rooted: Rooted<'_>, trie: &mut [Node], rows: &mut [u16])
     }
 }
 
-// The match words from the nodes. These by index: of what is written behind a `zip` of `iter_mut` nothing is known.
-pub fn write_matches(image: &[u8], trie: &[Node], words: &mut [u16])
-    requires matches { Matched (read image.now) trie.now }
-    requires count { length trie.now ≡ length (states (read image.now).rules) }
-    requires size { length words.old ≡ length trie.now }
-    ensures { words.new ≡ map (λ q. match_word (matching (read image.now).rules q)) (states (read image.now).rules) }
+// The rows of the table, and its match words in the first n of the nodes.
+pub fn fill(rooted: Rooted<'_>, trie: &mut [Node], n: usize, rows: &mut [u16])
+    requires trie { Built (set_of rooted.image) n trie.old }
+    requires room { length rows.old ≡ length (states (set_of rooted.image).rules) * (set_of rooted.image).symbols }
+    ensures { Filled (set_of rooted.entry.image) trie.old trie.new rows.new }
+{
+    fill_rows(rooted, &mut trie[..n], rows);
+}
+
+// The match words from the nodes. The image is named for the contract alone. Over `words.iter_mut().zip(trie)` it gets no proof:
+// nothing is known of what is written through an adapter of `iter_mut` but `enumerate`.
+pub fn write_matches(image: Image<'_>, trie: &[Node], words: &mut [u16])
+    requires matches { Matched (set_of image) trie.now }
+    requires nodes { length words.old ≤ length trie.now }
+    requires size { length words.old ≡ length (states (set_of image).rules) }
+    ensures { words.new ≡ map (λ q. match_word (matching (set_of image.entry).rules q)) (states (set_of image.entry).rules) }
 {
     for (q, word) in words.iter_mut().enumerate() {
         *word = trie[q].matched;

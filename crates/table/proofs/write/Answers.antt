@@ -1,6 +1,6 @@
 -- `table::write` meets its contract: the first two words, the rows, and the match words between them are the table.
 use Prim.Native.Nat.{◌+◌, ◌≤◌}
-use mathlib.Core.Path.{refl, sym, ◌∙◌}
+use mathlib.Core.Path.{refl, ◌∙◌}
 use native.Mathlib.Omega.{arith}
 use lib.ListN.{length, length-set}
 use Rattle.rewriting.proofs.Ranges.{ranges}
@@ -58,13 +58,12 @@ slice_bounds-write_matches-end c =
 
 pub write_matches-requires : goal.write_matches-requires
 write_matches-requires c =
-    let trie = c.requires.trie in record {
+    let trie = c.requires.trie in
+    let size = matches_room (set_of c.args.rooted.image) c.args.table.now trie.nodes c.symbols-s.ensures c.requires.size
+    c.fill.new.rows c.fill.ensures.table in record {
       matches = c.fill.ensures.matches;
-      count = c.fill.ensures.size ∙ trie.nodes;
-      size = matches_room (set_of c.args.rooted.image) c.args.table.now c.requires.trie.nodes
-          c.symbols-s.ensures c.requires.size
-          c.fill.new.rows c.fill.ensures.table
-          ∙ sym c.fill.ensures.size;
+      nodes = omega (arith, size, c.fill.ensures.size);
+      size = size ∙ trie.nodes;
     }
 
 pub returns : goal.returns
