@@ -14,9 +14,11 @@ use Rattle.layout.specs.Image.{read, valid}
 use Rattle.layout.specs.States.{states, matching}
 use Rattle.layout.specs.Table.{match_word, row, table_of}
 use Rattle.layout.proofs.Image.{valid-in_range}
-use Rattle.layout.proofs.Table.{length-row, length_table, table_length}
+use Rattle.layout.proofs.Table.{length-row, length_table, table_length, matches_whole}
 use Rattle.trie.specs.declared.Node.{Node}
-use Rattle.trie.specs.Nodes.{Built}
+use Rattle.trie.specs.Nodes.{unused, Built}
+use Rattle.trie.specs.Rows.{Matched}
+use Rattle.std.proofs.lemmas.List.{get_or-map, get_or-take}
 
 -- an area whose first two words are n and s
 abbrev pub headed : List ℕ → ℕ → ℕ → List ℕ
@@ -110,6 +112,17 @@ module _ (set : RuleSet) (table : List ℕ) {n s : ℕ} (all : n ≡ length (sta
       table_written =
           words_are table n s (length (states set.rules) * set.symbols) sized rows rows_long matches
           ∙ rw (all, width, filled, written)
+
+-- the match words in the nodes of the states are the table's
+pub matches_written : (set : RuleSet) (t : List Node) (n : ℕ) → n ≡ length (states set.rules) → n ≤ length t → Matched set t
+    → map (λ (x : Node). x.matched) (take n t) ≡ map (λ q. match_word (matching set.rules q)) (states set.rules)
+matches_written set t n all room right =
+    let size : length (take n t) ≡ n = length-take-le n t room in
+    matches_whole set (map (λ (x : Node). x.matched) (take n t)) (simp length-map (size ∙ all))
+    (λ c h.
+    get_or-map (λ (x : Node). x.matched) (take n t) c unused 0 (omega (arith, size, all))
+    ∙ ap (λ (x : Node). x.matched) (get_or-take n t c unused (omega (arith, all)))
+    ∙ right c h)
 
 -- the number of words by the number of states that were built, within its bound
 pub words_built : (image : List ℕ) → valid image ≡ true → (n : ℕ) (t : List Node) → Built (read image) n t → (s : ℕ) → s ≡ (read image).symbols

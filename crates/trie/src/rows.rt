@@ -1,13 +1,11 @@
 // The rows and match words of the table, filled from the trie. specs/Rows.antt says what stands in them on the way.
 // What its functions ask, compile has shown.
-ghost use Rattle.std.specs.Prelude.{◌+◌, ◌*◌, ◌≤◌, ◌<◌, ◌≡◌, ◌≢◌, map, length, replicate};
-ghost use Rattle.layout.specs.Image.{read};
-ghost use Rattle.layout.specs.States.{states, matching};
-ghost use Rattle.layout.specs.Table.{match_word};
+ghost use Rattle.std.specs.Prelude.{◌+◌, ◌*◌, ◌≤◌, ◌<◌, ◌≡◌, ◌≢◌, map, length, replicate, take};
+ghost use Rattle.layout.specs.States.{states};
 ghost use Rattle.layout.specs.Words.{Longest, own_or};
 ghost use Rattle.image.specs.Sets.{set_of};
 ghost use Rattle.trie.specs.Nodes.{depth, TrieOf, Built};
-ghost use Rattle.trie.specs.Rows.{Laid, RootFilled, Merged, noted, FillingAt, Matched, Filled};
+ghost use Rattle.trie.specs.Rows.{Laid, RootFilled, Merged, noted, FillingAt, Filled};
 
 use crate::{Node, failure_of};
 use image::{Image, Rooted};
@@ -140,13 +138,11 @@ pub fn fill(rooted: Rooted<'_>, trie: &mut [Node], n: usize, rows: &mut [u16])
     fill_rows(rooted, &mut trie[..n], rows);
 }
 
-// The match words from the nodes. The image is named for the contract alone. Over `words.iter_mut().zip(trie)` it gets no proof:
-// nothing is known of what is written through an adapter of `iter_mut` but `enumerate`.
-pub fn write_matches(image: Image<'_>, trie: &[Node], words: &mut [u16])
-    requires matches { Matched (set_of image) trie.now }
-    requires nodes { length words.old ≤ length trie.now }
-    requires size { length words.old ≡ length (states (set_of image).rules) }
-    ensures { words.new ≡ map (λ q. match_word (matching (set_of image.entry).rules q)) (states (set_of image.entry).rules) }
+// The match words from the nodes, as many as there are words. Over `words.iter_mut().zip(trie)` it gets no proof: nothing is known
+// of what is written through an adapter of `iter_mut` but `enumerate`.
+pub fn write_matches(trie: &[Node], words: &mut [u16])
+    requires { length words.old ≤ length trie.now }
+    ensures { words.new ≡ map (λ x. x.matched) (take (length words.old) trie.now) }
 {
     for (q, word) in words.iter_mut().enumerate() {
         *word = trie[q].matched;

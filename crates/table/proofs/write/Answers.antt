@@ -7,7 +7,7 @@ use Rattle.rewriting.proofs.Ranges.{ranges}
 use Rattle.image.specs.Sets.{set_of}
 use Rattle.layout.proofs.Image.{valid-in_range}
 use Rattle.layout.proofs.States.{few_states}
-use Rattle.table.proofs.Written.{area_some, rows_room, matches_end, matches_room, table_written}
+use Rattle.table.proofs.Written.{area_some, rows_room, matches_end, matches_room, matches_written, table_written}
 use Rattle.table.proofs.write.Goals.{Start}
 use Rattle.table.proofs.write.Goals as goal
 
@@ -60,13 +60,15 @@ pub write_matches-requires : goal.write_matches-requires
 write_matches-requires c =
     let trie = c.requires.trie in
     let size = matches_room (set_of c.args.rooted.image) c.args.table.now trie.nodes c.symbols-s.ensures c.requires.size
-    c.fill.new.rows c.fill.ensures.table in record {
-      matches = c.fill.ensures.matches;
-      nodes = omega (arith, size, c.fill.ensures.size);
-      size = size ∙ trie.nodes;
-    }
+    c.fill.new.rows c.fill.ensures.table in
+    omega (arith, size, c.fill.ensures.size)
 
 pub returns : goal.returns
 returns c =
-    table_written (set_of c.args.rooted.image) c.args.table.now c.requires.trie.nodes c.symbols-s.ensures c.requires.size
-    c.fill.new.rows c.fill.ensures.table c.write_matches.new.words c.write_matches.ensures
+    let set = set_of c.args.rooted.image in
+    let trie = c.requires.trie in
+    let size = matches_room set c.args.table.now trie.nodes c.symbols-s.ensures c.requires.size c.fill.new.rows c.fill.ensures.table in
+    table_written set c.args.table.now trie.nodes c.symbols-s.ensures c.requires.size
+    c.fill.new.rows c.fill.ensures.table c.write_matches.new.words
+    (c.write_matches.ensures
+    ∙ matches_written set c.fill.new.trie _ (size ∙ trie.nodes) (omega (arith, size, c.fill.ensures.size)) c.fill.ensures.matches)
