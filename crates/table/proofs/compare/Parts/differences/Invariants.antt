@@ -4,11 +4,11 @@ use mathlib.Core.Bool.{not}
 use lib.Dec.{eqb}
 use Rattle.trie.specs.Nodes.{tally}
 use Rattle.layout.specs.Words.{transition}
-use Rattle.table.proofs.compare.differences.Given as goal
+use Rattle.table.proofs.compare.Parts.differences.Given as goal
 
 abbrev pub invariant-loop-a : goal.invariant-loop-a
 invariant-loop-a l =
-    (l.a ≤ l.s) × (l.n ≤ l.a) × (l.n ≡ tally (λ k. not (eqb (transition l.rows l.s l.q k) (transition l.rows l.s l.f k))) l.a)
+    (l.a ≤ l.self.width) × (l.n ≤ l.a) × (l.n ≡ tally (λ k. not (eqb (transition l.self.rows.now l.self.width l.q k) (transition l.self.rows.now l.self.width l.f k))) l.a)
 
 abbrev pub decreases-loop-a : goal.decreases-loop-a
-decreases-loop-a l = l.s - l.a
+decreases-loop-a l = l.self.width - l.a
