@@ -10,7 +10,7 @@ ghost use Rattle.trie.specs.Rows.{Laid, RootFilled, Merged, noted, FillingAt, Fi
 use crate::{Node, failure_of};
 use image::{Image, Rooted};
 
-// Each node's number, which the loop counts, into the row of its parent.
+// Each node's number into the row of its parent, from the first behind the root on.
 fn lay_children(rooted: Rooted<'_>, trie: &[Node], rows: &mut [u16])
     requires trie { TrieOf (set_of rooted.image) trie.now }
     requires count { length trie.now ≡ length (states (set_of rooted.image).rules) }
@@ -18,9 +18,9 @@ fn lay_children(rooted: Rooted<'_>, trie: &[Node], rows: &mut [u16])
     ensures { Laid (set_of rooted.entry.image) rows.new }
 {
     let s = rooted.image.symbols();
-    for c in rooted.root + 1..trie.len() {
-        let p = usize::from(trie[c].parent);
-        let a = usize::from(trie[c].symbol);
+    for (c, node) in trie.iter().enumerate().skip(rooted.root + 1) {
+        let p = usize::from(node.parent);
+        let a = usize::from(node.symbol);
         rows[p * s + a] = c as u16;
     }
 }
