@@ -110,8 +110,8 @@ fn child(trie: &[Node], root: usize, n: usize, q: usize, a: u16) -> Option<usize
     None
 }
 
-// Node n becomes a child of q by symbol a. The three fields are read before a store, and not the whole node at once, which waits for
-// the stores of the step before: a check would take up to a seventh longer.
+// Node n becomes a child of q by symbol a. Its three fields are read before both stores: behind the first one a check takes up to 4
+// per cent longer, and with the whole node read at once, which waits for the stores of the step before, 5 to 13.
 fn add(trie: &mut [Node], n: usize, q: usize, a: u16)
     requires node { (q < n) × (n < states_most) }
     requires room { n < length trie.old }
@@ -217,7 +217,8 @@ pub fn begin(rooted: Rooted<'_>, trie: &mut [Node])
     }
 }
 
-// The trie of all left sides, from the first nodes on, and the number of its nodes.
+// The trie of all left sides, from the first nodes on, and the number of its nodes. By number: it is what is handed on to the walk
+// and kept in the node, and nothing else of a rule is needed in a turn.
 pub fn build(rooted: Rooted<'_>, trie: &mut [Node]) -> usize
     requires { (Grown (set_of rooted.image) 0 trie.old) × (Roomy (set_of rooted.image) (length trie.old)) }
     ensures { Built (set_of rooted.entry.image) result trie.new }

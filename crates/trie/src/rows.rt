@@ -100,7 +100,8 @@ fn fill_depth(rooted: Rooted<'_>, trie: &mut [Node], rows: &mut [u16], d: u16)
     }
 }
 
-// The number of symbols of the longest left side.
+// The number of symbols of the longest left side. Over `(0..image.rules()).map(..).max()` it gets no proof: the look at a rule asks
+// for a rule's number, and the law of the chain is about every number.
 fn longest(image: Image<'_>) -> usize
     ensures { (result ≤ 8) × Longest result (set_of image.entry).rules }
 {
@@ -112,7 +113,7 @@ fn longest(image: Image<'_>) -> usize
 }
 
 // The rows of the table, and its match words in the nodes: short states before long, as a failure state is shorter. A state has at
-// most the symbols of the longest left side, and the mark where there is one.
+// most the symbols of the longest left side, and the mark where there is one. The loop counts depths, which are items of nothing.
 fn fill_rows(rooted: Rooted<'_>, trie: &mut [Node], rows: &mut [u16])
     requires trie { Built (set_of rooted.image) (length trie.old) trie.old }
     requires room { length rows.old ≡ length (states (set_of rooted.image).rules) * (set_of rooted.image).symbols }
