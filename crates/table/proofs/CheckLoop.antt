@@ -21,7 +21,17 @@ use Rattle.table.specs.Consistent.{Passes, Passed, RootPassed, MarkPassed, Right
 use Rattle.layout.proofs.States.{few_states}
 use Rattle.layout.proofs.RowPlaces.{word_within}
 use Rattle.trie.proofs.Growth.{node_cases}
-use Rattle.trie.proofs.Kept.{with_failure, parent_kept, symbol_kept, children_kept, failure_set, failure_other, matched_same, failure_kept, trie_kept}
+use Rattle.trie.proofs.Kept.{
+  with_failure,
+  parent_kept,
+  symbol_kept,
+  children_kept,
+  failure_set,
+  failure_other,
+  matched_same,
+  failure_kept,
+  trie_kept,
+}
 use Rattle.table.proofs.PassesRight.{consistent_right}
 use Rattle.table.proofs.RightPasses.{right_passes, right_inside, right_root, right_mark}
 
@@ -30,7 +40,8 @@ module _ (t : List Node) (q f : ℕ) (inside : q < length t) where
   module _ (set : RuleSet) (trie : TrieOf set t) (far : root set.rules < q) (lt : q < length (states set.rules)) where
     -- the trie stays the trie: q is not the mark's node
     pub trie_checked : TrieOf set (with_failure t q f)
-    trie_checked = trie_kept (failure_kept t q f inside lt) (failure_other t q f inside 0 (λ e. omega arith) ∙ trie.mark_failure) trie
+    trie_checked =
+        trie_kept (failure_kept t q f inside lt) (failure_other t q f inside 0 (λ e. omega arith) ∙ trie.mark_failure) trie
 
     -- the way to a failure state leads by nodes before
     pub failure_by_kept : (rows : List ℕ) (c : ℕ) → root set.rules < c → c ≤ q
@@ -69,9 +80,11 @@ pub record Checked (set : RuleSet) (t : List Node) (matches rows : List ℕ) (q 
 
 module _ {set : RuleSet} (in_range_lem : in_range set ≡ true) {t : List Node} {matches rows : List ℕ} where
   -- where all have, the table is right
-  checked_all : {q : ℕ} → length (states set.rules) ≤ q → Checked set t matches rows q → RightTable set.rules set.symbols matches rows
+  checked_all : {q : ℕ} → length (states set.rules) ≤ q → Checked set t matches rows q
+      → RightTable set.rules set.symbols matches rows
   checked_all done k =
-      consistent_right set in_range_lem t matches rows k.trie k.owned k.top k.first (λ c behind lt. k.passed c behind (omega arith))
+      consistent_right set in_range_lem t matches rows k.trie k.owned k.top k.first
+      (λ c behind lt. k.passed c behind (omega arith))
 
   module _ {q : ℕ} (k : Checked set t matches rows q) (lt : q < length (states set.rules)) where
     room : q < length t
@@ -89,7 +102,8 @@ module _ {set : RuleSet} (in_range_lem : in_range set ≡ true) {t : List Node} 
           failure_set t q f room ∙ found ∙ sym (failure_by_kept t q f room set k.trie k.started lt rows q k.started (omega arith))
 
       -- nor does a right table fail the tests of q
-      wrong_state : (Passes (with_failure t q f) matches rows set.symbols q → ⊥) → RightTable set.rules set.symbols matches rows → ⊥
+      wrong_state : (Passes (with_failure t q f) matches rows set.symbols q → ⊥) → RightTable set.rules set.symbols matches rows
+          → ⊥
       wrong_state fails right =
           fails
           (right_passes set (with_failure t q f) matches rows (trie_checked t q f room set k.trie k.started lt) right in_range_lem
@@ -98,7 +112,8 @@ module _ {set : RuleSet} (in_range_lem : in_range set ≡ true) {t : List Node} 
           failing : (c : ℕ) → root set.rules < c → c ≤ q → (b : Bool) → ltb c q ≡ b
               → failure (with_failure t q f) c ≡ failure_by (with_failure t q f) rows set.symbols (root set.rules) c
           failing c behind less true l =
-              (passed_kept t q f room set k.trie k.started lt behind (ltb-true c q l) (k.passed c behind (ltb-true c q l))).failing
+              (passed_kept t q f room set k.trie k.started lt behind (ltb-true c q l)
+              (k.passed c behind (ltb-true c q l))).failing
           failing c behind less false l = let here : c ≡ q = omega (arith, ltb-false c q l) in rw here found_kept
 
       -- where q passes too, the check goes on behind it
@@ -110,7 +125,12 @@ module _ {set : RuleSet} (in_range_lem : in_range set ≡ true) {t : List Node} 
             trie = trie_checked t q f room set k.trie k.started lt;
             owned = λ c h. matched_same t q f room c ∙ k.owned c h;
             top = record { no_match_lem = k.top.no_match_lem; leads = k.top.leads ∙ sym (children_kept same (root set.rules)) };
-            first = λ pos. record { no_match_lem = (k.first pos).no_match_lem; differs = (k.first pos).differs ∙ sym (children_kept same 0) };
+            first = λ pos.
+                record {
+                  no_match_lem = (k.first pos).no_match_lem;
+                  differs = (k.first pos).differs ∙ sym
+                      (children_kept same 0);
+                };
             started = omega (arith, k.started);
             passed = λ c behind less. turn c behind less (ltb c q) refl;
           }
@@ -149,10 +169,12 @@ module _ {set : RuleSet} {t : List Node} {matches rows : List ℕ} {n s top : �
   mark_asks = omega (arith, root_asks)
 
   -- what the tests of the root and the mark decide, in the definitions' words
-  root_passed : (b : Bool) → Decides b (RootPassed t matches rows s top) → Decides b (RootPassed t matches rows set.symbols (root set.rules))
+  root_passed : (b : Bool) → Decides b (RootPassed t matches rows s top)
+      → Decides b (RootPassed t matches rows set.symbols (root set.rules))
   root_passed b d = rw (← k.width, ← k.is-root) d
 
-  mark_passed : (b : Bool) → Decides b (MarkPassed t matches rows s top) → Decides b (MarkPassed t matches rows set.symbols (root set.rules))
+  mark_passed : (b : Bool) → Decides b (MarkPassed t matches rows s top)
+      → Decides b (MarkPassed t matches rows set.symbols (root set.rules))
   mark_passed b d = rw (← k.width, ← k.is-root) d
 
   pub wrong_root : (b : Bool) → not b ≡ true → Decides b (RootPassed t matches rows s top)
@@ -266,7 +288,8 @@ module _ {set : RuleSet} {t : List Node} {matches rows : List ℕ} {n s top q : 
       pub no_state : (b : Bool) → not b ≡ true → Decides b (Passes (with_failure t q f) matches rows s q)
           → RightTable set.rules set.symbols matches rows → ⊥
       no_state b e passes right =
-          wrong_state k.in_range_lem k.checked listed_below (by_root found) (denied b (not-true b e) (rw (← k.width) passes)) right
+          wrong_state k.in_range_lem k.checked listed_below (by_root found)
+          (denied b (not-true b e) (rw (← k.width) passes)) right
 
       module _ (inside : f < n) where
         pub state_asks : transition rows s (parent t q) (symbol t q) ≡ q

@@ -87,7 +87,8 @@ module _ (set : RuleSet) (table : List ℕ) {n s : ℕ} (all : n ≡ length (sta
   area_some = omega (arith, sized)
 
   -- room for the rows
-  pub rows_room : length (take (length (headed table n s) - (2 + n)) (drop (2 + n) (headed table n s))) ≡ length (states set.rules) * set.symbols
+  pub rows_room : length (take (length (headed table n s) - (2 + n)) (drop (2 + n) (headed table n s)))
+      ≡ length (states set.rules) * set.symbols
   rows_room = rows_part table n s (length (states set.rules) * set.symbols) sized
 
   module _ (rows : List ℕ) (filled : rows ≡ flat_map (row set) (states set.rules)) where
@@ -125,7 +126,8 @@ matches_written set t n all room right =
     ∙ right c h)
 
 -- the number of words by the number of states that were built, within its bound
-pub words_built : (image : List ℕ) → valid image ≡ true → (n : ℕ) (t : List Node) → Built (read image) n t → (s : ℕ) → s ≡ (read image).symbols
+pub words_built : (image : List ℕ) → valid image ≡ true → (n : ℕ) (t : List Node) → Built (read image) n t → (s : ℕ)
+    → s ≡ (read image).symbols
     → (2 + n + n * s ≡ length (table_of (read image))) × (2 + n + n * s ≤ 16964)
 words_built image e n t b s is =
     let w : 2 + n + n * s ≡ length (table_of (read image)) = rw (b.nodes, is) (sym (length_table (read image))) in

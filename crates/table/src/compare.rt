@@ -31,9 +31,9 @@ struct Parts<'a> {
 }
 
 impl Parts<'_> {
-    // How many words of the rows of q and f differ. Where a row begins is worked out once, before the loop. The loop counts to the
-    // end, so that it compares many words at once. This and the next by index: over the items of the rows the check of a table takes
-    // up to a tenth longer, and with `filter` and `count` four times as long.
+    // How many words of the rows of q and f differ. Where a row begins is worked out once, before the loop. The loop counts to
+    // the end, so that it compares many words at once. This and the next by index: over the items of the rows the check of a
+    // table takes up to a tenth longer, and with `filter` and `count` four times as long.
     fn differences(self, q: usize, f: usize) -> u16
         requires { (q < length self.matches.now) × (f < length self.matches.now) }
         ensures { result ≡ differing self.entry.rows.now self.entry.width q f }
@@ -98,8 +98,8 @@ impl Parts<'_> {
         self.matches[self.rooted.root] == 0 && self.transitions() == trie[self.rooted.root].children
     }
 
-    // The tests of the mark alone, which no state leads to: it has no match, and its row differs from the root's in as many words as
-    // it has children.
+    // The tests of the mark alone, which no state leads to: it has no match, and its row differs from the root's in as many words
+    // as it has children.
     fn mark_holds(self, trie: &[Node]) -> bool
         requires { 0 < length trie.now }
         ensures { Decides result
@@ -119,9 +119,10 @@ impl Parts<'_> {
         self.inherited(trie, q) == self.matches[q] && self.differences(q, f) == trie[q].children
     }
 
-    // Every state's tests, in the order of their numbers, so that its parent and its parent's failure state are known when a state is
-    // reached. Keeps each state's failure state in its node, after both looks at its parent: a word that was read before a store is
-    // read again behind it. By number: it is what the tests ask for, and a turn takes all nodes, which an iterator would hold.
+    // Every state's tests, in the order of their numbers, so that its parent and its parent's failure state are known when a
+    // state is reached. Keeps each state's failure state in its node, after both looks at its parent: a word that was read before
+    // a store is read again behind it. By number: it is what the tests ask for, and a turn takes all nodes, which an iterator
+    // would hold.
     fn states_hold(self, trie: &mut [Node]) -> bool
         requires { Built (set_of self.rooted.image) (length trie.old) trie.old }
         ensures { Decides result

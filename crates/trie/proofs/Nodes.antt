@@ -35,7 +35,8 @@ module _ (root : ℕ) (t : List Node) (n q a : ℕ) where
   search_first l h c e =
       rw e (l.young q h, l.young_of q h, λ b k. l.young_last q b h k.behind k.node k.of)
 
-  pub search_next : Linked root t n → (c : ℕ) → Searching root t n q a c → 0 < c → (symbol t c ≡ a → ⊥) → (c' : ℕ) → c' ≡ older t c
+  pub search_next : Linked root t n → (c : ℕ) → Searching root t n q a c → 0 < c → (symbol t c ≡ a → ⊥) → (c' : ℕ)
+      → c' ≡ older t c
       → Searching root t n q a c'
   search_next l c s h other c' e =
       rw e (
@@ -74,7 +75,8 @@ module _ (t : List Node) (n q a : ℕ) (lt : q < n) (room : n < length t) where
   unfolding added
   added_size = simp length-set
 
-  pub added_node : node (added t n q a) n ≡ record (node t n) { parent = q; symbol = a; depth = depth t q + 1; older = youngest t q }
+  pub added_node : node (added t n q a) n
+      ≡ record (node t n) { parent = q; symbol = a; depth = depth t q + 1; older = youngest t q }
   unfolding added
   added_node =
       node_other (set t n (record (node t n) { parent = q; symbol = a; depth = depth t q + 1; older = youngest t q })) q n

@@ -57,7 +57,8 @@ pub rooted_none : (rows : List ℕ) (s root : ℕ) → RootFilled rows rows s ro
 rooted_none rows s root =
     record { size = refl; own = λ a h. absurd (not-suc-le-zero h); before = λ k h. refl; behind = λ k h. refl }
 
-pub rooted_more : (rows rows' : List ℕ) (s root a : ℕ) → root * s + s ≤ length rows → a < s → RootFilled rows rows' s root a → (v : ℕ)
+pub rooted_more : (rows rows' : List ℕ) (s root a : ℕ) → root * s + s ≤ length rows → a < s → RootFilled rows rows' s root a
+    → (v : ℕ)
     → v ≡ own_or (transition rows' s root a) root → RootFilled rows (set rows' (root * s + a) v) s root (a + 1)
 rooted_more rows rows' s root a fits h m v e =
     record {

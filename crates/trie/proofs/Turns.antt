@@ -89,7 +89,8 @@ filling_same set done done' t rows same filling =
     }
 
 -- a state of some depth is not the root
-pub filling_other : (set : RuleSet) (d q : ℕ) (t : List Node) (rows : List ℕ) → 0 < d → depth t q ≡ d → q < length (states set.rules)
+pub filling_other : (set : RuleSet) (d q : ℕ) (t : List Node) (rows : List ℕ) → 0 < d → depth t q ≡ d
+    → q < length (states set.rules)
     → FillingAt set d q t rows → (top : ℕ) → top ≡ root set.rules → q ≢ top
 filling_other set d q t rows pos deep h filling top is e =
     let empty : text set.rules q ≡ [] = ap (text set.rules) (e ∙ is) ∙ root-text set.rules in
@@ -134,7 +135,8 @@ module _ (set : RuleSet) (q : ℕ) (t : List Node) (rows : List ℕ) (filling : 
     -- the word by which the failure state is found stands in the rows
     pub failure_place : parent t q ≢ root set.rules → failure t (parent t q) * set.symbols + symbol t q < length rows
     failure_place high =
-        let f = parent_fails set (reached (states set.rules) (depth t q) q) t rows filling q in_range_lem other below shorter high in
+        let f = parent_fails set (reached (states set.rules) (depth t q) q)
+        t rows filling q in_range_lem other below shorter high in
         rw filling.size
         (word_within set.symbols (failure t (parent t q)) (length (states set.rules)) (symbol t q) f.place
         (symbol_small set (reached (states set.rules) (depth t q) q) t rows filling q in_range_lem other below shorter high))
@@ -149,7 +151,8 @@ module _ (set : RuleSet) (q : ℕ) (t : List Node) (rows : List ℕ) (filling : 
         let n : ℕ = length (states set.rules) in
         let size : length rows ≡ n * set.symbols = filling.size in
         let room : n ≤ length t = filling.trie.linked.size in
-        let found = own_failure set (reached (states set.rules) (depth t q) q) t rows filling q in_range_lem other below shorter in
+        let found = own_failure set (reached (states set.rules) (depth t q) q)
+        t rows filling q in_range_lem other below shorter in
         let place : f < n = (fails_to set.rules (text set.rules q) (state_long set.rules q other below) f (is ∙ found)).place in (
           omega arith,
           omega (arith, few_states set in_range_lem),
@@ -157,7 +160,8 @@ module _ (set : RuleSet) (q : ℕ) (t : List Node) (rows : List ℕ) (filling : 
           omega (arith, row_end set.symbols f n place),
         )
 
-    pub filling_more : (t' : List Node) (rows' : List ℕ) (f : ℕ) → f ≡ failure_by t rows set.symbols (root set.rules) q → t' ≡ noted t q f
+    pub filling_more : (t' : List Node) (rows' : List ℕ) (f : ℕ) → f ≡ failure_by t rows set.symbols (root set.rules) q
+        → t' ≡ noted t q f
         → Merged rows rows' set.symbols q f set.symbols → FillingAt set (depth t q) (q + 1) t' rows'
     filling_more t' rows' f is note merged =
         state_filled set (reached (states set.rules) (depth t q) q) t rows filling q in_range_lem other below shorter

@@ -10,7 +10,26 @@
 --     children    how many children it has
 --     matched     match word: first of the rules whose left side is the state itself, in the end the table's
 --     failure     failure state, once it is known
-use Rattle.std.specs.Prelude.{ℕ, zero, suc, ◌+◌, ◌≤◌, ◌<◌, ◌≡◌, Bool, cond, ◌⊎◌, Option, Some, None, eqb, length, get_or, set, take}
+use Rattle.std.specs.Prelude.{
+  ℕ,
+  zero,
+  suc,
+  ◌+◌,
+  ◌≤◌,
+  ◌<◌,
+  ◌≡◌,
+  Bool,
+  cond,
+  ◌⊎◌,
+  Option,
+  Some,
+  None,
+  eqb,
+  length,
+  get_or,
+  set,
+  take,
+}
 use mathlib.Core.List.{List, [], ◌∷◌, ◌++◌, flat_map}
 use Rattle.rewriting.specs.Rules.{Rule, RuleSet, rule}
 use Rattle.trie.specs.declared.Node.{Node}

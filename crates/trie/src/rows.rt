@@ -33,8 +33,8 @@ fn chosen(own: u16, other: u16) -> u16
     if own == 0 { other } else { own }
 }
 
-// Each 0 in the row of the root becomes the root's number. Where that is 0 there is nothing to do. It is not one function with merge,
-// which takes its words from another row of the same slice.
+// Each 0 in the row of the root becomes the root's number. Where that is 0 there is nothing to do. It is not one function with
+// merge, which takes its words from another row of the same slice.
 fn fill_root(rows: &mut [u16], s: usize, root: usize)
     requires own { root * s + s ≤ length rows.old }
     requires low { root ≤ 1 }
@@ -100,8 +100,8 @@ fn fill_depth(rooted: Rooted<'_>, trie: &mut [Node], rows: &mut [u16], d: u16)
     }
 }
 
-// The number of symbols of the longest left side. Over `(0..image.rules()).map(..).max()` it gets no proof: the look at a rule asks
-// for a rule's number, and the law of the chain is about every number.
+// The number of symbols of the longest left side. Over `(0..image.rules()).map(..).max()` it gets no proof: the look at a rule
+// asks for a rule's number, and the law of the chain is about every number.
 fn longest(image: Image<'_>) -> usize
     ensures { (result ≤ 8) × Longest result (set_of image.entry).rules }
 {
@@ -112,8 +112,9 @@ fn longest(image: Image<'_>) -> usize
     most
 }
 
-// The rows of the table, and its match words in the nodes: short states before long, as a failure state is shorter. A state has at
-// most the symbols of the longest left side, and the mark where there is one. The loop counts depths, which are items of nothing.
+// The rows of the table, and its match words in the nodes: short states before long, as a failure state is shorter. A state has
+// at most the symbols of the longest left side, and the mark where there is one. The loop counts depths, which are items of
+// nothing.
 fn fill_rows(rooted: Rooted<'_>, trie: &mut [Node], rows: &mut [u16])
     requires trie { Built (set_of rooted.image) (length trie.old) trie.old }
     requires room { length rows.old ≡ length (states (set_of rooted.image).rules) * (set_of rooted.image).symbols }
@@ -139,8 +140,8 @@ pub fn fill(rooted: Rooted<'_>, trie: &mut [Node], n: usize, rows: &mut [u16])
     fill_rows(rooted, &mut trie[..n], rows);
 }
 
-// The match words from the nodes, as many as there are words. Over `words.iter_mut().zip(trie)` it gets no proof: nothing is known
-// of what is written through an adapter of `iter_mut` but `enumerate`.
+// The match words from the nodes, as many as there are words. Over `words.iter_mut().zip(trie)` it gets no proof: nothing is
+// known of what is written through an adapter of `iter_mut` but `enumerate`.
 pub fn write_matches(trie: &[Node], words: &mut [u16])
     requires { length words.old ≤ length trie.now }
     ensures { words.new ≡ map (λ x. x.matched) (take (length words.old) trie.now) }

@@ -67,7 +67,8 @@ pub returns : goal.returns
 returns c =
     let set = set_of c.args.rooted.image in
     let trie = c.requires.trie in
-    let size = matches_room set c.args.table.now trie.nodes c.symbols-s.ensures c.requires.size c.fill.new.rows c.fill.ensures.table in
+    let size = matches_room set c.args.table.now trie.nodes c.symbols-s.ensures c.requires.size c.fill.new.rows
+    c.fill.ensures.table in
     table_written set c.args.table.now trie.nodes c.symbols-s.ensures c.requires.size
     c.fill.new.rows c.fill.ensures.table c.write_matches.new.words
     (c.write_matches.ensures

@@ -25,7 +25,8 @@ loop-d-init c =
           (rooted_zero laid set.symbols (root set.rules) (omega (arith, w.if-rooted-gt0.false, c.args.rooted.rooted)))
     ]
     in
-    filling_start set c.args.trie.now laid c.if-rooted-gt0.rows (valid-in_range c.args.rooted.image.bytes.now c.args.rooted.image.valid)
+    filling_start set c.args.trie.now laid c.if-rooted-gt0.rows
+    (valid-in_range c.args.rooted.image.bytes.now c.args.rooted.image.valid)
     c.requires.trie.trie c.requires.trie.owned c.lay_children.ensures rooted
 
 pub returns : goal.returns
@@ -35,4 +36,5 @@ returns c =
     let longest = c.longest in
     let all : turn.d ≡ longest.result + root set.rules + 1 = omega (arith, c.args.rooted.rooted) in
     filling_end set longest.result c.args.trie.now turn.trie turn.rows
-    (valid-in_range c.args.rooted.image.bytes.now c.args.rooted.image.valid) longest.ensures.1.covers turn.auto.trie (rw all at turn.invariant)
+    (valid-in_range c.args.rooted.image.bytes.now c.args.rooted.image.valid) longest.ensures.1.covers turn.auto.trie
+    (rw all at turn.invariant)

@@ -31,7 +31,8 @@ road : (c : After-into_iter-c-iterator)
     (drop (c.args.rooted.root + 1) (enumerate_from 0 c.args.trie.now))
 road c =
     YieldsList-from_skip (c.args.rooted.root + 1)
-    (YieldsList-at {t = c.enumerate.result} (cc) (YieldsList-from_enumerate (YieldsList-at {t = c.iter.result} (cc) (YieldsList-from_slice c.args.trie.now (cc))) (cc))) (cc)
+    (YieldsList-at {t = c.enumerate.result} (cc) (YieldsList-from_enumerate
+    (YieldsList-at {t = c.iter.result} (cc) (YieldsList-from_slice c.args.trie.now (cc))) (cc))) (cc)
 
 -- the node of a turn and its number
 met : (t : List Node) (k : ℕ) (i : ℕ) (x : ℕ × Node)
@@ -61,9 +62,11 @@ bounds : (c : After-from-a) → Met c
     → Within c.args.trie.now c.loop-c.rows (set_of c.args.rooted.image).symbols (c.args.rooted.root + 1 + length c.loop-c.yielded)
 bounds c m =
     let set = set_of c.args.rooted.image in
-    within set c.args.trie.now c.loop-c.rows (valid-in_range c.args.rooted.image.bytes.now c.args.rooted.image.valid) c.requires.trie
+    within set c.args.trie.now c.loop-c.rows (valid-in_range c.args.rooted.image.bytes.now c.args.rooted.image.valid)
+    c.requires.trie
     (sized set c.args.rows.now c.loop-c.rows (length c.args.trie.now) c.requires.count c.requires.clear c.loop-c.auto.rows)
-    (c.args.rooted.root + 1 + length c.loop-c.yielded) (omega (arith, c.args.rooted.rooted)) (omega (arith, m.0, c.requires.count))
+    (c.args.rooted.root + 1 + length c.loop-c.yielded) (omega (arith, c.args.rooted.rooted))
+    (omega (arith, m.0, c.requires.count))
 
 -- the word that is stored is the one of the node in its parent's row
 place : (c : After-from-a) → Met c

@@ -36,4 +36,5 @@ returns c =
     let args = c.args in
     let done : c.loop-a.a ≡ args.self.width = omega arith in
     c.loop-a.invariant.2
-    ∙ ap (tally (λ k. not (eqb (transition args.self.rows.now args.self.width args.q k) (transition args.self.rows.now args.self.width args.f k)))) done
+    ∙ ap (tally (λ k. not (eqb (transition args.self.rows.now args.self.width args.q k)
+    (transition args.self.rows.now args.self.width args.f k)))) done

@@ -1,4 +1,4 @@
-use Prim.Native.Nat.{◌-◌, ◌≤◌}
+use Prim.Native.Nat.{ℕ, ◌-◌, ◌≤◌}
 use mathlib.Core.Path.{◌≡◌}
 use mathlib.Core.Bool.{not}
 use lib.Dec.{eqb}
@@ -8,7 +8,8 @@ use Rattle.table.proofs.compare.Parts.differences.Given as goal
 
 abbrev pub invariant-loop-a : goal.invariant-loop-a
 invariant-loop-a l =
-    (l.a ≤ l.self.width) × (l.n ≤ l.a) × (l.n ≡ tally (λ k. not (eqb (transition l.self.rows.now l.self.width l.q k) (transition l.self.rows.now l.self.width l.f k))) l.a)
+    let word : ℕ → ℕ → ℕ = transition l.self.rows.now l.self.width in
+    (l.a ≤ l.self.width) × (l.n ≤ l.a) × (l.n ≡ tally (λ k. not (eqb (word l.q k) (word l.f k))) l.a)
 
 abbrev pub decreases-loop-a : goal.decreases-loop-a
 decreases-loop-a l = l.self.width - l.a

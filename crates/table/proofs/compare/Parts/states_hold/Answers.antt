@@ -1,5 +1,5 @@
--- `table::compare::Parts::states_hold` meets its contract. The loop's invariant: the root, the mark and every state below q have passed, and
--- the trie is as it was but for their failure states.
+-- `table::compare::Parts::states_hold` meets its contract. The loop's invariant: the root, the mark and every state below q have
+-- passed, and the trie is as it was but for their failure states.
 use Prim.Native.Nat.{◌<◌}
 use mathlib.Core.Path.{◌≡◌, refl, sym, ap, ◌∙◌}
 use mathlib.Core.Bool.{not}
@@ -29,7 +29,8 @@ use Rattle.table.proofs.compare.Parts.states_hold.Goals as goal
 
 -- what is known when the check begins
 begun : (c : Start)
-    → Begun (set_of c.args.self.rooted.image) c.args.trie.now c.args.self.matches.now c.args.self.rows.now (length c.args.trie.now)
+    → Begun (set_of c.args.self.rooted.image) c.args.trie.now c.args.self.matches.now c.args.self.rows.now
+    (length c.args.trie.now)
     c.args.self.width c.args.self.rooted.root
 begun c =
     let self = c.args.self in

@@ -27,7 +27,11 @@ loop-a-preserved c =
         omega arith,
         w.n-is ∙ ap (λ (n : ℕ). n + 1) known ∙ sym (tally_differ row (λ k. c.args.self.rooted.root) turn.a w.if-self-first.true),
       )
-      | else-self-first w ↦ (omega arith, omega arith, w.n-is ∙ known ∙ sym (tally_equal row (λ k. c.args.self.rooted.root) turn.a w.if-self-first.false))
+      | else-self-first w ↦ (
+        omega arith,
+        omega arith,
+        w.n-is ∙ known ∙ sym (tally_equal row (λ k. c.args.self.rooted.root) turn.a w.if-self-first.false),
+      )
     ]
 
 pub returns : goal.returns
