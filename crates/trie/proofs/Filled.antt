@@ -5,11 +5,10 @@ use Prim.Native.Nat.{ℕ, ◌+◌, ◌*◌, ◌≤◌, ◌<◌}
 use mathlib.Core.Path.{◌≡◌, refl, sym, ap, ◌∙◌}
 use mathlib.Core.Bool.{Bool, true, false, cond, and-false}
 use mathlib.Core.Logic.{⊎_elim}
-use mathlib.Core.List.{List, [], ◌∷◌, map}
+use mathlib.Core.List.{List, [], ◌∷◌}
 use native.Mathlib.Omega.{arith}
 use lib.Dec.{eqb}
-use lib.ListN.{length, get_or, set as store}
-use lib.Seq.{get_or-set_same, get_or-set_other}
+use lib.ListN.{length}
 use borrow.Author.Tests.{eqb-true, eqb-false, ne_eqb, le-ltb}
 use Rattle.rewriting.specs.Rules.{Rule, RuleSet, in_range}
 use Rattle.rewriting.specs.Occurrences.{ending}
@@ -22,10 +21,10 @@ use Rattle.layout.specs.Table.{match_word}
 use Rattle.layout.specs.Words.{root, text, own, NoLonger, transition, own_or}
 use Rattle.trie.specs.declared.Node.{Node}
 use Rattle.trie.specs.Nodes.{matched, TrieOf, Owned}
-use Rattle.trie.specs.Rows.{child_number, Laid, RootFilled, reached, FillingAt, Matched, Filled}
+use Rattle.trie.specs.Rows.{child_number, Laid, RootFilled, reached, FillingAt, Filled}
 use Rattle.layout.proofs.States.{next_listed, root_below, root-text, number-root, child_some, state_long, short_state}
 use Rattle.layout.proofs.RowPlaces.{row_apart}
-use Rattle.layout.proofs.Table.{matches_whole, rows_whole}
+use Rattle.layout.proofs.Table.{rows_whole}
 use Rattle.trie.proofs.Failure.{next-root}
 use Rattle.trie.proofs.Turns.{reached_shorter}
 
@@ -124,22 +123,3 @@ filling_end set n t t' rows e long size filling =
     final c h =
         let short = short_state n set.rules long c h in
         reached_shorter (states set.rules) (n + root set.rules + 1) 0 c (omega arith)
-
--- The match words are written one by one.
-pub written_more : (t : List Node) (words : List ℕ) (q : ℕ) → q < length words
-    → ((k : ℕ) → k < q → get_or words k 0 ≡ matched t k)
-    → (k : ℕ) → k < q + 1 → get_or (store words q (matched t q)) k 0 ≡ matched t k
-written_more t words q h all k l = go (eqb k q) refl
-  where
-    go : (b : Bool) → eqb k q ≡ b → get_or (store words q (matched t q)) k 0 ≡ matched t k
-    go true e =
-        let same : k ≡ q = eqb-true k q e in
-        rw same (get_or-set_same words q (matched t q) 0 h)
-    go false e =
-        let differs = eqb-false k q e in
-        get_or-set_other words q k (matched t q) 0 differs ∙ all k (omega (arith, differs))
-
-pub written_all : (set : RuleSet) (t : List Node) (words : List ℕ) → Matched set t → length words ≡ length (states set.rules)
-    → ((k : ℕ) → k < length words → get_or words k 0 ≡ matched t k)
-    → words ≡ map (λ q. match_word (matching set.rules q)) (states set.rules)
-written_all set t words matches size all = matches_whole set words size (λ k h. all k (omega arith) ∙ matches k h)
