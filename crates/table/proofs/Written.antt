@@ -74,9 +74,6 @@ module _ (table : List ℕ) (n s r : ℕ) (size : length table ≡ 2 + n + r) wh
         let back : 2 + n - 2 ≡ n = omega arith in
         rw (rowed_is, back, drop_at (take n (drop 2 table)) rows n within)
 
-    words_length : (matches : List ℕ) → length matches ≡ n → length (words_of table n s rows matches) ≡ length table
-    words_length matches e = rw words_are (simp length-append (omega arith))
-
 -- The table of a rule set of n states and s symbols, written into an area of its length.
 module _ (set : RuleSet) (table : List ℕ) {n s : ℕ} (all : n ≡ length (states set.rules)) (width : s ≡ set.symbols)
     (long : length table ≡ length (table_of set)) where
@@ -103,11 +100,6 @@ module _ (set : RuleSet) (table : List ℕ) {n s : ℕ} (all : n ≡ length (sta
     matches_room = matches_part table n s (length (states set.rules) * set.symbols) sized rows rows_long
 
     module _ (matches : List ℕ) (written : matches ≡ map (λ q. match_word (matching set.rules q)) (states set.rules)) where
-      pub area_length : length (words_of table n s rows matches) ≡ length table
-      area_length =
-          words_length table n s (length (states set.rules) * set.symbols) sized rows rows_long matches
-          (rw written (simp length-map (sym all)))
-
       pub table_written : words_of table n s rows matches ≡ table_of set
       unfolding table_of
       table_written =

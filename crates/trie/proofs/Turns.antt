@@ -1,7 +1,7 @@
 -- The order in which the states are filled, short before long: which are done, and that each turn keeps what is said of them.
 -- Assumes nothing.
 use Prim.Native.Nat.{ℕ, ◌+◌, ◌*◌, ◌≤◌, ◌<◌}
-use mathlib.Core.Path.{◌≡◌, refl, sym, ap, ◌∙◌}
+use mathlib.Core.Path.{◌≡◌, refl, sym, ◌∙◌}
 use mathlib.Core.Bool.{Bool, true, false, ◌&&◌, ◌||◌, and-false}
 use mathlib.Core.Logic.{◌≢◌}
 use mathlib.Core.List.{List, []}
@@ -15,7 +15,7 @@ use Rattle.layout.specs.Words.{root, text}
 use Rattle.trie.specs.declared.Node.{Node}
 use Rattle.trie.specs.Nodes.{parent, symbol, depth, failure, failure_by}
 use Rattle.trie.specs.Rows.{Merged, noted, reached, Filling, FillingAt}
-use Rattle.layout.proofs.States.{root-text, few_states, state_long}
+use Rattle.layout.proofs.States.{few_states, state_long}
 use Rattle.layout.proofs.RowPlaces.{row_end, word_within}
 use Rattle.trie.proofs.Growth.{parent_below}
 use Rattle.trie.proofs.Failure.{fails_to}
@@ -87,14 +87,6 @@ filling_same set done done' t rows same filling =
       failures = λ c other h e. filling.failures c other h (sym (same c h) ∙ e);
       table = λ c a h k. rw (same c h) (filling.table c a h k);
     }
-
--- a state of some depth is not the root
-pub filling_other : (set : RuleSet) (d q : ℕ) (t : List Node) (rows : List ℕ) → 0 < d → depth t q ≡ d
-    → q < length (states set.rules)
-    → FillingAt set d q t rows → (top : ℕ) → top ≡ root set.rules → q ≢ top
-filling_other set d q t rows pos deep h filling top is e =
-    let empty : text set.rules q ≡ [] = ap (text set.rules) (e ∙ is) ∙ root-text set.rules in
-    omega (arith, filling.trie.deep q h, ap length empty)
 
 -- a state of another depth is passed over
 pub filling_skip : (set : RuleSet) (d q : ℕ) (t : List Node) (rows : List ℕ) → (depth t q ≡ d → ⊥) → q < length (states set.rules)
