@@ -11,7 +11,6 @@ use lib.Dec.{ltb}
 use lib.ListN.{length, length-set}
 use borrow.Author.Tests.{ltb-true, ltb-false, not-true, not-false}
 use Rattle.rewriting.specs.Rules.{RuleSet, in_range}
-use Rattle.rewriting.proofs.Ranges.{ranges}
 use Rattle.layout.specs.ImageCheck.{Decides}
 use Rattle.layout.proofs.ImageCheck.{decided, denied}
 use Rattle.layout.specs.States.{states}
@@ -20,9 +19,19 @@ use Rattle.trie.specs.declared.Node.{Node}
 use Rattle.trie.specs.Nodes.{parent, symbol, failure, TrieOf, Owned, failure_by}
 use Rattle.table.specs.Consistent.{Passes, Passed, RootPassed, MarkPassed, RightTable}
 use Rattle.layout.proofs.States.{few_states}
-use Rattle.layout.proofs.RowPlaces.{row_end, word_within}
+use Rattle.layout.proofs.RowPlaces.{word_within}
 use Rattle.trie.proofs.Growth.{node_cases}
-use Rattle.trie.proofs.Kept.{with_failure, parent_kept, symbol_kept, children_kept, failure_set, failure_other, matched_same, failure_kept, trie_kept}
+use Rattle.trie.proofs.Kept.{
+  with_failure,
+  parent_kept,
+  symbol_kept,
+  children_kept,
+  failure_set,
+  failure_other,
+  matched_same,
+  failure_kept,
+  trie_kept,
+}
 use Rattle.table.proofs.PassesRight.{consistent_right}
 use Rattle.table.proofs.RightPasses.{right_passes, right_inside, right_root, right_mark}
 
@@ -31,7 +40,8 @@ module _ (t : List Node) (q f : ℕ) (inside : q < length t) where
   module _ (set : RuleSet) (trie : TrieOf set t) (far : root set.rules < q) (lt : q < length (states set.rules)) where
     -- the trie stays the trie: q is not the mark's node
     pub trie_checked : TrieOf set (with_failure t q f)
-    trie_checked = trie_kept (failure_kept t q f inside lt) (failure_other t q f inside 0 (λ e. omega arith) ∙ trie.mark_failure) trie
+    trie_checked =
+        trie_kept (failure_kept t q f inside lt) (failure_other t q f inside 0 (λ e. omega arith) ∙ trie.mark_failure) trie
 
     -- the way to a failure state leads by nodes before
     pub failure_by_kept : (rows : List ℕ) (c : ℕ) → root set.rules < c → c ≤ q
@@ -70,9 +80,11 @@ pub record Checked (set : RuleSet) (t : List Node) (matches rows : List ℕ) (q 
 
 module _ {set : RuleSet} (in_range_lem : in_range set ≡ true) {t : List Node} {matches rows : List ℕ} where
   -- where all have, the table is right
-  checked_all : {q : ℕ} → length (states set.rules) ≤ q → Checked set t matches rows q → RightTable set.rules set.symbols matches rows
+  checked_all : {q : ℕ} → length (states set.rules) ≤ q → Checked set t matches rows q
+      → RightTable set.rules set.symbols matches rows
   checked_all done k =
-      consistent_right set in_range_lem t matches rows k.trie k.owned k.top k.first (λ c behind lt. k.passed c behind (omega arith))
+      consistent_right set in_range_lem t matches rows k.trie k.owned k.top k.first
+      (λ c behind lt. k.passed c behind (omega arith))
 
   module _ {q : ℕ} (k : Checked set t matches rows q) (lt : q < length (states set.rules)) where
     room : q < length t
@@ -90,7 +102,8 @@ module _ {set : RuleSet} (in_range_lem : in_range set ≡ true) {t : List Node} 
           failure_set t q f room ∙ found ∙ sym (failure_by_kept t q f room set k.trie k.started lt rows q k.started (omega arith))
 
       -- nor does a right table fail the tests of q
-      wrong_state : (Passes (with_failure t q f) matches rows set.symbols q → ⊥) → RightTable set.rules set.symbols matches rows → ⊥
+      wrong_state : (Passes (with_failure t q f) matches rows set.symbols q → ⊥) → RightTable set.rules set.symbols matches rows
+          → ⊥
       wrong_state fails right =
           fails
           (right_passes set (with_failure t q f) matches rows (trie_checked t q f room set k.trie k.started lt) right in_range_lem
@@ -99,7 +112,8 @@ module _ {set : RuleSet} (in_range_lem : in_range set ≡ true) {t : List Node} 
           failing : (c : ℕ) → root set.rules < c → c ≤ q → (b : Bool) → ltb c q ≡ b
               → failure (with_failure t q f) c ≡ failure_by (with_failure t q f) rows set.symbols (root set.rules) c
           failing c behind less true l =
-              (passed_kept t q f room set k.trie k.started lt behind (ltb-true c q l) (k.passed c behind (ltb-true c q l))).failing
+              (passed_kept t q f room set k.trie k.started lt behind (ltb-true c q l)
+              (k.passed c behind (ltb-true c q l))).failing
           failing c behind less false l = let here : c ≡ q = omega (arith, ltb-false c q l) in rw here found_kept
 
       -- where q passes too, the check goes on behind it
@@ -111,7 +125,12 @@ module _ {set : RuleSet} (in_range_lem : in_range set ≡ true) {t : List Node} 
             trie = trie_checked t q f room set k.trie k.started lt;
             owned = λ c h. matched_same t q f room c ∙ k.owned c h;
             top = record { no_match_lem = k.top.no_match_lem; leads = k.top.leads ∙ sym (children_kept same (root set.rules)) };
-            first = λ pos. record { no_match_lem = (k.first pos).no_match_lem; differs = (k.first pos).differs ∙ sym (children_kept same 0) };
+            first = λ pos.
+                record {
+                  no_match_lem = (k.first pos).no_match_lem;
+                  differs = (k.first pos).differs ∙ sym
+                      (children_kept same 0);
+                };
             started = omega (arith, k.started);
             passed = λ c behind less. turn c behind less (ltb c q) refl;
           }
@@ -125,8 +144,8 @@ module _ {set : RuleSet} (in_range_lem : in_range set ≡ true) {t : List Node} 
               rw here
               (record { failing = found_kept; inside = rw (failure_set t q f room) inside; passing = passing })
 
--- What the check of a table of n states and s symbols, whose root is `top`, is lent.
-pub record Lent (set : RuleSet) (t : List Node) (matches rows : List ℕ) (n s top : ℕ) : Type 0 where
+-- What is known when the check of a table of n states and s symbols, whose root is `top`, begins.
+pub record Begun (set : RuleSet) (t : List Node) (matches rows : List ℕ) (n s top : ℕ) : Type 0 where
   pub in_range_lem : in_range set ≡ true
   pub all : n ≡ length (states set.rules)
   pub width : s ≡ set.symbols
@@ -136,37 +155,26 @@ pub record Lent (set : RuleSet) (t : List Node) (matches rows : List ℕ) (n s t
   pub words : n ≡ length matches
   pub lines : n * set.symbols ≡ length rows
 
-module _ {set : RuleSet} {t : List Node} {matches rows : List ℕ} {n s top : ℕ} (k : Lent set t matches rows n s top) where
+module _ {set : RuleSet} {t : List Node} {matches rows : List ℕ} {n s top : ℕ} (k : Begun set t matches rows n s top) where
   wide : n * s ≡ length rows
   wide = rw k.width k.lines
 
   top_below : top < n
   top_below = omega (arith, k.trie.some_node, k.all, k.is-root)
 
-  pub root_asks : (s ≤ 32) × ((top ≤ 1) × ((top < length t) × ((top < length matches) × (top * s + s ≤ length rows))))
-  root_asks =
-      let row : top * s + s ≤ n * s = row_end s top n top_below in (
-        omega (arith, (ranges set k.in_range_lem).few_symbols, k.width),
-        (
-          omega (arith, k.trie.low_root, k.is-root),
-          (
-            omega (arith, k.trie.linked.size, k.all, top_below),
-            (omega (arith, k.words, top_below), omega (arith, row, wide)),
-          ),
-        ),
-      )
+  pub root_asks : top < length t
+  root_asks = omega (arith, k.trie.linked.size, k.all, top_below)
 
-  pub mark_asks : (s ≤ 32) × ((0 < length t) × ((0 < length matches) × ((0 * s + s ≤ length rows) × (top * s + s ≤ length rows))))
-  mark_asks =
-      let first : 0 * s + s ≤ n * s = row_end s 0 n (omega (arith, top_below)) in
-      let asks = root_asks in
-      (asks.0, (omega (arith, k.trie.linked.size, k.all, top_below), (omega (arith, k.words, top_below), (omega (arith, first, wide), asks.1.1.1.1))))
+  pub mark_asks : 0 < length t
+  mark_asks = omega (arith, root_asks)
 
   -- what the tests of the root and the mark decide, in the definitions' words
-  root_passed : (b : Bool) → Decides b (RootPassed t matches rows s top) → Decides b (RootPassed t matches rows set.symbols (root set.rules))
+  root_passed : (b : Bool) → Decides b (RootPassed t matches rows s top)
+      → Decides b (RootPassed t matches rows set.symbols (root set.rules))
   root_passed b d = rw (← k.width, ← k.is-root) d
 
-  mark_passed : (b : Bool) → Decides b (MarkPassed t matches rows s top) → Decides b (MarkPassed t matches rows set.symbols (root set.rules))
+  mark_passed : (b : Bool) → Decides b (MarkPassed t matches rows s top)
+      → Decides b (MarkPassed t matches rows set.symbols (root set.rules))
   mark_passed b d = rw (← k.width, ← k.is-root) d
 
   pub wrong_root : (b : Bool) → not b ≡ true → Decides b (RootPassed t matches rows s top)
@@ -191,7 +199,7 @@ pub record Checking (set : RuleSet) (t : List Node) (matches rows : List ℕ) (n
   pub checked : Checked set t matches rows q
 
 -- with the tests of the root and, where it is not state 0, of the mark passed, the check begins behind the root
-pub checking_first : {set : RuleSet} {t : List Node} {matches rows : List ℕ} {n s top : ℕ} → Lent set t matches rows n s top
+pub checking_first : {set : RuleSet} {t : List Node} {matches rows : List ℕ} {n s top : ℕ} → Begun set t matches rows n s top
     → (b : Bool) → not b ≡ false → Decides b (RootPassed t matches rows s top)
     → (0 < top → (d : Bool) × (not d ≡ false) × Decides d (MarkPassed t matches rows s top))
     → (q : ℕ) → q ≡ top + 1 → Checking set t matches rows n s top q
@@ -280,27 +288,21 @@ module _ {set : RuleSet} {t : List Node} {matches rows : List ℕ} {n s top q : 
       pub no_state : (b : Bool) → not b ≡ true → Decides b (Passes (with_failure t q f) matches rows s q)
           → RightTable set.rules set.symbols matches rows → ⊥
       no_state b e passes right =
-          wrong_state k.in_range_lem k.checked listed_below (by_root found) (denied b (not-true b e) (rw (← k.width) passes)) right
+          wrong_state k.in_range_lem k.checked listed_below (by_root found)
+          (denied b (not-true b e) (rw (← k.width) passes)) right
 
       module _ (inside : f < n) where
         pub state_asks : transition rows s (parent t q) (symbol t q) ≡ q
-            → (s ≤ 32) × ((q < length (with_failure t q f))
-            × ((transition rows s (parent (with_failure t q f) q) (symbol (with_failure t q f) q) ≡ q)
-            × (((q < length matches) × (failure (with_failure t q f) q < length matches))
-            × ((q * s + s ≤ length rows) × (failure (with_failure t q f) q * s + s ≤ length rows)))))
+            → (q < length (with_failure t q f))
+            × (transition rows s (parent (with_failure t q f) q) (symbol (with_failure t q f) q) ≡ q)
+            × (q < length matches)
+            × (failure (with_failure t q f) q < length matches)
         state_asks led =
             let same = failure_kept t q f node_room listed_below in (
-              omega (arith, k.width, (ranges set k.in_range_lem).few_symbols),
-              (
-                rw length-set node_room,
-                (
-                  rw (parent_kept same q, symbol_kept same q) led,
-                  (
-                    (omega (arith, k.words), rw (failure_set t q f node_room) (omega (arith, k.words))),
-                    (rw (← k.lines) (row_end s q n lt), rw (failure_set t q f node_room, ← k.lines) (row_end s f n inside)),
-                  ),
-                ),
-              ),
+              rw length-set node_room,
+              rw (parent_kept same q, symbol_kept same q) led,
+              omega (arith, k.words),
+              rw (failure_set t q f node_room) (omega (arith, k.words)),
             )
 
         pub checking_more : (b : Bool) → not b ≡ false → Decides b (Passes (with_failure t q f) matches rows s q)

@@ -70,7 +70,8 @@ module _ (rules : RuleSet) (table : List ℕ) {n s : ℕ} (all : n ≡ length (s
   pub table_small : in_range rules ≡ true → 2 + n + n * s ≤ 16964
   table_small range = omega (arith, size, table_length rules range)
 
-  pub part_lengths : 2 + n + n * s ≤ length table → (n ≡ length (match_part table n)) × (n * rules.symbols ≡ length (row_part table n s))
+  pub part_lengths : 2 + n + n * s ≤ length table
+      → (n ≡ length (match_part table n)) × (n * rules.symbols ≡ length (row_part table n s))
   part_lengths long =
       let words = length-drop 2 table in
       let lines = length-drop (2 + n) table in
@@ -80,7 +81,8 @@ module _ (rules : RuleSet) (table : List ℕ) {n s : ℕ} (all : n ≡ length (s
       )
 
   pub short_table : length table < 2 + n + n * s → false ≡ prefix (table_of rules) table
-  short_table short = never_true (prefix (table_of rules) table) (λ e. omega (arith, prefix-length (table_of rules) table e, size))
+  short_table short =
+      never_true (prefix (table_of rules) table) (λ e. omega (arith, prefix-length (table_of rules) table e, size))
 
   pub other_states : (get_or table 0 0 ≡ n → ⊥) → false ≡ prefix (table_of rules) table
   other_states other =
@@ -92,7 +94,8 @@ module _ (rules : RuleSet) (table : List ℕ) {n s : ℕ} (all : n ≡ length (s
       never_true (prefix (table_of rules) table)
       (λ e. other (begins_at (table_of rules) table e 1 0 (omega (arith, size)) ∙ table_symbols rules ∙ sym width))
 
-  begins_right : prefix (table_of rules) table ≡ true → RightTable rules.rules rules.symbols (match_part table n) (row_part table n s)
+  begins_right : prefix (table_of rules) table ≡ true
+      → RightTable rules.rules rules.symbols (match_part table n) (row_part table n s)
   begins_right e =
       record {
         right_next = λ c a lt small.

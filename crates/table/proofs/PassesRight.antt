@@ -27,7 +27,8 @@ use Rattle.trie.proofs.Failure.{FailsTo, fails_to, match_failure, failure_found}
 use Rattle.table.proofs.RowBeside.{inherits_failure, inherits_root, row_right}
 
 -- behind its first place a state is plain
-pub plain_behind : (set : RuleSet) → in_range set ≡ true → (c : ℕ) → c < length (states set.rules) → Plain (drop 1 (text set.rules c))
+pub plain_behind : (set : RuleSet) → in_range set ≡ true → (c : ℕ) → c < length (states set.rules)
+    → Plain (drop 1 (text set.rules c))
 plain_behind set in_range_lem c lt = go (text set.rules c) refl
   where
     go : (v : List ℕ) → text set.rules c ≡ v → Plain (drop 1 v)
@@ -45,7 +46,8 @@ module _ (set : RuleSet) (in_range_lem : in_range set ≡ true) (t : List Node) 
     (each : (c : ℕ) → root set.rules < c → c < length (states set.rules)
     → Passed t matches rows set.symbols (root set.rules) (length (states set.rules)) c) where
   -- a child stands in its state's row, since its parent leads to it
-  placed : (c a : ℕ) → c < length (states set.rules) → a < set.symbols → known (states set.rules) (text set.rules c ++ a ∷ []) ≡ true
+  placed : (c a : ℕ) → c < length (states set.rules) → a < set.symbols
+      → known (states set.rules) (text set.rules c ++ a ∷ []) ≡ true
       → transition rows set.symbols c a ≡ number (states set.rules) (text set.rules c ++ a ∷ [])
   placed c a lt small k =
       let s = states set.rules in
@@ -57,7 +59,8 @@ module _ (set : RuleSet) (in_range_lem : in_range set ≡ true) (t : List Node) 
 
   -- state c stands in the table as it should
   record RightState (c : ℕ) : Type 0 where
-    row : (a : ℕ) → a < set.symbols → transition rows set.symbols c a ≡ number (states set.rules) (next set.rules (text set.rules c) a)
+    row : (a : ℕ) → a < set.symbols
+        → transition rows set.symbols c a ≡ number (states set.rules) (next set.rules (text set.rules c) a)
     word : get_or matches c 0 ≡ match_word (matching set.rules (text set.rules c))
     fails : c ≢ root set.rules → RightFailure set.rules t c
 
@@ -96,7 +99,8 @@ module _ (set : RuleSet) (in_range_lem : in_range set ≡ true) (t : List Node) 
 
   -- a state is right where every shorter one is
   state_right : (c : ℕ) → root set.rules < c → c < length (states set.rules)
-      → ((b : ℕ) → b < length (states set.rules) → length (text set.rules b) < length (text set.rules c) → RightState b) → RightState c
+      → ((b : ℕ) → b < length (states set.rules) → length (text set.rules b) < length (text set.rules c) → RightState b)
+      → RightState c
   unfolding differing
   state_right c behind lt shorter =
       record {
@@ -109,7 +113,8 @@ module _ (set : RuleSet) (in_range_lem : in_range set ≡ true) (t : List Node) 
         word =
             (each c behind lt).passing.inherits
             ∙ rw (owned c lt, base.word, f.string)
-            (sym (match_failure set.rules (non_empty set in_range_lem) (text set.rules c) long (plain_behind set in_range_lem c lt)));
+            (sym (match_failure set.rules (non_empty set in_range_lem) (text set.rules c) long
+            (plain_behind set in_range_lem c lt)));
         fails = λ _. own;
       }
     where

@@ -24,7 +24,8 @@ use Rattle.trie.proofs.Failure.{FailsTo, fails_to, match_failure, failure_found}
 use Rattle.table.proofs.RowBeside.{inherits_failure, inherits_root, differs_child}
 use Rattle.table.proofs.PassesRight.{plain_behind, mark_fails}
 
-module _ (set : RuleSet) (t : List Node) (matches rows : List ℕ) (trie : TrieOf set t) (right : RightTable set.rules set.symbols matches rows) where
+module _ (set : RuleSet) (t : List Node) (matches rows : List ℕ) (trie : TrieOf set t)
+    (right : RightTable set.rules set.symbols matches rows) where
   up : (c : ℕ) → root set.rules < c → c < length (states set.rules) → parent t c < length (states set.rules)
   up c behind lt = omega (arith, trie.linked.up c behind lt)
 
@@ -38,7 +39,8 @@ module _ (set : RuleSet) (t : List Node) (matches rows : List ℕ) (trie : TrieO
       → failure_by t rows set.symbols (root set.rules) c ≡ number (states set.rules) (failure_state set.rules (text set.rules c))
   found c behind lt above =
       failure_found set t rows trie c (λ e. omega arith) lt above
-      (λ high. right.right_next (failure t (parent t c)) (symbol t c) (fails (parent t c) high (up c behind lt) (above high)).place
+      (λ high. right.right_next (failure t (parent t c)) (symbol t c)
+      (fails (parent t c) high (up c behind lt) (above high)).place
       (trie.small c behind lt))
 
   -- a node's failure state, where those behind the root below d are right: the mark's always is
@@ -61,7 +63,8 @@ module _ (set : RuleSet) (t : List Node) (matches rows : List ℕ) (trie : TrieO
           let up = trie.linked.up c behind (omega arith) in
           failing c behind lt
           ∙ found c behind (omega arith)
-          (λ high. by_cases (suc (parent t c)) (λ b far less. go d b (omega arith) far (omega arith)) (parent t c) high (omega arith))
+          (λ high. by_cases (suc (parent t c)) (λ b far less. go d b (omega arith) far (omega arith)) (parent t c) high
+          (omega arith))
 
   -- a node's parent leads to it
   leads : (c : ℕ) → root set.rules < c → c < length (states set.rules)
@@ -72,7 +75,8 @@ module _ (set : RuleSet) (t : List Node) (matches rows : List ℕ) (trie : TrieO
       ∙ sym (trie.made c behind lt)
 
   -- each state whose failure state is right passes its tests
-  right_state : in_range set ≡ true → Owned set.rules (states set.rules) t → (c : ℕ) → root set.rules < c → c < length (states set.rules)
+  right_state : in_range set ≡ true → Owned set.rules (states set.rules) t → (c : ℕ) → root set.rules < c
+      → c < length (states set.rules)
       → RightFailure set.rules t c → Passes t matches rows set.symbols c
   unfolding differing
   right_state in_range_lem owned c behind lt e =
@@ -115,7 +119,8 @@ module _ (set : RuleSet) (t : List Node) (matches rows : List ℕ) (trie : TrieO
   right_inside q behind lt failing =
       (fails_to set.rules (text set.rules q) (state_long set.rules q (λ e. omega arith) lt)
       (failure_by t rows set.symbols (root set.rules) q)
-      (found q behind lt (λ high. by_cases q (failures_right q (omega arith) failing) (parent t q) high (trie.linked.up q behind lt)))
+      (found q behind lt (λ high. by_cases q (failures_right q (omega arith) failing) (parent t q) high
+      (trie.linked.up q behind lt)))
       ).place
 
   -- The root passes its tests.

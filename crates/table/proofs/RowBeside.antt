@@ -23,9 +23,14 @@ pub record Inherits (rules : List Rule) (v : List ℕ) (w : ℕ → List ℕ) : 
   pub short : (a : ℕ) → length (w a) ≤ length v
   pub other : (a : ℕ) → known (states rules) (v ++ a ∷ []) ≡ false → next rules v a ≡ w a
 
-pub inherits_failure : (rules : List Rule) (v : List ℕ) → 0 < length v → Inherits rules v (λ a. next rules (failure_state rules v) a)
+pub inherits_failure : (rules : List Rule) (v : List ℕ) → 0 < length v
+    → Inherits rules v (λ a. next rules (failure_state rules v) a)
 inherits_failure rules v long =
-    record { listed = next_known rules (failure_state rules v); short = failure_next_short rules v long; other = next_failure rules v long }
+    record {
+      listed = next_known rules (failure_state rules v);
+      short = failure_next_short rules v long;
+      other = next_failure rules v long;
+    }
 
 pub inherits_root : (rules : List Rule) → Inherits rules [] (λ a. [])
 inherits_root rules = record { listed = λ a. known_nil rules; short = λ a. omega arith; other = next-root rules }

@@ -14,9 +14,11 @@ use Rattle.layout.specs.Image.{read, valid}
 use Rattle.layout.specs.States.{states, matching}
 use Rattle.layout.specs.Table.{match_word, row, table_of}
 use Rattle.layout.proofs.Image.{valid-in_range}
-use Rattle.layout.proofs.Table.{length-row, length_table, table_length}
+use Rattle.layout.proofs.Table.{length-row, length_table, table_length, matches_whole}
 use Rattle.trie.specs.declared.Node.{Node}
-use Rattle.trie.specs.Nodes.{Built}
+use Rattle.trie.specs.Nodes.{unused, Built}
+use Rattle.trie.specs.Rows.{Matched}
+use Rattle.std.proofs.lemmas.List.{get_or-map, get_or-take}
 
 -- an area whose first two words are n and s
 abbrev pub headed : List ℕ → ℕ → ℕ → List ℕ
@@ -72,9 +74,6 @@ module _ (table : List ℕ) (n s r : ℕ) (size : length table ≡ 2 + n + r) wh
         let back : 2 + n - 2 ≡ n = omega arith in
         rw (rowed_is, back, drop_at (take n (drop 2 table)) rows n within)
 
-    words_length : (matches : List ℕ) → length matches ≡ n → length (words_of table n s rows matches) ≡ length table
-    words_length matches e = rw words_are (simp length-append (omega arith))
-
 -- The table of a rule set of n states and s symbols, written into an area of its length.
 module _ (set : RuleSet) (table : List ℕ) {n s : ℕ} (all : n ≡ length (states set.rules)) (width : s ≡ set.symbols)
     (long : length table ≡ length (table_of set)) where
@@ -85,7 +84,8 @@ module _ (set : RuleSet) (table : List ℕ) {n s : ℕ} (all : n ≡ length (sta
   area_some = omega (arith, sized)
 
   -- room for the rows
-  pub rows_room : length (take (length (headed table n s) - (2 + n)) (drop (2 + n) (headed table n s))) ≡ length (states set.rules) * set.symbols
+  pub rows_room : length (take (length (headed table n s) - (2 + n)) (drop (2 + n) (headed table n s)))
+      ≡ length (states set.rules) * set.symbols
   rows_room = rows_part table n s (length (states set.rules) * set.symbols) sized
 
   module _ (rows : List ℕ) (filled : rows ≡ flat_map (row set) (states set.rules)) where
@@ -100,19 +100,26 @@ module _ (set : RuleSet) (table : List ℕ) {n s : ℕ} (all : n ≡ length (sta
     matches_room = matches_part table n s (length (states set.rules) * set.symbols) sized rows rows_long
 
     module _ (matches : List ℕ) (written : matches ≡ map (λ q. match_word (matching set.rules q)) (states set.rules)) where
-      pub area_length : length (words_of table n s rows matches) ≡ length table
-      area_length =
-          words_length table n s (length (states set.rules) * set.symbols) sized rows rows_long matches
-          (rw written (simp length-map (sym all)))
-
       pub table_written : words_of table n s rows matches ≡ table_of set
       unfolding table_of
       table_written =
           words_are table n s (length (states set.rules) * set.symbols) sized rows rows_long matches
           ∙ rw (all, width, filled, written)
 
+-- the match words in the nodes of the states are the table's
+pub matches_written : (set : RuleSet) (t : List Node) (n : ℕ) → n ≡ length (states set.rules) → n ≤ length t → Matched set t
+    → map (λ (x : Node). x.matched) (take n t) ≡ map (λ q. match_word (matching set.rules q)) (states set.rules)
+matches_written set t n all room right =
+    let size : length (take n t) ≡ n = length-take-le n t room in
+    matches_whole set (map (λ (x : Node). x.matched) (take n t)) (simp length-map (size ∙ all))
+    (λ c h.
+    get_or-map (λ (x : Node). x.matched) (take n t) c unused 0 (omega (arith, size, all))
+    ∙ ap (λ (x : Node). x.matched) (get_or-take n t c unused (omega (arith, all)))
+    ∙ right c h)
+
 -- the number of words by the number of states that were built, within its bound
-pub words_built : (image : List ℕ) → valid image ≡ true → (n : ℕ) (t : List Node) → Built (read image) n t → (s : ℕ) → s ≡ (read image).symbols
+pub words_built : (image : List ℕ) → valid image ≡ true → (n : ℕ) (t : List Node) → Built (read image) n t → (s : ℕ)
+    → s ≡ (read image).symbols
     → (2 + n + n * s ≡ length (table_of (read image))) × (2 + n + n * s ≤ 16964)
 words_built image e n t b s is =
     let w : 2 + n + n * s ≡ length (table_of (read image)) = rw (b.nodes, is) (sym (length_table (read image))) in

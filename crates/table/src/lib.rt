@@ -27,8 +27,8 @@ fn write(rooted: Rooted<'_>, trie: &mut [Node], table: &mut [u16])
     table[0] = n as u16;
     table[1] = s as u16;
     let rows = 2 + n;
-    rows::fill(rooted, trie, &mut table[rows..]);
-    rows::write_matches(rooted.image.bytes, trie, &mut table[2..rows]);
+    rows::fill(rooted, trie, n, &mut table[rows..]);
+    rows::write_matches(trie, &mut table[2..rows]);
 }
 
 // Compile for an image, with N nodes for the trie. It is built first, since the number of states decides whether the table fits.

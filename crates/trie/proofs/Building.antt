@@ -10,7 +10,7 @@ use mathlib.Core.List.{List, [], ◌∷◌, ◌++◌, flat_map}
 use native.Mathlib.Omega.{arith}
 use native.Mathlib.Numerals.{add-one}
 use lib.Dec.{eqb, ltb}
-use lib.ListN.{length, get_or, take, replicate, length-set}
+use lib.ListN.{length, get_or, take, replicate, length-set, set}
 use lib.Seq.{take_all, length-take-le, set-get_or}
 use borrow.Author.Tests.{eqb-true, eqb-false, ne_eqb, ltb-true, ltb-false}
 use Rattle.rewriting.specs.Lists.{alike, same}
@@ -63,7 +63,8 @@ lowest_append [] r marked v = go (fits marked v r)
     go : (b : Bool) → cond b (Some 0) (option_map suc None) ≡ cond b (Some 0) None
     go true = refl
     go false = refl
-lowest_append (x ∷ rules) r marked v = go (fits marked v x) (fits marked v r) (lowest rules marked v) (lowest_append rules r marked v)
+lowest_append (x ∷ rules) r marked v =
+    go (fits marked v x) (fits marked v r) (lowest rules marked v) (lowest_append rules r marked v)
   where
     go : (b d : Bool) (o : Option ℕ) → lowest (rules ++ r ∷ []) marked v ≡ option_or o (cond d (Some (length rules)) None)
         → cond b (Some 0) (option_map suc (lowest (rules ++ r ∷ []) marked v))
@@ -101,7 +102,8 @@ module _ (set : RuleSet) (in_range_lem : in_range set ≡ true) (i : ℕ) (lt : 
   unfolding claimed match_word
   claimed-own = go (own (take i set.rules) (pattern (rule set.rules i))) (f.owned w.node (rw f.nodes at f.node) ∙ rw f.ends)
     where
-      go : (o : Option ℕ) → matched t w.node ≡ match_word o → matched (claimed t w.node i) w.node ≡ match_word (option_or o (Some i))
+      go : (o : Option ℕ) → matched t w.node ≡ match_word o
+          → matched (claimed t w.node i) w.node ≡ match_word (option_or o (Some i))
       go None e =
           rw e
           (ap (λ (x : Node). x.matched) (node_same t w.node (record (node t w.node) { matched = i + 1 }) (omega (arith, f.node)))
@@ -167,8 +169,13 @@ first_count set = go (has_mark set.rules)
     go true = refl
     go false = refl
 
+-- a node stored as it is changes nothing
+stored : (t : List Node) (q : ℕ) (x : Node) → x ≡ node t q → set t q x ≡ t
+stored t q x e = ap (set t q) e ∙ set-get_or t q unused
+
 -- nodes that are all unused, with the first nodes planted, hold the trie of no rules
-module _ (set : RuleSet) (in_range_lem : in_range set ≡ true) (t : List Node) (clear : t ≡ replicate (length t) unused) (roomy : Roomy set (length t)) where
+module _ (set : RuleSet) (in_range_lem : in_range set ≡ true) (t : List Node) (clear : t ≡ replicate (length t) unused)
+    (roomy : Roomy set (length t)) where
   unused_at : (c : ℕ) → node t c ≡ unused
   unused_at c = ap (λ (l : List Node). node l c) clear ∙ go (length t) c
     where
@@ -186,13 +193,14 @@ module _ (set : RuleSet) (in_range_lem : in_range set ≡ true) (t : List Node) 
       ≡ record unused { parent = root set.rules; depth = root set.rules; failure = root set.rules }
   unfolding planted
   planted_first =
-      node_same t 0 (record unused { parent = root set.rules; depth = root set.rules; failure = root set.rules })
-      (omega (arith, roomy))
+      let first : Node = record (node t 0) { parent = root set.rules; depth = root set.rules; failure = root set.rules } in
+      node_same t 0 first (omega (arith, roomy))
+      ∙ ap (λ (x : Node). record x { parent = root set.rules; depth = root set.rules; failure = root set.rules }) (unused_at 0)
 
   planted_other : (c : ℕ) → c ≢ 0 → node (planted (root set.rules) t) c ≡ unused
   unfolding planted
   planted_other c other =
-      node_other t 0 c (record unused { parent = root set.rules; depth = root set.rules; failure = root set.rules }) other
+      node_other t 0 c (record (node t 0) { parent = root set.rules; depth = root set.rules; failure = root set.rules }) other
       ∙ unused_at c
 
   -- no node has a child or a match word yet
@@ -220,7 +228,8 @@ module _ (set : RuleSet) (in_range_lem : in_range set ≡ true) (t : List Node) 
       other = ne_eqb mark a (λ e. omega (arith, (ranges set in_range_lem).few_symbols))
 
       go : (b : Bool) (c : ℕ)
-          → known (cond b ((mark ∷ []) ∷ [] ∷ []) ([] ∷ [])) (get_or (cond b ((mark ∷ []) ∷ [] ∷ []) ([] ∷ [])) c [] ++ a ∷ []) ≡ false
+          → known (cond b ((mark ∷ []) ∷ [] ∷ []) ([] ∷ [])) (get_or (cond b ((mark ∷ []) ∷ [] ∷ []) ([] ∷ [])) c [] ++ a ∷ [])
+          ≡ false
       go true zero = refl
       go true (suc zero) = rw other
       go true (suc (suc c)) = rw other
@@ -299,10 +308,14 @@ module _ (set : RuleSet) (in_range_lem : in_range set ≡ true) (t : List Node) 
   -- Without a mark nothing needs to be planted: node 0 is as unused as the others.
   pub planted-none : root set.rules ≡ 0 → planted (root set.rules) t ≡ t
   unfolding planted
-  planted-none e = rw (e, ← unused_at 0) (set-get_or t 0 unused)
+  planted-none e =
+      stored t 0 _
+      (ap (λ (x : Node). record x { parent = root set.rules; depth = root set.rules; failure = root set.rules }) (unused_at 0)
+      ∙ rw e (sym (unused_at 0)))
 
 -- how many nodes there are before any rule, and where the first rule's left side begins
-pub build_first : (set : RuleSet) (t : List Node) → Grown set 0 t → (at : ℕ) → at ≡ 4 + 4 * length set.rules → (n : ℕ) → n ≡ root set.rules + 1
+pub build_first : (set : RuleSet) (t : List Node) → Grown set 0 t → (at : ℕ) → at ≡ 4 + 4 * length set.rules → (n : ℕ)
+    → n ≡ root set.rules + 1
     → Building set (length t) 0 n at t
 build_first set t grown at here n many =
     record {
@@ -314,7 +327,8 @@ build_first set t grown at here n many =
     }
 
 -- a rule more
-pub build_next : (set : RuleSet) → in_range set ≡ true → (words i n at : ℕ) (t : List Node) → Building set words i n at t → i < length set.rules
+pub build_next : (set : RuleSet) → in_range set ≡ true → (words i n at : ℕ) (t : List Node) → Building set words i n at t
+    → i < length set.rules
     → (w : Walked) (t' : List Node) → FollowedRule set i w t' → w.nodes ≤ length t'
     → (t'' : List Node) → t'' ≡ claimed t' w.node i → length t'' ≡ words
     → (n' : ℕ) → n' ≡ length (body (rule set.rules i)) → Building set words (suc i) w.nodes (at + n') t''
@@ -338,7 +352,8 @@ followed_room set e words roomy i lt w t f =
     (omega (arith, roomy), omega (arith, ranges set e), omega (arith, f.node, roomy))
 
 -- all rules
-pub build_last : (set : RuleSet) (words i n at : ℕ) (t : List Node) → Building set words i n at t → length set.rules ≤ i → Built set n t
+pub build_last : (set : RuleSet) (words i n at : ℕ) (t : List Node) → Building set words i n at t → length set.rules ≤ i
+    → Built set n t
 unfolding states states_of
 build_last set words i n at t b far =
     let whole : take i set.rules ≡ set.rules = take_all i set.rules far in

@@ -52,7 +52,8 @@ module _ (rules : List Rule) (v : List ℕ) (long : 0 < length v) where
 
   pub failure_next_short : (a : ℕ) → length (next rules (failure_state rules v) a) ≤ length v
   unfolding next
-  failure_next_short a = omega (arith, failure_shorter, simp length-append at (length-state rules (failure_state rules v ++ a ∷ [])))
+  failure_next_short a =
+      omega (arith, failure_shorter, simp length-append at (length-state rules (failure_state rules v ++ a ∷ [])))
 
 -- and the empty state to itself
 pub next-root : (rules : List Rule) (a : ℕ) → known (states rules) ([] ++ a ∷ []) ≡ false → next rules [] a ≡ []
@@ -109,9 +110,11 @@ module _ (set : RuleSet) (t : List Node) (rows : List ℕ) (trie : TrieOf set t)
           ∙ ap (number (states set.rules)) step
 
 -- how the code finds it: by the parent p, which is not the root, the symbol a and the parent's failure state f
-module _ (t : List Node) (rows : List ℕ) (symbols root q : ℕ) {p a f : ℕ} (up : p ≡ parent t q) (by : a ≡ symbol t q) (fails : f ≡ failure t p)
+module _ (t : List Node) (rows : List ℕ) (symbols root q : ℕ) {p a f : ℕ} (up : p ≡ parent t q) (by : a ≡ symbol t q)
+    (fails : f ≡ failure t p)
     (high : p ≡ root → ⊥) where
-  pub word_inside : (parent t q ≢ root → failure t (parent t q) * symbols + symbol t q < length rows) → f * symbols + a < length rows
+  pub word_inside : (parent t q ≢ root → failure t (parent t q) * symbols + symbol t q < length rows)
+      → f * symbols + a < length rows
   word_inside inside = rw (fails, by, up) (inside (λ e. high (up ∙ e)))
 
   pub word_read : transition rows symbols f a ≡ failure_by t rows symbols root q

@@ -5,11 +5,10 @@ use Prim.Native.Nat.{ℕ, ◌+◌, ◌*◌, ◌≤◌, ◌<◌}
 use mathlib.Core.Path.{◌≡◌, refl, sym, ap, ◌∙◌}
 use mathlib.Core.Bool.{Bool, true, false, cond, and-false}
 use mathlib.Core.Logic.{⊎_elim}
-use mathlib.Core.List.{List, [], ◌∷◌, map}
+use mathlib.Core.List.{List, [], ◌∷◌}
 use native.Mathlib.Omega.{arith}
 use lib.Dec.{eqb}
-use lib.ListN.{length, get_or, set as store}
-use lib.Seq.{get_or-set_same, get_or-set_other}
+use lib.ListN.{length}
 use borrow.Author.Tests.{eqb-true, eqb-false, ne_eqb, le-ltb}
 use Rattle.rewriting.specs.Rules.{Rule, RuleSet, in_range}
 use Rattle.rewriting.specs.Occurrences.{ending}
@@ -22,10 +21,10 @@ use Rattle.layout.specs.Table.{match_word}
 use Rattle.layout.specs.Words.{root, text, own, NoLonger, transition, own_or}
 use Rattle.trie.specs.declared.Node.{Node}
 use Rattle.trie.specs.Nodes.{matched, TrieOf, Owned}
-use Rattle.trie.specs.Rows.{child_number, Laid, RootFilled, reached, FillingAt, Matched, Filled}
+use Rattle.trie.specs.Rows.{child_number, Laid, RootFilled, reached, FillingAt, Filled}
 use Rattle.layout.proofs.States.{next_listed, root_below, root-text, number-root, child_some, state_long, short_state}
 use Rattle.layout.proofs.RowPlaces.{row_apart}
-use Rattle.layout.proofs.Table.{matches_whole, rows_whole}
+use Rattle.layout.proofs.Table.{rows_whole}
 use Rattle.trie.proofs.Failure.{next-root}
 use Rattle.trie.proofs.Turns.{reached_shorter}
 
@@ -48,13 +47,15 @@ root-row rules a small = go (known (states rules) (a ∷ [])) refl
     go false e = sym (ap (number (states rules)) (next-root rules a e) ∙ number-root rules)
 
 -- the states longer than the empty one are not done at the start
-reached-root : (rules : List Rule) (c : ℕ) → (c ≡ root rules → ⊥) → c < length (states rules) → reached (states rules) 1 0 c ≡ false
+reached-root : (rules : List Rule) (c : ℕ) → (c ≡ root rules → ⊥) → c < length (states rules)
+    → reached (states rules) 1 0 c ≡ false
 unfolding reached
 reached-root rules c other below =
     rw (le-ltb (length (text rules c)) 1 (state_long rules c other below), le-ltb c 0 (omega arith), and-false)
 
 -- With the children laid and the root's row filled, the empty state is done.
-pub filling_start : (set : RuleSet) (t : List Node) (rows rows' : List ℕ) → in_range set ≡ true → TrieOf set t → Owned set.rules (states set.rules) t
+pub filling_start : (set : RuleSet) (t : List Node) (rows rows' : List ℕ) → in_range set ≡ true → TrieOf set t
+    → Owned set.rules (states set.rules) t
     → Laid set rows → RootFilled rows rows' set.symbols (root set.rules) set.symbols → FillingAt set 1 0 t rows'
 filling_start set t rows rows' e trie owned laid rooted =
     record {
@@ -75,7 +76,8 @@ filling_start set t rows rows' e trie owned laid rooted =
     top = let size = ap length (root-text rules) in reached_shorter s 1 0 (root rules) (omega arith)
 
     match : (c : ℕ) → c < length s → (b : Bool) → eqb c (root rules) ≡ b
-        → matched t c ≡ cond (reached s 1 0 c) (match_word (matching rules (text set.rules c))) (match_word (own rules (text set.rules c)))
+        → matched t c
+        ≡ cond (reached s 1 0 c) (match_word (matching rules (text set.rules c))) (match_word (own rules (text set.rules c)))
     match c h true p =
         let same : c ≡ root rules = eqb-true c (root rules) p in
         let mine : matched t (root rules) ≡ match_word (own rules []) = rw root-text at (owned (root rules) (root_below rules)) in
@@ -83,7 +85,8 @@ filling_start set t rows rows' e trie owned laid rooted =
     match c h false p = rw (reached-root rules c (eqb-false c (root rules) p) h) (owned c h)
 
     -- a row other than the root's is as it was laid
-    apart : (c a : ℕ) → (c ≡ root rules → ⊥) → a < set.symbols → transition rows' set.symbols c a ≡ transition rows set.symbols c a
+    apart : (c a : ℕ) → (c ≡ root rules → ⊥) → a < set.symbols
+        → transition rows' set.symbols c a ≡ transition rows set.symbols c a
     apart c a other k =
         ⊎_elim
         (λ (x : c * set.symbols + set.symbols ≤ root rules * set.symbols). rooted.before (c * set.symbols + a) (omega arith))
@@ -91,7 +94,8 @@ filling_start set t rows rows' e trie owned laid rooted =
         (row_apart set.symbols (root rules) c other)
 
     word : (c a : ℕ) → c < length s → a < set.symbols → (b : Bool) → eqb c (root rules) ≡ b
-        → transition rows' set.symbols c a ≡ cond (reached s 1 0 c) (number s (next rules (text set.rules c) a)) (child_number s (text set.rules c) a)
+        → transition rows' set.symbols c a
+        ≡ cond (reached s 1 0 c) (number s (next rules (text set.rules c) a)) (child_number s (text set.rules c) a)
     word c a h k true p =
         let same : c ≡ root rules = eqb-true c (root rules) p in
         let mine : transition rows set.symbols (root rules) a ≡ child_number s [] a =
@@ -103,7 +107,8 @@ filling_start set t rows rows' e trie owned laid rooted =
         rw (reached-root rules c other h) (apart c a other k ∙ laid.table c a h k)
 
 -- When the states as long as the longest left side, and the mark where there is one, are done, all are.
-pub filling_end : (set : RuleSet) (n : ℕ) (t t' : List Node) (rows : List ℕ) → in_range set ≡ true → NoLonger n set.rules → length t' ≡ length t
+pub filling_end : (set : RuleSet) (n : ℕ) (t t' : List Node) (rows : List ℕ) → in_range set ≡ true → NoLonger n set.rules
+    → length t' ≡ length t
     → FillingAt set (n + root set.rules + 1) 0 t' rows → Filled set t t' rows
 filling_end set n t t' rows e long size filling =
     record {
@@ -118,21 +123,3 @@ filling_end set n t t' rows e long size filling =
     final c h =
         let short = short_state n set.rules long c h in
         reached_shorter (states set.rules) (n + root set.rules + 1) 0 c (omega arith)
-
--- The match words are written one by one.
-pub written_more : (t : List Node) (words : List ℕ) (q : ℕ) → q < length words → ((k : ℕ) → k < q → get_or words k 0 ≡ matched t k)
-    → (k : ℕ) → k < q + 1 → get_or (store words q (matched t q)) k 0 ≡ matched t k
-written_more t words q h all k l = go (eqb k q) refl
-  where
-    go : (b : Bool) → eqb k q ≡ b → get_or (store words q (matched t q)) k 0 ≡ matched t k
-    go true e =
-        let same : k ≡ q = eqb-true k q e in
-        rw same (get_or-set_same words q (matched t q) 0 h)
-    go false e =
-        let differs = eqb-false k q e in
-        get_or-set_other words q k (matched t q) 0 differs ∙ all k (omega (arith, differs))
-
-pub written_all : (set : RuleSet) (t : List Node) (words : List ℕ) → Matched set t → length words ≡ length (states set.rules)
-    → ((k : ℕ) → k < length words → get_or words k 0 ≡ matched t k)
-    → words ≡ map (λ q. match_word (matching set.rules q)) (states set.rules)
-written_all set t words matches size all = matches_whole set words size (λ k h. all k (omega arith) ∙ matches k h)

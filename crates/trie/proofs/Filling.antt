@@ -72,7 +72,8 @@ module _ (set : RuleSet) (done : ℕ → Bool) (t : List Node) (rows : List ℕ)
         (failure t (parent t q)) (kept high)
 
     -- by which its own is found
-    pub own_failure : failure_by t rows set.symbols (root set.rules) q ≡ number (states set.rules) (failure_state set.rules (text set.rules q))
+    pub own_failure : failure_by t rows set.symbols (root set.rules) q
+        ≡ number (states set.rules) (failure_state set.rules (text set.rules q))
     own_failure =
         failure_found set t rows filling.trie q other below kept
         (λ high.
@@ -116,7 +117,8 @@ module _ (set : RuleSet) (done : ℕ → Bool) (t : List Node) (rows : List ℕ)
             go : (b : Bool) → eqb q 0 ≡ b → failure t' 0 ≡ root rules
             go true e =
                 let first : q ≡ 0 = eqb-true q 0 e in
-                rw first at (ap (λ (l : List Node). failure l q) note ∙ noted_failure t q f inside) ∙ is ∙ by_root t rows set.symbols (root rules) q (ap (λ
+                rw first at (ap (λ (l : List Node). failure l q) note ∙ noted_failure t q f inside) ∙ is
+                ∙ by_root t rows set.symbols (root rules) q (ap (λ
                 (c : ℕ). parent t c) first ∙ filling.trie.mark_parent)
             go false e =
                 let differs = eqb-false q 0 e in
@@ -140,12 +142,15 @@ module _ (set : RuleSet) (done : ℕ → Bool) (t : List Node) (rows : List ℕ)
         f_done = shorter f l.place l.short
 
         match : (c : ℕ) → c < length s → (b : Bool) → eqb c q ≡ b
-            → matched t' c ≡ cond (done' c) (match_word (matching rules (text set.rules c))) (match_word (own rules (text set.rules c)))
+            → matched t' c
+            ≡ cond (done' c) (match_word (matching rules (text set.rules c))) (match_word (own rules (text set.rules c)))
         match c h true e =
             let same : c ≡ q = eqb-true c q e in
             let mine : matched t q ≡ match_word (own rules v) = rw not_yet at (filling.matches q below) in
-            let its : matched t f ≡ match_word (matching rules (failure_state rules v)) = rw (f_done, l.string) at (filling.matches f l.place) in
-            rw (same, now_done, note, noted_match t q f inside, mine, its) (sym (match_failure rules (non_empty set in_range_lem) v long plain))
+            let its : matched t f ≡ match_word (matching rules (failure_state rules v)) = rw (f_done, l.string) at
+            (filling.matches f l.place) in
+            rw (same, now_done, note, noted_match t q f inside, mine, its)
+            (sym (match_failure rules (non_empty set in_range_lem) v long plain))
         match c h false e =
             let differs = eqb-false c q e in
             rw (others c differs)
@@ -162,7 +167,8 @@ module _ (set : RuleSet) (done : ℕ → Bool) (t : List Node) (rows : List ℕ)
             ∙ filling.failures c other₂ h (sym (others c differs) ∙ e)
 
         word : (c a : ℕ) → c < length s → a < set.symbols → (b : Bool) → eqb c q ≡ b
-            → transition rows' set.symbols c a ≡ cond (done' c) (number s (next rules (text set.rules c) a)) (child_number s (text set.rules c) a)
+            → transition rows' set.symbols c a
+            ≡ cond (done' c) (number s (next rules (text set.rules c) a)) (child_number s (text set.rules c) a)
         word c a h k true e =
             let same : c ≡ q = eqb-true c q e in
             let mine : transition rows set.symbols q a ≡ child_number s v a = rw not_yet at (filling.table q a below k) in

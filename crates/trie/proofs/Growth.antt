@@ -122,7 +122,8 @@ module _ (root : ℕ) (s : List (List ℕ)) (symbols : ℕ) (t : List Node) (h :
       go : (b : Bool) → known s (get_or s q [] ++ a ∷ []) ≡ b → b ≡ false
       go true e =
           let at = number_at s (get_or s q [] ++ a ∷ []) e in
-          absurd (missing (number s (get_or s q [] ++ a ∷ [])) (state_child q a (number s (get_or s q [] ++ a ∷ [])) small hq at.0 at.1))
+          absurd (missing (number s (get_or s q [] ++ a ∷ []))
+          (state_child q a (number s (get_or s q [] ++ a ∷ [])) small hq at.0 at.1))
       go false e = refl
 
   -- with a state its own beginning is known
@@ -136,7 +137,8 @@ module _ (root : ℕ) (s : List (List ℕ)) (symbols : ℕ) (t : List Node) (h :
       rw parts.0 at (known_at s (parent t c) (omega (arith, at.0)))
 
 -- The trie with a new state: node q's, with symbol a added.
-module _ (root : ℕ) (s : List (List ℕ)) (symbols : ℕ) (t : List Node) (h : Trie root s symbols t) (q a : ℕ) (hq : q < length s) (small : a < symbols)
+module _ (root : ℕ) (s : List (List ℕ)) (symbols : ℕ) (t : List Node) (h : Trie root s symbols t) (q a : ℕ) (hq : q < length s)
+    (small : a < symbols)
     (room : length s < length t) (new : known s (get_or s q [] ++ a ∷ []) ≡ false) where
   more_length : length (s ++ (get_or s q [] ++ a ∷ []) ∷ []) ≡ suc (length s)
   more_length = rw length-append (omega arith)
@@ -158,15 +160,22 @@ module _ (root : ℕ) (s : List (List ℕ)) (symbols : ℕ) (t : List Node) (h :
 
   made' : (c : ℕ) → root < c → c < suc (length s)
       → get_or (s ++ (get_or s q [] ++ a ∷ []) ∷ []) c []
-      ≡ get_or (s ++ (get_or s q [] ++ a ∷ []) ∷ []) (parent (added t (length s) q a) c) [] ++ symbol (added t (length s) q a) c ∷ []
+      ≡ get_or (s ++ (get_or s q [] ++ a ∷ []) ∷ []) (parent (added t (length s) q a) c) []
+      ++ symbol (added t (length s) q a) c ∷ []
   made' c some k = go (last_or (length s) c k)
     where
       go : (c < length s) ⊎ (c ≡ length s)
           → get_or (s ++ (get_or s q [] ++ a ∷ []) ∷ []) c []
-          ≡ get_or (s ++ (get_or s q [] ++ a ∷ []) ∷ []) (parent (added t (length s) q a) c) [] ++ symbol (added t (length s) q a) c ∷ []
+          ≡ get_or (s ++ (get_or s q [] ++ a ∷ []) ∷ []) (parent (added t (length s) q a) c) []
+          ++ symbol (added t (length s) q a) c ∷ []
       go (inl lt) =
           let up : parent t c < length s = omega (arith, h.linked.up c some lt) in
-          rw (parent_old t (length s) q a hq room c lt, symbol_old t (length s) q a hq room c lt, more_old c lt, more_old (parent t c) up)
+          rw (
+            parent_old t (length s) q a hq room c lt,
+            symbol_old t (length s) q a hq room c lt,
+            more_old c lt,
+            more_old (parent t c) up,
+          )
           (h.made c some lt)
       go (inr e) =
           rw (e, added_parent t (length s) q a hq room, added-symbol t (length s) q a hq room, more_new, more_old q hq)
@@ -212,16 +221,21 @@ module _ (root : ℕ) (s : List (List ℕ)) (symbols : ℕ) (t : List Node) (h :
       go lt (inl e) =
           rw (e, added_children t (length s) q a hq room, more_old q hq, h.counted q hq)
           (sym
-          (tally_more (λ b. known s (get_or s q [] ++ b ∷ [])) (λ b. known (s ++ (get_or s q [] ++ a ∷ []) ∷ []) (get_or s q [] ++ b ∷ []))
+          (tally_more (λ b. known s (get_or s q [] ++ b ∷ []))
+          (λ b. known (s ++ (get_or s q [] ++ a ∷ []) ∷ []) (get_or s q [] ++ b ∷ []))
           symbols a small new
           (rw (more_known (get_or s q [] ++ a ∷ []), new) (same_refl (get_or s q [] ++ a ∷ [])))
-          (λ b lt other. rw (more_known (get_or s q [] ++ b ∷ []), not_new (get_or s q []) b (λ _ p. other p)) (or-false (known s (get_or s q [] ++ b ∷ []))))))
+          (λ b lt other. rw (more_known (get_or s q [] ++ b ∷ []), not_new (get_or s q []) b (λ _ p. other p))
+          (or-false (known s (get_or s q [] ++ b ∷ []))))))
       go (inl lt) (inr other) =
           rw (children_old t (length s) q a hq room c lt other, more_old c lt, h.counted c lt)
           (tally_agree (λ b. known s (get_or s c [] ++ b ∷ []))
           (λ b. known (s ++ (get_or s q [] ++ a ∷ []) ∷ []) (get_or s c [] ++ b ∷ [])) symbols
           (λ b _. sym
-          (rw (more_known (get_or s c [] ++ b ∷ []), not_new (get_or s c []) b (λ p _. other (node_once root s symbols t h c q lt hq p)))
+          (rw (
+            more_known (get_or s c [] ++ b ∷ []),
+            not_new (get_or s c []) b (λ p _. other (node_once root s symbols t h c q lt hq p)),
+          )
           (or-false (known s (get_or s c [] ++ b ∷ []))))))
       go (inr e) (inr other) =
           rw (e, ap (λ (x : Node). x.children) (added_node t (length s) q a hq room), fresh, more_new)
@@ -240,7 +254,8 @@ module _ (root : ℕ) (s : List (List ℕ)) (symbols : ℕ) (t : List Node) (h :
 
           longer : (b : ℕ) → same (get_or s q [] ++ a ∷ []) (get_or s q [] ++ a ∷ [] ++ b ∷ []) ≡ false
           longer b = not_new (get_or s q [] ++ a ∷ []) b
-              (λ p _. let n : length (get_or s q [] ++ a ∷ []) ≡ length (get_or s q []) = ap length p in omega (arith, simp length-append at n))
+              (λ p _. let n : length (get_or s q [] ++ a ∷ []) ≡ length (get_or s q []) = ap length p in
+              omega (arith, simp length-append at n))
 
   clear' : (c : ℕ) → suc (length s) ≤ c → node (added t (length s) q a) c ≡ unused
   clear' c far = added_other t (length s) q a hq room c (λ e. omega arith) (λ e. omega arith) ∙ h.clear c (omega arith)
@@ -281,7 +296,8 @@ module _ (root : ℕ) (s : List (List ℕ)) (symbols : ℕ) (t : List Node) (h :
           (ap (λ (x : Node). x.matched) (added_node t (length s) q a hq room) ∙ ap (λ (x : Node). x.matched) fresh)
 
 -- A symbol followed from node q, whatever was there.
-module _ (root : ℕ) (s : List (List ℕ)) (symbols : ℕ) (t : List Node) (h : Trie root s symbols t) (q a : ℕ) (hq : q < length s) (small : a < symbols)
+module _ (root : ℕ) (s : List (List ℕ)) (symbols : ℕ) (t : List Node) (h : Trie root s symbols t) (q a : ℕ) (hq : q < length s)
+    (small : a < symbols)
     (room : length s < length t) where
   pub record Stepped (w : Walked) (t' : List Node) : Type 0 where
     pub trie : Trie root (numbered s ((get_or s q [] ++ a ∷ []) ∷ [])) symbols t'
@@ -289,7 +305,8 @@ module _ (root : ℕ) (s : List (List ℕ)) (symbols : ℕ) (t : List Node) (h :
     pub node : w.node < length (numbered s ((get_or s q [] ++ a ∷ []) ∷ []))
     pub state : get_or (numbered s ((get_or s q [] ++ a ∷ []) ∷ [])) w.node [] ≡ get_or s q [] ++ a ∷ []
     pub size : length t' ≡ length t
-    pub owned : (rules : List Rule) → Owned rules s t → (known s (get_or s q [] ++ a ∷ []) ≡ false → own rules (get_or s q [] ++ a ∷ []) ≡ None)
+    pub owned : (rules : List Rule) → Owned rules s t
+        → (known s (get_or s q [] ++ a ∷ []) ≡ false → own rules (get_or s q [] ++ a ∷ []) ≡ None)
         → Owned rules (numbered s ((get_or s q [] ++ a ∷ []) ∷ [])) t'
 
   stays : known s (get_or s q [] ++ a ∷ []) ≡ true → numbered s ((get_or s q [] ++ a ∷ []) ∷ []) ≡ s
@@ -324,7 +341,8 @@ module _ (root : ℕ) (s : List (List ℕ)) (symbols : ℕ) (t : List Node) (h :
         node = rw (grows new, longer, f.node) (omega arith);
         state = rw (grows new, f.node) (more_new root s symbols t h q a hq small room new);
         size = rw f.grown (added_size t (length s) q a hq room);
-        owned = λ rules owned low. rw (grows new, f.grown) (owned_added root s symbols t h q a hq small room new rules owned (low new));
+        owned = λ rules owned low.
+            rw (grows new, f.grown) (owned_added root s symbols t h q a hq small room new rules owned (low new));
       }
 
   pub stepped : (w : Walked) (t' : List Node) → Followed root t (length s) q a w t' → Stepped w t'

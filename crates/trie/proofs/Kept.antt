@@ -14,7 +14,21 @@ use borrow.Author.Tests.{ltb-true, ltb-false}
 use Rattle.rewriting.proofs.Lists.{same_or}
 use Rattle.layout.specs.Words.{own_or}
 use Rattle.trie.specs.declared.Node.{Node}
-use Rattle.trie.specs.Nodes.{unused, node, parent, symbol, depth, youngest, older, children, matched, failure, Linked, Trie, claimed}
+use Rattle.trie.specs.Nodes.{
+  unused,
+  node,
+  parent,
+  symbol,
+  depth,
+  youngest,
+  older,
+  children,
+  matched,
+  failure,
+  Linked,
+  Trie,
+  claimed,
+}
 use Rattle.trie.specs.Rows.{noted}
 use Rattle.trie.proofs.Nodes.{node_same, node_other}
 
@@ -56,8 +70,10 @@ module _ {n : ℕ} {t t' : List Node} (k : Kept n t t') where
         young_of = λ q h pos. rw (youngest_kept q, parent_kept (youngest t q)) (l.young_of q h (rw (youngest_kept q) at pos));
         young_last = λ q c h pos k₂ e. rw (youngest_kept q) (l.young_last q c h pos k₂ (sym (parent_kept c) ∙ e));
         old = λ c pos h. rw (older_kept c) (l.old c pos h);
-        old_of = λ c pos h more. rw (older_kept c, parent_kept (older t c), parent_kept c) (l.old_of c pos h (rw (older_kept c) at more));
-        old_next = λ c b pos h pos₂ k₂ e. rw (older_kept c) (l.old_next c b pos h pos₂ k₂ (sym (parent_kept b) ∙ e ∙ parent_kept c));
+        old_of = λ c pos h more.
+            rw (older_kept c, parent_kept (older t c), parent_kept c) (l.old_of c pos h (rw (older_kept c) at more));
+        old_next = λ c b pos h pos₂ k₂ e.
+            rw (older_kept c) (l.old_next c b pos h pos₂ k₂ (sym (parent_kept b) ∙ e ∙ parent_kept c));
       }
 
 -- where the mark's failure state is kept too
@@ -102,7 +118,8 @@ module _ {root : ℕ} {s : List (List ℕ)} {symbols : ℕ} {t : List Node} (h :
       (ap (λ (x : Node). x.failure) (taken_node 0) ∙ h.mark_failure) h
 
 -- a node is stored with the same links
-pub kept_set : {n : ℕ} (t : List Node) (q : ℕ) (x : Node) → q < n → q < length t → links x ≡ links (node t q) → Kept n t (set t q x)
+pub kept_set : {n : ℕ} (t : List Node) (q : ℕ) (x : Node) → q < n → q < length t → links x ≡ links (node t q)
+    → Kept n t (set t q x)
 kept_set t q x h inside same =
     record {
       size = λ h. rw length-set h;

@@ -98,14 +98,16 @@ laid_more set t rows c trie size pos below laid q a h k = go (eqb (q * set.symbo
         let string : text set.rules q ++ a ∷ [] ≡ get_or s c [] = rw (row, word) (sym (trie.made c pos below)) in
         ap (λ (i : ℕ). get_or (store rows place c) i 0) same
         ∙ get_or-set_same rows place c 0 inside
-        ∙ sym (below-own s c (text set.rules q ++ a ∷ []) (rw string (known_at s c below)) (rw string (number_back set.rules c below)))
+        ∙ sym (below-own s c (text set.rules q ++ a ∷ []) (rw string (known_at s c below))
+        (rw string (number_back set.rules c below)))
     go false e =
         let apart = eqb-false (q * set.symbols + a) place e in
         get_or-set_other rows place (q * set.symbols + a) c 0 apart
         ∙ laid q a h k
         ∙ sym (below_other s c (text set.rules q ++ a ∷ []) (λ known_here e₂. apart (meets known_here e₂)))
       where
-        meets : known s (text set.rules q ++ a ∷ []) ≡ true → number s (text set.rules q ++ a ∷ []) ≡ c → q * set.symbols + a ≡ place
+        meets : known s (text set.rules q ++ a ∷ []) ≡ true → number s (text set.rules q ++ a ∷ []) ≡ c
+            → q * set.symbols + a ≡ place
         meets k₂ e₂ =
             let child =
             state_child (root set.rules) s set.symbols t trie q a c k h below
@@ -114,7 +116,8 @@ laid_more set t rows c trie size pos below laid q a h k = go (eqb (q * set.symbo
             rw (child.of, child.by)
 
 -- all words 0: no child is laid yet
-pub laid_none : (set : RuleSet) (rows : List ℕ) → set.symbols ≤ mark → rows ≡ replicate (length (states set.rules) * set.symbols) 0
+pub laid_none : (set : RuleSet) (rows : List ℕ) → set.symbols ≤ mark
+    → rows ≡ replicate (length (states set.rules) * set.symbols) 0
     → LaidBelow set rows (root set.rules + 1)
 laid_none set rows few e q a h k =
     let fits = row_end set.symbols q (length (states set.rules)) h in

@@ -30,37 +30,6 @@ use Rattle.trie.specs.Nodes.{
 abbrev pub Searching : ℕ → List Node → ℕ → ℕ → ℕ → ℕ → Type 0
 Searching root t n q a c = (c < n) × (0 < c → ChildOf root t q c) × ((b : ℕ) → IsChild root t n q a b → b ≤ c)
 
-module _ (root : ℕ) (t : List Node) (n q a : ℕ) where
-  pub search_first : Linked root t n → q < n → (c : ℕ) → c ≡ youngest t q → Searching root t n q a c
-  search_first l h c e =
-      rw e (l.young q h, l.young_of q h, λ b k. l.young_last q b h k.behind k.node k.of)
-
-  pub search_next : Linked root t n → (c : ℕ) → Searching root t n q a c → 0 < c → (symbol t c ≡ a → ⊥) → (c' : ℕ) → c' ≡ older t c
-      → Searching root t n q a c'
-  search_next l c s h other c' e =
-      rw e (
-        less,
-        λ k. ((l.old_of c here.0 s.0 k).0, (l.old_of c here.0 s.0 k).1 ∙ here.1),
-        λ b k. l.old_next c b here.0 s.0 k.behind (before b k) (k.of ∙ sym here.1),
-      )
-    where
-      here : ChildOf root t q c
-      here = s.1 h
-
-      less : older t c < n
-      less = omega (arith, l.old c here.0 s.0, s.0)
-
-      before : (b : ℕ) → IsChild root t n q a b → b < c
-      before b k =
-          let differs : b ≡ c → ⊥ = λ p. other (ap (λ (x : ℕ). symbol t x) (sym p) ∙ k.by) in
-          omega (arith, s.2 b k, differs)
-
-  pub search_found : (c : ℕ) → Searching root t n q a c → 0 < c → symbol t c ≡ a → IsChild root t n q a c
-  search_found c s h e = record { behind = (s.1 h).0; node = s.0; of = (s.1 h).1; by = e }
-
-  pub search_none : (c : ℕ) → Searching root t n q a c → c ≤ 0 → (b : ℕ) → IsChild root t n q a b → ⊥
-  search_none c s h b k = omega (arith, s.2 b k, k.behind)
-
 -- a node that is stored, and the others
 pub node_same : (t : List Node) (q : ℕ) (x : Node) → q < length t → node (set t q x) q ≡ x
 node_same t q x h = get_or-set_same t q x unused h
@@ -74,7 +43,8 @@ module _ (t : List Node) (n q a : ℕ) (lt : q < n) (room : n < length t) where
   unfolding added
   added_size = simp length-set
 
-  pub added_node : node (added t n q a) n ≡ record (node t n) { parent = q; symbol = a; depth = depth t q + 1; older = youngest t q }
+  pub added_node : node (added t n q a) n
+      ≡ record (node t n) { parent = q; symbol = a; depth = depth t q + 1; older = youngest t q }
   unfolding added
   added_node =
       node_other (set t n (record (node t n) { parent = q; symbol = a; depth = depth t q + 1; older = youngest t q })) q n

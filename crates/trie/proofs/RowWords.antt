@@ -1,26 +1,18 @@
 -- What the stores to rows and nodes leave there: the root's row filled, rows merged.
 -- Assumes nothing.
-use Prim.Native.Nat.{ℕ, ◌+◌, ◌-◌, ◌*◌, ◌≤◌, ◌<◌}
-use mathlib.Core.Path.{◌≡◌, refl, sym, ap, ◌∙◌}
+use Prim.Native.Nat.{ℕ, ◌+◌, ◌*◌, ◌≤◌, ◌<◌}
+use mathlib.Core.Path.{◌≡◌, refl, ◌∙◌}
 use mathlib.Core.Bool.{Bool, true, false, cond}
 use mathlib.Core.Logic.{⊎_elim}
-use mathlib.Core.List.{List, ◌++◌}
+use mathlib.Core.List.{List}
 use native.Mathlib.Omega.{arith}
-use native.Mathlib.Nat.{not-suc-le-zero}
 use lib.Dec.{eqb}
-use lib.ListN.{length, get_or, take, drop, set, length-set, length-drop, get_or-append}
-use lib.Seq.{get_or-set_same, get_or-set_other, length-take-le, set-append_left}
-use borrow.Rule.Slice.PartMut.{put_mid, post_of}
-use Rattle.std.proofs.lemmas.List.{set-append_right, get_or-append_right}
+use lib.ListN.{length, get_or, set, length-set}
+use lib.Seq.{get_or-set_same, get_or-set_other}
 use borrow.Author.Tests.{eqb-true, eqb-false}
 use Rattle.layout.specs.Words.{transition, own_or}
 use Rattle.trie.specs.Rows.{RootFilled, Merged}
 use Rattle.layout.proofs.RowPlaces.{row_order}
-
--- before the first word is merged
-pub merged_none : (rows : List ℕ) (s q f : ℕ) → Merged rows rows s q f 0
-merged_none rows s q f =
-    record { size = refl; own = λ a h. absurd (not-suc-le-zero h); before = λ k h. refl; behind = λ k h. refl }
 
 -- one more word of row q is merged
 pub merged_more : (rows rows' : List ℕ) (s q f a : ℕ) → q * s + s ≤ length rows → a < s → Merged rows rows' s q f a → (v : ℕ)
@@ -51,54 +43,6 @@ merged_more rows rows' s q f a fits h m v e =
     own b k false p =
         let differs = eqb-false b a p in
         get_or-set_other rows' (q * s + a) (q * s + b) v 0 (λ x. differs (omega arith)) ∙ m.own b (omega arith)
-
--- the root's row, word by word
-pub rooted_none : (rows : List ℕ) (s root : ℕ) → RootFilled rows rows s root 0
-rooted_none rows s root =
-    record { size = refl; own = λ a h. absurd (not-suc-le-zero h); before = λ k h. refl; behind = λ k h. refl }
-
-pub rooted_more : (rows rows' : List ℕ) (s root a : ℕ) → root * s + s ≤ length rows → a < s → RootFilled rows rows' s root a → (v : ℕ)
-    → v ≡ own_or (transition rows' s root a) root → RootFilled rows (set rows' (root * s + a) v) s root (a + 1)
-rooted_more rows rows' s root a fits h m v e =
-    record {
-      size = length-set rows' (root * s + a) v ∙ m.size;
-      own = λ b k. own b k (eqb b a) refl;
-      before = λ k l. get_or-set_other rows' (root * s + a) k v 0 (λ p. omega arith) ∙ m.before k l;
-      behind = λ k l. get_or-set_other rows' (root * s + a) k v 0 (λ p. omega arith) ∙ m.behind k (omega arith);
-    }
-  where
-    here : get_or rows' (root * s + a) 0 ≡ get_or rows (root * s + a) 0
-    here = m.behind (root * s + a) (omega arith)
-
-    own : (b : ℕ) → b < a + 1 → (t : Bool) → eqb b a ≡ t
-        → transition (set rows' (root * s + a) v) s root b ≡ own_or (transition rows s root b) root
-    own b k true p =
-        let same : b ≡ a = eqb-true b a p in
-        let size = m.size in
-        rw (same, get_or-set_same rows' (root * s + a) v 0 (omega arith), ← here) e
-    own b k false p =
-        let differs = eqb-false b a p in
-        get_or-set_other rows' (root * s + a) (root * s + b) v 0 (λ x. differs (omega arith)) ∙ m.own b (omega arith)
-
--- what a row lends: its words in place, and so as many as it has
-module _ (l m : List ℕ) (a s : ℕ) (within : a + s ≤ length l) (long : length m ≡ length (take (a + s - a) (drop a l))) where
-  pub lent_length : length m ≡ s
-  lent_length = long ∙ length-take-le (a + s - a) (drop a l) (rw length-drop (omega arith)) ∙ omega arith
-
-  pub lent_word : (j : ℕ) → j < s → get_or (put_mid a (a + s - a) l m) (a + j) 0 ≡ get_or m j 0
-  lent_word j h =
-      let back : a + j - a ≡ j = omega arith in
-      let n = lent_length in
-      get_or-append_right (take a l) (m ++ post_of a (a + s - a) l) a (a + j) 0 (length-take-le a l (omega arith)) (omega arith)
-      ∙ rw back (get_or-append m (post_of a (a + s - a) l) 0 j (omega arith))
-
-  pub lent_set : (j v : ℕ) → j < s → put_mid a (a + s - a) l (set m j v) ≡ set (put_mid a (a + s - a) l m) (a + j) v
-  lent_set j v h =
-      let back : a + j - a ≡ j = omega arith in
-      let n = lent_length in
-      sym
-      (set-append_right (take a l) (m ++ post_of a (a + s - a) l) a (a + j) v (length-take-le a l (omega arith)) (omega arith)
-      ∙ rw back (ap (λ (r : List ℕ). take a l ++ r) (set-append_left m (post_of a (a + s - a) l) j v (omega arith))))
 
 -- where the root is state 0 its row is right as it is
 pub rooted_zero : (rows : List ℕ) (s root : ℕ) → root ≡ 0 → RootFilled rows rows s root s

@@ -73,7 +73,8 @@ module _ (P Q : ℕ → Bool) where
       → (a : ℕ) → a < n → Q a ≡ true → P a ≡ true
   unfolding tally
   tally-same zero h e a lt q = absurd (not-suc-le-zero lt)
-  tally-same (suc n) h e a lt q = go (P n) refl (Q n) refl e (tally_less n (λ a lt. h a (omega arith))) (tally-same n (λ a lt. h a (omega arith)))
+  tally-same (suc n) h e a lt q =
+      go (P n) refl (Q n) refl e (tally_less n (λ a lt. h a (omega arith))) (tally-same n (λ a lt. h a (omega arith)))
     where
       last : P n ≡ Q n → (tally P n ≡ tally Q n → (a : ℕ) → a < n → Q a ≡ true → P a ≡ true) → tally P n ≡ tally Q n
           → (b : Bool) → ltb a n ≡ b → P a ≡ true

@@ -1,7 +1,7 @@
 -- The order in which the states are filled, short before long: which are done, and that each turn keeps what is said of them.
 -- Assumes nothing.
 use Prim.Native.Nat.{ℕ, ◌+◌, ◌*◌, ◌≤◌, ◌<◌}
-use mathlib.Core.Path.{◌≡◌, refl, sym, ap, ◌∙◌}
+use mathlib.Core.Path.{◌≡◌, refl, sym, ◌∙◌}
 use mathlib.Core.Bool.{Bool, true, false, ◌&&◌, ◌||◌, and-false}
 use mathlib.Core.Logic.{◌≢◌}
 use mathlib.Core.List.{List, []}
@@ -15,7 +15,7 @@ use Rattle.layout.specs.Words.{root, text}
 use Rattle.trie.specs.declared.Node.{Node}
 use Rattle.trie.specs.Nodes.{parent, symbol, depth, failure, failure_by}
 use Rattle.trie.specs.Rows.{Merged, noted, reached, Filling, FillingAt}
-use Rattle.layout.proofs.States.{root-text, few_states, state_long}
+use Rattle.layout.proofs.States.{few_states, state_long}
 use Rattle.layout.proofs.RowPlaces.{row_end, word_within}
 use Rattle.trie.proofs.Growth.{parent_below}
 use Rattle.trie.proofs.Failure.{fails_to}
@@ -88,13 +88,6 @@ filling_same set done done' t rows same filling =
       table = λ c a h k. rw (same c h) (filling.table c a h k);
     }
 
--- a state of some depth is not the root
-pub filling_other : (set : RuleSet) (d q : ℕ) (t : List Node) (rows : List ℕ) → 0 < d → depth t q ≡ d → q < length (states set.rules)
-    → FillingAt set d q t rows → (top : ℕ) → top ≡ root set.rules → q ≢ top
-filling_other set d q t rows pos deep h filling top is e =
-    let empty : text set.rules q ≡ [] = ap (text set.rules) (e ∙ is) ∙ root-text set.rules in
-    omega (arith, filling.trie.deep q h, ap length empty)
-
 -- a state of another depth is passed over
 pub filling_skip : (set : RuleSet) (d q : ℕ) (t : List Node) (rows : List ℕ) → (depth t q ≡ d → ⊥) → q < length (states set.rules)
     → FillingAt set d q t rows → FillingAt set d (q + 1) t rows
@@ -134,7 +127,8 @@ module _ (set : RuleSet) (q : ℕ) (t : List Node) (rows : List ℕ) (filling : 
     -- the word by which the failure state is found stands in the rows
     pub failure_place : parent t q ≢ root set.rules → failure t (parent t q) * set.symbols + symbol t q < length rows
     failure_place high =
-        let f = parent_fails set (reached (states set.rules) (depth t q) q) t rows filling q in_range_lem other below shorter high in
+        let f = parent_fails set (reached (states set.rules) (depth t q) q)
+        t rows filling q in_range_lem other below shorter high in
         rw filling.size
         (word_within set.symbols (failure t (parent t q)) (length (states set.rules)) (symbol t q) f.place
         (symbol_small set (reached (states set.rules) (depth t q) q) t rows filling q in_range_lem other below shorter high))
@@ -149,7 +143,8 @@ module _ (set : RuleSet) (q : ℕ) (t : List Node) (rows : List ℕ) (filling : 
         let n : ℕ = length (states set.rules) in
         let size : length rows ≡ n * set.symbols = filling.size in
         let room : n ≤ length t = filling.trie.linked.size in
-        let found = own_failure set (reached (states set.rules) (depth t q) q) t rows filling q in_range_lem other below shorter in
+        let found = own_failure set (reached (states set.rules) (depth t q) q)
+        t rows filling q in_range_lem other below shorter in
         let place : f < n = (fails_to set.rules (text set.rules q) (state_long set.rules q other below) f (is ∙ found)).place in (
           omega arith,
           omega (arith, few_states set in_range_lem),
@@ -157,7 +152,8 @@ module _ (set : RuleSet) (q : ℕ) (t : List Node) (rows : List ℕ) (filling : 
           omega (arith, row_end set.symbols f n place),
         )
 
-    pub filling_more : (t' : List Node) (rows' : List ℕ) (f : ℕ) → f ≡ failure_by t rows set.symbols (root set.rules) q → t' ≡ noted t q f
+    pub filling_more : (t' : List Node) (rows' : List ℕ) (f : ℕ) → f ≡ failure_by t rows set.symbols (root set.rules) q
+        → t' ≡ noted t q f
         → Merged rows rows' set.symbols q f set.symbols → FillingAt set (depth t q) (q + 1) t' rows'
     filling_more t' rows' f is note merged =
         state_filled set (reached (states set.rules) (depth t q) q) t rows filling q in_range_lem other below shorter

@@ -130,7 +130,8 @@ symbols_next (r ∷ rs) (suc i) h =
 unfoldable pub lead : Rule → ℕ
 lead r = cond r.marked 1 0
 
-lead_left : (r : Rule) (j : ℕ) → (get_or (pattern r) (lead r + j) 0 ≡ get_or r.left j 0) × (length (pattern r) ≡ lead r + length r.left)
+lead_left : (r : Rule) (j : ℕ)
+    → (get_or (pattern r) (lead r + j) 0 ≡ get_or r.left j 0) × (length (pattern r) ≡ lead r + length r.left)
 unfolding pattern lead
 lead_left r j = go r.marked
   where
@@ -155,7 +156,8 @@ mark-taken [] (suc i) m = m
 mark-taken (r ∷ rules) zero m = let z : ◌≡◌ {A = ℕ} 0 1 = cc in absurd (omega arith)
 mark-taken (r ∷ rules) (suc i) m = go r.marked refl m (mark-taken rules i)
   where
-    go : (b : Bool) → r.marked ≡ b → (b || has_mark (take i rules)) ≡ true → (has_mark (take i rules) ≡ true → has_mark rules ≡ true)
+    go : (b : Bool) → r.marked ≡ b → (b || has_mark (take i rules)) ≡ true
+        → (has_mark (take i rules) ≡ true → has_mark rules ≡ true)
         → (r.marked || has_mark rules) ≡ true
     go true e m ih = or_left r.marked (has_mark rules) e
     go false e m ih = or_right r.marked (has_mark rules) (ih m)
@@ -222,7 +224,8 @@ module _ (set : RuleSet) (i words : ℕ) where
       )
       go false m = (trie.some_node, trie.root-empty)
 
-  pub walk_first : (t : List Node) → Grown set i t → i < length set.rules → (n : ℕ) → n ≡ length (states_of set i) → length t ≡ words
+  pub walk_first : (t : List Node) → Grown set i t → i < length set.rules → (n : ℕ) → n ≡ length (states_of set i)
+      → length t ≡ words
       → (q : ℕ) → q ≡ first_node set i → Walking 0 q n t
   walk_first t g lt n e long q first =
       record {

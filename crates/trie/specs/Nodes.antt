@@ -10,7 +10,26 @@
 --     children    how many children it has
 --     matched     match word: first of the rules whose left side is the state itself, in the end the table's
 --     failure     failure state, once it is known
-use Rattle.std.specs.Prelude.{ℕ, zero, suc, ◌+◌, ◌≤◌, ◌<◌, ◌≡◌, Bool, cond, ◌⊎◌, Option, Some, None, eqb, length, get_or, set, take}
+use Rattle.std.specs.Prelude.{
+  ℕ,
+  zero,
+  suc,
+  ◌+◌,
+  ◌≤◌,
+  ◌<◌,
+  ◌≡◌,
+  Bool,
+  cond,
+  ◌⊎◌,
+  Option,
+  Some,
+  None,
+  eqb,
+  length,
+  get_or,
+  set,
+  take,
+}
 use mathlib.Core.List.{List, [], ◌∷◌, ◌++◌, flat_map}
 use Rattle.rewriting.specs.Rules.{Rule, RuleSet, rule}
 use Rattle.trie.specs.declared.Node.{Node}
@@ -150,7 +169,7 @@ first_node set i = cond (rule set.rules i).marked 0 (root set.rules)
 
 -- t with the first nodes: node 0 has the root as parent and failure state, and the mark's depth where it is not the root
 unfoldable pub planted : ℕ → List Node → List Node
-planted root t = set t 0 (record unused { parent = root; depth = root; failure = root })
+planted root t = set t 0 (record (node t 0) { parent = root; depth = root; failure = root })
 
 -- the states of the first i rules, behind the first states of all
 unfoldable pub states_of : RuleSet → ℕ → List (List ℕ)

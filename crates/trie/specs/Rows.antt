@@ -48,7 +48,8 @@ pub record Filling (set : RuleSet) (done : ℕ → Bool) (t : List Node) (rows :
   pub trie : TrieOf set t
   pub size : length rows ≡ length (states set.rules) * set.symbols
   pub matches : (c : ℕ) → c < length (states set.rules)
-      → matched t c ≡ cond (done c) (match_word (matching set.rules (text set.rules c))) (match_word (own set.rules (text set.rules c)))
+      → matched t c
+      ≡ cond (done c) (match_word (matching set.rules (text set.rules c))) (match_word (own set.rules (text set.rules c)))
   pub failures : (c : ℕ) → (c ≡ root set.rules → ⊥) → c < length (states set.rules) → done c ≡ true → RightFailure set.rules t c
   pub table : (c a : ℕ) → c < length (states set.rules) → a < set.symbols
       → transition rows set.symbols c a

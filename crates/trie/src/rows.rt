@@ -1,18 +1,16 @@
 // The rows and match words of the table, filled from the trie. specs/Rows.antt says what stands in them on the way.
 // What its functions ask, compile has shown.
-ghost use Rattle.std.specs.Prelude.{◌+◌, ◌*◌, ◌≤◌, ◌<◌, ◌≡◌, ◌≢◌, map, length, replicate};
-ghost use Rattle.layout.specs.Image.{read};
-ghost use Rattle.layout.specs.States.{states, matching};
-ghost use Rattle.layout.specs.Table.{match_word};
+ghost use Rattle.std.specs.Prelude.{◌+◌, ◌*◌, ◌≤◌, ◌<◌, ◌≡◌, ◌≢◌, map, length, replicate, take};
+ghost use Rattle.layout.specs.States.{states};
 ghost use Rattle.layout.specs.Words.{Longest, own_or};
 ghost use Rattle.image.specs.Sets.{set_of};
 ghost use Rattle.trie.specs.Nodes.{depth, TrieOf, Built};
-ghost use Rattle.trie.specs.Rows.{Laid, RootFilled, Merged, noted, FillingAt, Matched, Filled};
+ghost use Rattle.trie.specs.Rows.{Laid, RootFilled, Merged, noted, FillingAt, Filled};
 
 use crate::{Node, failure_of};
 use image::{Image, Rooted};
 
-// Each node's number, which the loop counts, into the row of its parent.
+// Each node's number into the row of its parent, from the first behind the root on.
 fn lay_children(rooted: Rooted<'_>, trie: &[Node], rows: &mut [u16])
     requires trie { TrieOf (set_of rooted.image) trie.now }
     requires count { length trie.now ≡ length (states (set_of rooted.image).rules) }
@@ -20,9 +18,9 @@ fn lay_children(rooted: Rooted<'_>, trie: &[Node], rows: &mut [u16])
     ensures { Laid (set_of rooted.entry.image) rows.new }
 {
     let s = rooted.image.symbols();
-    for c in rooted.root + 1..trie.len() {
-        let p = usize::from(trie[c].parent);
-        let a = usize::from(trie[c].symbol);
+    for (c, node) in trie.iter().enumerate().skip(rooted.root + 1) {
+        let p = usize::from(node.parent);
+        let a = usize::from(node.symbol);
         rows[p * s + a] = c as u16;
     }
 }
@@ -35,8 +33,8 @@ fn chosen(own: u16, other: u16) -> u16
     if own == 0 { other } else { own }
 }
 
-// Each 0 in the row of the root becomes the root's number. Where that is 0 there is nothing to do. It is not one function with merge,
-// which takes its words from another row of the same slice.
+// Each 0 in the row of the root becomes the root's number. Where that is 0 there is nothing to do. It is not one function with
+// merge, which takes its words from another row of the same slice.
 fn fill_root(rows: &mut [u16], s: usize, root: usize)
     requires own { root * s + s ≤ length rows.old }
     requires low { root ≤ 1 }
@@ -69,9 +67,11 @@ fn note(trie: &mut [Node], q: usize, f: usize)
     ensures { trie.new ≡ noted trie.old q f }
 {
     let other = trie[f].matched;
-    let node = &mut trie[q];
-    node.matched = chosen(node.matched, other);
-    node.failure = f as u16;
+    trie[q] = Node {
+        matched: chosen(trie[q].matched, other),
+        failure: f as u16,
+        ..trie[q]
+    };
 }
 
 // State q, whose turn it is: its failure state, match word and row.
@@ -100,7 +100,8 @@ fn fill_depth(rooted: Rooted<'_>, trie: &mut [Node], rows: &mut [u16], d: u16)
     }
 }
 
-// The number of symbols of the longest left side.
+// The number of symbols of the longest left side. Over `(0..image.rules()).map(..).max()` it gets no proof: the look at a rule
+// asks for a rule's number, and the law of the chain is about every number.
 fn longest(image: Image<'_>) -> usize
     ensures { (result ≤ 8) × Longest result (set_of image.entry).rules }
 {
@@ -111,9 +112,10 @@ fn longest(image: Image<'_>) -> usize
     most
 }
 
-// The rows of the table, and its match words in the nodes: short states before long, as a failure state is shorter. A state has at
-// most the symbols of the longest left side, and the mark where there is one.
-pub fn fill(rooted: Rooted<'_>, trie: &mut [Node], rows: &mut [u16])
+// The rows of the table, and its match words in the nodes: short states before long, as a failure state is shorter. A state has
+// at most the symbols of the longest left side, and the mark where there is one. The loop counts depths, which are items of
+// nothing.
+fn fill_rows(rooted: Rooted<'_>, trie: &mut [Node], rows: &mut [u16])
     requires trie { Built (set_of rooted.image) (length trie.old) trie.old }
     requires room { length rows.old ≡ length (states (set_of rooted.image).rules) * (set_of rooted.image).symbols }
     ensures { Filled (set_of rooted.entry.image) trie.old trie.new rows.new }
@@ -129,12 +131,20 @@ pub fn fill(rooted: Rooted<'_>, trie: &mut [Node], rows: &mut [u16])
     }
 }
 
-// The match words from the nodes. These by index: of what is written behind a `zip` of `iter_mut` nothing is known.
-pub fn write_matches(image: &[u8], trie: &[Node], words: &mut [u16])
-    requires matches { Matched (read image.now) trie.now }
-    requires count { length trie.now ≡ length (states (read image.now).rules) }
-    requires size { length words.old ≡ length trie.now }
-    ensures { words.new ≡ map (λ q. match_word (matching (read image.now).rules q)) (states (read image.now).rules) }
+// The rows of the table, and its match words in the first n of the nodes.
+pub fn fill(rooted: Rooted<'_>, trie: &mut [Node], n: usize, rows: &mut [u16])
+    requires trie { Built (set_of rooted.image) n trie.old }
+    requires room { length rows.old ≡ length (states (set_of rooted.image).rules) * (set_of rooted.image).symbols }
+    ensures { Filled (set_of rooted.entry.image) trie.old trie.new rows.new }
+{
+    fill_rows(rooted, &mut trie[..n], rows);
+}
+
+// The match words from the nodes, as many as there are words. Over `words.iter_mut().zip(trie)` it gets no proof: nothing is
+// known of what is written through an adapter of `iter_mut` but `enumerate`.
+pub fn write_matches(trie: &[Node], words: &mut [u16])
+    requires { length words.old ≤ length trie.now }
+    ensures { words.new ≡ map (λ x. x.matched) (take (length words.old) trie.now) }
 {
     for (q, word) in words.iter_mut().enumerate() {
         *word = trie[q].matched;

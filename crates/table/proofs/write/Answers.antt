@@ -1,13 +1,13 @@
 -- `table::write` meets its contract: the first two words, the rows, and the match words between them are the table.
 use Prim.Native.Nat.{◌+◌, ◌≤◌}
-use mathlib.Core.Path.{refl, sym, ◌∙◌}
+use mathlib.Core.Path.{refl, ◌∙◌}
 use native.Mathlib.Omega.{arith}
 use lib.ListN.{length, length-set}
 use Rattle.rewriting.proofs.Ranges.{ranges}
 use Rattle.image.specs.Sets.{set_of}
 use Rattle.layout.proofs.Image.{valid-in_range}
 use Rattle.layout.proofs.States.{few_states}
-use Rattle.table.proofs.Written.{area_some, rows_room, matches_end, matches_room, table_written}
+use Rattle.table.proofs.Written.{area_some, rows_room, matches_end, matches_room, matches_written, table_written}
 use Rattle.table.proofs.write.Goals.{Start}
 use Rattle.table.proofs.write.Goals as goal
 
@@ -58,16 +58,18 @@ slice_bounds-write_matches-end c =
 
 pub write_matches-requires : goal.write_matches-requires
 write_matches-requires c =
-    let trie = c.requires.trie in record {
-      matches = c.fill.ensures.matches;
-      count = c.fill.ensures.size ∙ trie.nodes;
-      size = matches_room (set_of c.args.rooted.image) c.args.table.now c.requires.trie.nodes
-          c.symbols-s.ensures c.requires.size
-          c.fill.new.rows c.fill.ensures.table
-          ∙ sym c.fill.ensures.size;
-    }
+    let trie = c.requires.trie in
+    let size = matches_room (set_of c.args.rooted.image) c.args.table.now trie.nodes c.symbols-s.ensures c.requires.size
+    c.fill.new.rows c.fill.ensures.table in
+    omega (arith, size, c.fill.ensures.size)
 
 pub returns : goal.returns
 returns c =
-    table_written (set_of c.args.rooted.image) c.args.table.now c.requires.trie.nodes c.symbols-s.ensures c.requires.size
-    c.fill.new.rows c.fill.ensures.table c.write_matches.new.words c.write_matches.ensures
+    let set = set_of c.args.rooted.image in
+    let trie = c.requires.trie in
+    let size = matches_room set c.args.table.now trie.nodes c.symbols-s.ensures c.requires.size c.fill.new.rows
+    c.fill.ensures.table in
+    table_written set c.args.table.now trie.nodes c.symbols-s.ensures c.requires.size
+    c.fill.new.rows c.fill.ensures.table c.write_matches.new.words
+    (c.write_matches.ensures
+    ∙ matches_written set c.fill.new.trie _ (size ∙ trie.nodes) (omega (arith, size, c.fill.ensures.size)) c.fill.ensures.matches)

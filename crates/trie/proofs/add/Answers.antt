@@ -4,7 +4,7 @@ use mathlib.Core.Path.{ap}
 use native.Mathlib.Omega.{arith}
 use lib.ListN.{set}
 use Rattle.trie.specs.declared.Node.{Node}
-use Rattle.trie.specs.Nodes.{node, depth, youngest, added}
+use Rattle.trie.specs.Nodes.{node, depth, youngest, children, added}
 use Rattle.trie.proofs.Nodes.{node_other}
 use Rattle.trie.proofs.add.Goals as goal
 
@@ -15,5 +15,5 @@ returns c =
     let n = c.args.n in
     let q = c.args.q in
     let new : Node = record (node t n) { parent = q; symbol = c.args.a; depth = depth t q + 1; older = youngest t q } in
-    ap (λ (x : Node). set (set t n new) q (record x { youngest = n; children = x.children + 1 }))
+    ap (λ (x : Node). set (set t n new) q (record x { youngest = n; children = children t q + 1 }))
     (node_other t n q new (λ e. omega (arith, c.requires.node.0)))

@@ -42,7 +42,8 @@ loop-i-preserved c =
     let walked = c.walk-w.ensures in
     let room = followed_room _ (valid-in_range _ c.args.rooted.image.valid) _ c.requires.1 _ more _ _ walked.0 in
     rw add-one
-    (build_next _ (valid-in_range _ c.args.rooted.image.valid) _ _ _ _ _ turn more _ _ walked.0 (rw (walked.1 ∙ turn.size) room.0) _
+    (build_next _ (valid-in_range _ c.args.rooted.image.valid) _ _ _ _ _ turn more _ _ walked.0
+    (rw (walked.1 ∙ turn.size) room.0) _
     c.claim.ensures (c.claim.auto.trie ∙ walked.1 ∙ turn.size) _ c.body_length-at.ensures)
 
 pub returns : goal.returns

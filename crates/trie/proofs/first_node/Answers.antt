@@ -6,7 +6,11 @@ use Rattle.trie.proofs.first_node.Goals as goal
 
 pub overflow_sub-result : goal.overflow_sub-result
 overflow_sub-result c =
-    omega (arith, (first_node-is (set_of c.args.rooted.image) c.args.i c.args.rooted.root _ c.args.rooted.rooted c.mark.ensures).0)
+    omega (
+      arith,
+      (first_node-is (set_of c.args.rooted.image) c.args.i c.args.rooted.root _ c.args.rooted.rooted
+          c.mark.ensures).0,
+    )
 
 pub returns : goal.returns
 returns c =

@@ -12,10 +12,12 @@ use Rattle.trie.proofs.walk.Goals.{In-loop-a}
 use Rattle.trie.proofs.walk.Goals as goal
 
 pub overflow_add-a-items : goal.overflow_add-a-items
-overflow_add-a-items c = omega (arith, left_inside _ c.args.rooted.image.valid _ _ _ c.requires.rule.0 c.requires.rule.1 c.left_length-long.ensures)
+overflow_add-a-items c =
+    omega (arith, left_inside _ c.args.rooted.image.valid _ _ _ c.requires.rule.0 c.requires.rule.1 c.left_length-long.ensures)
 
 pub slice_bounds-a-items-end : goal.slice_bounds-a-items-end
-slice_bounds-a-items-end c = left_inside _ c.args.rooted.image.valid _ _ _ c.requires.rule.0 c.requires.rule.1 c.left_length-long.ensures
+slice_bounds-a-items-end c =
+    left_inside _ c.args.rooted.image.valid _ _ _ c.requires.rule.0 c.requires.rule.1 c.left_length-long.ensures
 
 pub loop-a-init : goal.loop-a-init
 loop-a-init c = walk_first _ _ _ _ c.requires.trie.0 c.requires.rule.0 _ c.requires.nodes refl _ c.first_node-q.ensures
@@ -23,7 +25,8 @@ loop-a-init c = walk_first _ _ _ _ c.requires.trie.0 c.requires.rule.0 _ c.requi
 -- there are more symbols
 more : (c : In-loop-a) → c.loop-a.a-index < length (rule (set_of c.args.rooted.image).rules c.args.i).left
 more c =
-    within_left _ c.args.rooted.image.valid _ _ _ c.requires.rule.0 c.requires.rule.1 c.left_length-long.ensures _ c.loop-a-test.true
+    within_left _ c.args.rooted.image.valid _ _ _ c.requires.rule.0 c.requires.rule.1 c.left_length-long.ensures _
+    c.loop-a-test.true
 
 pub follow-w-requires : goal.follow-w-requires
 follow-w-requires c =
@@ -42,7 +45,8 @@ loop-a-preserved c =
     let next = more (goal.at.loop-a-preserved c).In-loop-a in
     let at = symbol_at _ c.args.rooted.image.valid _ _ _ c.requires.rule.0 c.requires.rule.1 c.left_length-long.ensures _ next in
     rw add-one
-    (walk_next _ _ _ (valid-in_range _ c.args.rooted.image.valid) c.requires.trie.1 c.requires.rule.0 _ _ _ _ c.loop-a.invariant next _
+    (walk_next _ _ _ (valid-in_range _ c.args.rooted.image.valid) c.requires.trie.1 c.requires.rule.0 _ _ _ _ c.loop-a.invariant
+    next _
     (c.from.ensures ∙ at) _ _ (rw c.args.rooted.rooted at c.follow-w.ensures))
 
 pub returns : goal.returns

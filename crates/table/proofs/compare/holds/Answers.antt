@@ -5,7 +5,7 @@ use native.Mathlib.Omega.{arith}
 use lib.ListN.{length}
 use Rattle.image.specs.Sets.{set_of}
 use Rattle.layout.proofs.Image.{valid-in_range}
-use Rattle.table.proofs.Compared.{table_small, part_lengths, short_table, other_states, other_symbols, compared}
+use Rattle.table.proofs.Compared.{table_small, short_table, other_states, other_symbols, compared}
 use Rattle.table.proofs.compare.holds.Goals.{After-symbols-s}
 use Rattle.table.proofs.compare.holds.Goals as goal
 
@@ -35,14 +35,6 @@ pub returns-then-from-s : goal.returns-then-from-s
 returns-then-from-s c =
     other_symbols (set_of c.args.rooted.image) c.args.table.now c.requires.nodes c.symbols-s.ensures
     (λ e. c.if-from-s.true (c.from-2.ensures ∙ e))
-
-pub states_hold-requires : goal.states_hold-requires
-states_hold-requires c =
-    let parts = part_lengths (set_of c.args.rooted.image) c.args.table.now c.requires.nodes
-    c.symbols-s.ensures c.if-table-end.false in record {
-      built = c.requires;
-      n_value = parts;
-    }
 
 pub returns : goal.returns
 returns c =

@@ -14,7 +14,8 @@ loop-q-preserved c =
     elim c.if-trie-q.branch [
       | then-trie-q w ↦ rw (w.trie-is, w.rows-is) (rw w.if-trie-q.true at w.fill_state.ensures)
       | else-trie-q w ↦ rw (w.trie-is, w.rows-is)
-          (filling_skip (set_of c.args.rooted.image) c.args.d turn.q turn.trie turn.rows w.if-trie-q.false (omega arith) turn.invariant)
+          (filling_skip (set_of c.args.rooted.image) c.args.d turn.q turn.trie turn.rows w.if-trie-q.false
+          (omega arith) turn.invariant)
     ]
 
 pub returns : goal.returns

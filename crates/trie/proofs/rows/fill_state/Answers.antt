@@ -23,7 +23,8 @@ other c e = c.requires.state.0 (e ∙ sym c.args.rooted.rooted)
 bounds : (c : Start)
     → (c.args.q < length c.args.trie.now) × (parent c.args.trie.now c.args.q < length c.args.trie.now)
 bounds c =
-    nodes_within (set_of c.args.rooted.image) c.args.q c.args.trie.now c.args.rows.now c.requires.filling (in_range_lem c) (other c)
+    nodes_within (set_of c.args.rooted.image) c.args.q c.args.trie.now c.args.rows.now c.requires.filling (in_range_lem c)
+    (other c)
     c.requires.state.1
 
 -- the failure state, with the number of symbols that was read

@@ -1,5 +1,5 @@
--- `trie::rows::longest` meets its contract. The loop's invariant: no left side of the rules before `i` is longer than `most`, which
--- is the least such number.
+-- `trie::rows::longest` meets its contract. The loop's invariant: no left side of the rules before `i` is longer than `most`, and
+-- that is the least such number.
 use Prim.Native.Nat.{ℕ, ◌+◌, ◌≤◌, ◌<◌}
 use mathlib.Core.Logic.{◌⊎◌, inl, inr}
 use mathlib.Core.Path.{◌≡◌, refl}

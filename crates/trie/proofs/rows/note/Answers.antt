@@ -5,4 +5,4 @@ use Rattle.trie.proofs.rows.note.Goals as goal
 
 pub returns : goal.returns
 unfolding noted
-returns c = rw c.chosen-node.ensures refl
+returns c = rw c.chosen.ensures refl

@@ -1,6 +1,6 @@
--- `table::compare::states_hold` meets its contract. The loop's invariant: the root, the mark and every state below q have passed, and
--- the trie is as it was but for their failure states.
-use Prim.Native.Nat.{ℕ, ◌<◌}
+-- `table::compare::Parts::states_hold` meets its contract. The loop's invariant: the root, the mark and every state below q have
+-- passed, and the trie is as it was but for their failure states.
+use Prim.Native.Nat.{◌<◌}
 use mathlib.Core.Path.{◌≡◌, refl, sym, ap, ◌∙◌}
 use mathlib.Core.Bool.{not}
 use native.Mathlib.Omega.{arith}
@@ -8,7 +8,7 @@ use lib.ListN.{length, length-set}
 use Rattle.image.specs.Sets.{set_of}
 use Rattle.layout.proofs.Image.{valid-in_range}
 use Rattle.table.proofs.CheckLoop.{
-  Lent,
+  Begun,
   root_asks,
   mark_asks,
   wrong_root,
@@ -24,22 +24,26 @@ use Rattle.table.proofs.CheckLoop.{
   state_asks,
   checking_more,
 }
-use Rattle.table.proofs.compare.states_hold.Goals.{Start, Else-f-n, then-rooted-gt0+else-not-mark_holds, else-rooted-gt0}
-use Rattle.table.proofs.compare.states_hold.Goals as goal
+use Rattle.table.proofs.compare.Parts.states_hold.Goals.{Start, Else-f-n, then-root-gt0+else-not-mark_holds, else-root-gt0}
+use Rattle.table.proofs.compare.Parts.states_hold.Goals as goal
 
--- what the check is lent
-lent : (c : Start) (s : ℕ) → s ≡ (set_of c.args.rooted.image).symbols
-    → Lent (set_of c.args.rooted.image) c.args.trie.now c.args.matches.now c.args.rows.now (length c.args.trie.now) s c.args.rooted.root
-lent c s width =
+-- what is known when the check begins
+begun : (c : Start)
+    → Begun (set_of c.args.self.rooted.image) c.args.trie.now c.args.self.matches.now c.args.self.rows.now
+    (length c.args.trie.now)
+    c.args.self.width c.args.self.rooted.root
+begun c =
+    let self = c.args.self in
+    let words : length c.args.trie.now ≡ length self.matches.now = c.requires.nodes ∙ sym self.words in
     record {
-      in_range_lem = valid-in_range c.args.rooted.image.bytes.now c.args.rooted.image.valid;
-      all = c.requires.built.nodes;
-      width = width;
-      is-root = c.args.rooted.rooted;
-      trie = c.requires.built.trie;
-      owned = c.requires.built.owned;
-      words = c.requires.n_value.0;
-      lines = c.requires.n_value.1;
+      in_range_lem = valid-in_range self.rooted.image.bytes.now self.rooted.image.valid;
+      all = c.requires.nodes;
+      width = self.wide;
+      is-root = self.rooted.rooted;
+      trie = c.requires.trie;
+      owned = c.requires.owned;
+      words = words;
+      lines = rw (words, ← self.wide) self.lines;
     }
 
 -- the node's last word stands in the trie
@@ -51,41 +55,37 @@ node_of c =
 pub root_holds-requires : goal.root_holds-requires
 root_holds-requires c =
     let s = (goal.at.root_holds-requires c).Start in
-    let p =
-    root_asks (lent s _ c.symbols-s.ensures)
-    in record { few = p.0; low = p.1.0; node = p.1.1.0; word = p.1.1.1.0; row = p.1.1.1.1 }
+    root_asks (begun s)
 
 pub returns-then-not-root_holds : goal.returns-then-not-root_holds
 returns-then-not-root_holds c =
     let s = (goal.at.returns-then-not-root_holds c).Start in
-    wrong_root (lent s _ c.symbols-s.ensures) c.root_holds.result (ap not c.if-not-root_holds.true) c.root_holds.ensures
+    wrong_root (begun s) c.root_holds.result (ap not c.if-not-root_holds.true) c.root_holds.ensures
 
 pub mark_holds-requires : goal.mark_holds-requires
 mark_holds-requires c =
     let s = (goal.at.mark_holds-requires c).Start in
-    let p =
-    mark_asks (lent s _ c.symbols-s.ensures)
-    in record { few = p.0; node = p.1.0; word = p.1.1.0; own = p.1.1.1.0; other = p.1.1.1.1 }
+    mark_asks (begun s)
 
 pub returns-then-not-mark_holds : goal.returns-then-not-mark_holds
 returns-then-not-mark_holds c =
     let s = (goal.at.returns-then-not-mark_holds c).Start in
-    wrong_mark (lent s _ c.symbols-s.ensures) c.if-rooted-gt0.true c.mark_holds.result (ap not c.if-not-mark_holds.true)
+    wrong_mark (begun s) c.if-root-gt0.true c.mark_holds.result (ap not c.if-not-mark_holds.true)
     c.mark_holds.ensures
 
 pub overflow_step-q : goal.overflow_step-q
 overflow_step-q c =
     let s = (goal.at.overflow_step-q c).Start in
-    omega (arith, (root_asks (lent s _ c.symbols-s.ensures)).1.0)
+    omega arith
 
 pub loop-q-init : goal.loop-q-init
 loop-q-init c =
     let s = (goal.at.loop-q-init c).Start in (
       refl,
-      checking_first (lent s _ c.symbols-s.ensures) c.root_holds.result (ap not c.if-not-root_holds.false) c.root_holds.ensures
-          (λ pos. elim c.if-rooted-gt0.branch [
-            | then-rooted-gt0+else-not-mark_holds w ↦ (w.mark_holds.result, ap not w.if-not-mark_holds.false, w.mark_holds.ensures)
-            | else-rooted-gt0 w ↦ absurd (omega (arith, w.if-rooted-gt0.false))
+      checking_first (begun s) c.root_holds.result (ap not c.if-not-root_holds.false) c.root_holds.ensures
+          (λ pos. elim c.if-root-gt0.branch [
+            | then-root-gt0+else-not-mark_holds w ↦ (w.mark_holds.result, ap not w.if-not-mark_holds.false, w.mark_holds.ensures)
+            | else-root-gt0 w ↦ absurd (omega (arith, w.if-root-gt0.false))
           ]) _ refl,
     )
 
@@ -126,7 +126,7 @@ state_holds-requires c =
     let p =
     state_asks c.loop-q.invariant.1 c.loop-q-test.true c.failure_of-f.ensures c.if-f-n.false
     (sym c.led_to-child.ensures ∙ c.if-child-q.false)
-    in record { few = p.0; node = p.1.0; led = p.1.1.0; words = p.1.1.1.0; own = p.1.1.1.1.0; other = p.1.1.1.1.1 }
+    in record { node = p.0; led = p.1; words = (p.2, p.3) }
 
 pub returns-then-not-state_holds : goal.returns-then-not-state_holds
 returns-then-not-state_holds c =
