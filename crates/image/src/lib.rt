@@ -5,7 +5,7 @@
 ghost use Rattle.std.specs.Prelude.{◌<◌, ◌≡◌, true, length};
 ghost use mathlib.Core.List.{flat_map};
 ghost use Rattle.rewriting.specs.Rules.{rule};
-ghost use Rattle.layout.specs.Image.{mark_byte, body, read, valid};
+ghost use Rattle.layout.specs.Image.{body, read, valid};
 ghost use Rattle.layout.specs.Places.{right_side_of};
 ghost use Rattle.layout.specs.Words as Words;
 
@@ -59,12 +59,12 @@ impl Image<'_> {
         usize::from(self.bytes[4 + 4 * i])
     }
 
-    // The mark of rule i: 1, or 0 where it has none.
-    pub fn mark(self, i: usize) -> usize
+    // Whether rule i has the mark.
+    pub fn marked(self, i: usize) -> bool
         requires { i < length (set_of self).rules }
-        ensures { result ≡ mark_byte (rule (set_of self.entry).rules i).marked }
+        ensures { result ≡ (rule (set_of self.entry).rules i).marked }
     {
-        usize::from(self.bytes[7 + 4 * i])
+        self.bytes[7 + 4 * i] == 1
     }
 
     // The right side of rule i.

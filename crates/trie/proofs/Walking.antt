@@ -162,16 +162,6 @@ mark-taken (r ∷ rules) (suc i) m = go r.marked refl m (mark-taken rules i)
     go true e m ih = or_left r.marked (has_mark rules) e
     go false e m ih = or_right r.marked (has_mark rules) (ih m)
 
--- the first node, as the code works it out: the root without the mark
-pub first_node-is : (set : RuleSet) (i top m : ℕ) → top ≡ root set.rules → m ≡ mark_byte (rule set.rules i).marked
-    → (m ≤ top) × (top - m ≡ first_node set i)
-unfolding first_node mark_byte
-first_node-is set i top m is byte = go (rule set.rules i).marked refl byte
-  where
-    go : (b : Bool) → (rule set.rules i).marked ≡ b → m ≡ mark_byte b → (m ≤ top) × (top - m ≡ cond b 0 (root set.rules))
-    go true e d = (omega (arith, is, d, root_found set.rules i e), omega (arith, is, d, root_found set.rules i e))
-    go false e d = (omega (arith, d), omega (arith, is, d))
-
 -- The walk along rule i's left side: after j symbols it stands at the node of the mark, if there is one, and the first j, and
 -- these prefixes have nodes.
 module _ (set : RuleSet) (i words : ℕ) where

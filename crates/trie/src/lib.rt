@@ -168,11 +168,16 @@ fn claim(trie: &mut [Node], q: usize, i: usize)
 }
 
 // The node that the left side of rule i is followed from: 0, the mark's, where it has the mark, which makes the root 1.
+#[tactic(auto, unfolding(crate::specs::Nodes::first_node))]
 fn first_node(rooted: Rooted<'_>, i: usize) -> usize
     requires { i < length (set_of rooted.image).rules }
     ensures { result ≡ first_node (set_of rooted.entry.image) i }
 {
-    rooted.root - rooted.image.mark(i)
+    if rooted.image.marked(i) {
+        0
+    } else {
+        rooted.root
+    }
 }
 
 // Follows the left side of rule i, which begins at byte `at`, in the trie of the n states of the rules before it: from the mark's
