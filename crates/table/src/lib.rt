@@ -1,14 +1,14 @@
 // The matching table: compile, and the check that a lent table is the one that compile gives.
 #![tactic(auto)]
 
-ghost use Rattle.std.specs.Prelude.{◌≤◌, ◌≡◌, length};
+ghost use Rattle.std.specs.Prelude.{◌≤◌, ◌≡◌, length, replicate};
 ghost use Rattle.rewriting.specs.Lists.{prefix};
 ghost use Rattle.layout.specs.Table.{table_of};
 ghost use Rattle.layout.specs.Refusals.{numbered};
 ghost use Rattle.layout.specs.Compile.{compile_of};
 ghost use Rattle.layout.specs.TableCheck.{check_of};
 ghost use Rattle.image.specs.Sets.{set_of};
-ghost use Rattle.trie.specs.Nodes.{Roomy, Built};
+ghost use Rattle.trie.specs.Nodes.{unused, Roomy, Built};
 
 use image::Rooted;
 use layout::Refusal;
@@ -65,15 +65,15 @@ pub fn compile(image: &[u8], table: &mut [u16]) -> Result<usize, Refusal>
     }
 }
 
-// Whether the table begins with that of the image, with N nodes for the trie.
-fn begins_by<const N: usize>(rooted: Rooted<'_>, table: &[u16]) -> bool
-    requires room { Roomy (set_of rooted.image) N }
-    requires bounded { N ≤ 514 }
+// Whether the table begins with that of the image, with nodes for the trie. They are lent: with their number as a parameter, as
+// compile_with has it, there are two such functions, the tests of the states are no longer compiled into one, and take a tenth
+// longer.
+fn begins_by(rooted: Rooted<'_>, nodes: &mut [Node], table: &[u16]) -> bool
+    requires { (nodes.old ≡ replicate (length nodes.old) unused) × (Roomy (set_of rooted.image) (length nodes.old)) }
     ensures { result ≡ prefix (table_of (set_of rooted.entry.image)) table.now }
 {
-    let mut nodes = [Node::UNUSED; N];
-    trie::begin(rooted, &mut nodes);
-    let n = trie::build(rooted, &mut nodes);
+    trie::begin(rooted, nodes);
+    let n = trie::build(rooted, nodes);
     compare::holds(rooted, &mut nodes[..n], table)
 }
 
@@ -82,9 +82,9 @@ fn begins_with_table(rooted: Rooted<'_>, table: &[u16]) -> bool
     ensures { result ≡ prefix (table_of (set_of rooted.entry.image)) table.now }
 {
     if rooted.image.bodies_length() < 63 {
-        begins_by::<FEW_NODES>(rooted, table)
+        begins_by(rooted, &mut [Node::UNUSED; FEW_NODES], table)
     } else {
-        begins_by::<NODES>(rooted, table)
+        begins_by(rooted, &mut [Node::UNUSED; NODES], table)
     }
 }
 

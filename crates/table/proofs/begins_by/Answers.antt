@@ -3,4 +3,4 @@ use Rattle.trie.proofs.Building.{built_taken}
 use Rattle.table.proofs.begins_by.Goals as goal
 
 pub holds-requires : goal.holds-requires
-holds-requires g c = built_taken _ _ _ c.build-n.ensures
+holds-requires c = built_taken _ _ _ c.build-n.ensures
