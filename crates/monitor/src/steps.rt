@@ -90,8 +90,9 @@ impl Head {
         })
     }
 
-    // A call's run, where no verdict stands: document 01's tests in their order. Before the first step that is whether a symbol
-    // waits; the tests that follow a step stand behind it, where the compiler knows which of them its branch decides.
+    // A call's run, where no verdict stands: document 01's tests in their order. Its fuel runs down one per step, which is the
+    // form that document 01 names; it is no range that is gone through. Before the first step that is whether a symbol waits; the
+    // tests that follow a step stand behind it, where the compiler knows which of them its branch decides.
     #[inline(always)]
     pub(crate) fn run(
         self,
@@ -111,7 +112,9 @@ impl Head {
         if head.waiting == 0 {
             return head.ended(Answer::Quiet, counts);
         }
-        for _ in 0..fuel {
+        let mut left = fuel;
+        while 0 < left {
+            left -= 1;
             match head.step(rules, bytes, words) {
                 None => return head.ended(Answer::Full, counts),
                 Some(stepped) => {

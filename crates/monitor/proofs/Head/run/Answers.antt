@@ -35,47 +35,47 @@ returns-then-head-eq0 c =
     let s = (goal.at.returns-then-head-eq0 c).Start in
     rw c.ended.ensures (quiet_ends (first s) c.requires.undecided c.if-head-eq0.true)
 
-pub loop-init : goal.loop-init
+pub loop-left-init : goal.loop-left-init
 unfolding no_counts
-loop-init c =
-    let s = (goal.at.loop-init c).Start in
-    (omega (arith, c.if-head-eq0.false), c.requires.undecided, refl, first s)
+loop-left-init c =
+    let s = (goal.at.loop-left-init c).Start in
+    (omega (arith, c.if-head-eq0.false), c.requires.undecided, omega arith, first s)
 
 pub step-requires-clause-lent : goal.step-requires-clause-lent
 step-requires-clause-lent c =
-    running_asks (running_open c.loop.invariant.3 c.loop.invariant.1)
+    running_asks (running_open c.loop-left.invariant.3 c.loop-left.invariant.1)
 
 pub step-requires-clause-waiting : goal.step-requires-clause-waiting
 step-requires-clause-waiting c =
-    c.loop.invariant.0
+    c.loop-left.invariant.0
 
 pub returns-in-None : goal.returns-in-None
 returns-in-None c =
-    let k = c.loop.invariant.3 in
-    let none = c.loop.invariant.1 in
+    let k = c.loop-left.invariant.3 in
+    let none = c.loop-left.invariant.1 in
     rw (c.ended-in-None.ensures, is_open k none)
-    (full_ends (running_open k none) refl c.loop.invariant.0
-    (omega (arith, c.loop.invariant.2, c.loop-test.true)) _ refl c.in-None.ensures.tried)
+    (full_ends (running_open k none) refl c.loop-left.invariant.0
+    (omega (arith, c.loop-left.invariant.2, c.loop-left-test.true)) _ refl c.in-None.ensures.tried)
 
 -- The step is taken: the run from there.
 taken : (c : In-Some)
     → Running c.args.rules.table.image.bytes.now c.args.rules.table.words.now c.args.bytes.now c.args.words.now c.args.fuel
     (head_in c.args.self) c.step.new.bytes c.step.new.words (head_in c.in-Some.stepped.head)
-    (plus c.loop.counts c.in-Some.stepped.counts)
+    (plus c.loop-left.counts c.in-Some.stepped.counts)
 taken c =
     let s = c.in-Some.stepped in
     let one : ◌≡◌ {A = Counts} (record { steps = 1; rewrites = s.counts.rewrites; put = s.counts.put }) s.counts =
     λ i. record { steps = sym c.in-Some.ensures.one i; rewrites = s.counts.rewrites; put = s.counts.put }
     in
     rw (← one)
-    (running_next (running_open c.loop.invariant.3 c.loop.invariant.1) refl c.loop.invariant.0
-    (omega (arith, c.loop.invariant.2, c.loop-test.true))
-    (stepped_from c.loop.head (Some s) c.step.new.bytes c.step.new.words) refl
+    (running_next (running_open c.loop-left.invariant.3 c.loop-left.invariant.1) refl c.loop-left.invariant.0
+    (omega (arith, c.loop-left.invariant.2, c.loop-left-test.true))
+    (stepped_from c.loop-left.head (Some s) c.step.new.bytes c.step.new.words) refl
     c.in-Some.ensures.tried c.step.auto.bytes c.step.auto.words)
 
 pub plus-counts-requires-clause-steps : goal.plus-counts-requires-clause-steps
 plus-counts-requires-clause-steps c =
-    omega (arith, c.in-Some.ensures.one, c.loop.invariant.3.few_steps, c.ranges.fuel)
+    omega (arith, c.in-Some.ensures.one, c.loop-left.invariant.3.few_steps, c.ranges.fuel)
 
 pub plus-counts-requires-clause-rewrites : goal.plus-counts-requires-clause-rewrites
 unfolding plus
@@ -89,7 +89,7 @@ plus-counts-requires-clause-put c =
     let k = taken (goal.at.plus-counts-requires-clause-put c).In-Some in
     omega (arith, k.few_steps, k.few_put, c.ranges.fuel)
 
-went : (c : In-Some) (counts : Counts) → counts ≡ plus c.loop.counts c.in-Some.stepped.counts
+went : (c : In-Some) (counts : Counts) → counts ≡ plus c.loop-left.counts c.in-Some.stepped.counts
     → Running c.args.rules.table.image.bytes.now c.args.rules.table.words.now c.args.bytes.now c.args.words.now c.args.fuel
     (head_in c.args.self) c.step.new.bytes c.step.new.words (head_in c.in-Some.stepped.head) counts
 went c counts e = rw e (taken c)
@@ -104,17 +104,17 @@ returns-then-head-eq0-2 c =
     let w = went (goal.at.returns-then-head-eq0-2 c).In-Some c.plus-counts.result c.plus-counts.ensures in
     rw c.ended-then-head-eq0-2.ensures (quiet_ends w c.in_default.is c.if-head-eq0-2.true)
 
-pub loop-preserved : goal.loop-preserved
+pub loop-left-preserved : goal.loop-left-preserved
 unfolding plus
-loop-preserved c =
-    let w = went (goal.at.loop-preserved c).In-Some c.plus-counts.result c.plus-counts.ensures in (
+loop-left-preserved c =
+    let w = went (goal.at.loop-left-preserved c).In-Some c.plus-counts.result c.plus-counts.ensures in (
       omega (arith, c.if-head-eq0-2.false),
       c.in_default.is,
-      rw c.plus-counts.ensures (omega (arith, c.loop.invariant.2, c.in-Some.ensures.one)),
+      rw c.plus-counts.ensures (omega (arith, c.loop-left.invariant.2, c.in-Some.ensures.one)),
       w,
     )
 
 pub returns : goal.returns
 returns c =
     rw c.ended-2.ensures
-    (spent_ends c.loop.invariant.3 c.loop.invariant.1 c.loop.invariant.0 (omega (arith, c.loop.invariant.2, c.loop-test.false)))
+    (spent_ends c.loop-left.invariant.3 c.loop-left.invariant.1 c.loop-left.invariant.0 (omega (arith, c.loop-left.invariant.2, c.loop-left-test.false)))
