@@ -90,9 +90,9 @@ impl Head {
         })
     }
 
-    // A call's run, where no verdict stands: document 01's tests in their order. Its fuel runs down one per step, which is the
-    // form that document 01 names; it is no range that is gone through. Before the first step that is whether a symbol waits; the
-    // tests that follow a step stand behind it, where the compiler knows which of them its branch decides.
+    // A call's run, where no verdict stands: document 01's tests in their order. Before the first step that is whether a symbol
+    // waits; the tests that follow a step stand behind it, where the compiler knows which of them its branch decides. Fuel runs
+    // down one per step, the form that document 01 names: it is no range that is gone through.
     #[inline(always)]
     pub(crate) fn run(
         self,
