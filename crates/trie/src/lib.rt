@@ -110,8 +110,8 @@ fn child(trie: &[Node], root: usize, n: usize, q: usize, a: u16) -> Option<usize
     None
 }
 
-// Node n becomes a child of q by symbol a. Its three fields are read before both stores: behind the first one a check takes up to
-// 4 per cent longer, and with the whole node read at once, which waits for the stores of the step before, 5 to 13.
+// Node n becomes a child of q by symbol a. Three fields of q are read one by one, before both stores: behind a store a check
+// takes up to 6 per cent longer, and with the whole node read at once, which waits for the stores of the step before, 2 to 10.
 fn add(trie: &mut [Node], n: usize, q: usize, a: u16)
     requires node { (q < n) × (n < states_most) }
     requires room { n < length trie.old }

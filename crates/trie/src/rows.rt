@@ -100,8 +100,8 @@ fn fill_depth(rooted: Rooted<'_>, trie: &mut [Node], rows: &mut [u16], d: u16)
     }
 }
 
-// The number of symbols of the longest left side. Over `(0..image.rules()).map(..).max()` it gets no proof: the look at a rule
-// asks for a rule's number, and the law of the chain is about every number.
+// The number of symbols of the longest left side. Over `(0..image.rules()).map(..).max()` the proof does not close: the law of
+// the chain asks what the closure gives at any number, and its contract tells that of a rule's number alone.
 fn longest(image: Image<'_>) -> usize
     ensures { (result ≤ 8) × Longest result (set_of image.entry).rules }
 {
