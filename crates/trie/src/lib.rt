@@ -111,7 +111,7 @@ fn child(trie: &[Node], root: usize, n: usize, q: usize, a: u16) -> Option<usize
 }
 
 // Node n becomes a child of q by symbol a. Three fields of q are read one by one, before both stores: behind a store a check
-// takes up to 6 per cent longer, and with the whole node read at once, which waits for the stores of the step before, 2 to 10.
+// takes up to 6 per cent longer, and with the whole node read at once, which waits for the stores of the step before, 1 to 10.
 fn add(trie: &mut [Node], n: usize, q: usize, a: u16)
     requires node { (q < n) × (n < states_most) }
     requires room { n < length trie.old }
