@@ -110,7 +110,7 @@ impl Head {
         }
     }
 
-    // One call, an offer of the event or a go-on.
+    // One call, an offer of the event or a go-on. It is in line, as its run is.
     #[inline(always)]
     pub(crate) fn call(
         self,

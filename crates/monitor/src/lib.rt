@@ -202,7 +202,6 @@ impl Head {
     }
 
     // The offers of a batch, up to the first that is refused, with the dear checks made once; or the refusal of the batch.
-    #[inline(always)]
     fn offers(
         self,
         image: &[u8],
