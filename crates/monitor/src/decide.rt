@@ -1,21 +1,20 @@
 // Offer, go on and the offers of a batch, where what is lent has been checked: what is left of their refusals, and the run. The
 // module is private: what its functions ask, the check of what is lent has shown.
-ghost use Rattle.std.specs.Prelude.{◌+◌, ◌≤◌, ◌<◌, ◌≡◌, length, Ok, IfSome};
+ghost use Rattle.std.specs.Prelude.{◌+◌, ◌≤◌, ◌<◌, ◌≡◌, length, IfSome};
 ghost use Rattle.image.specs.Sets.{set_of};
 ghost use Rattle.areas.specs.Lent.{PassedWith};
 ghost use Rattle.layout.specs.Refusals.{refusal, answered, numbered};
-ghost use Rattle.machine.specs.Calls.{call_checks, call_of, answer_number};
+ghost use Rattle.machine.specs.Calls.{call_checks, call_of};
 ghost use Rattle.machine.specs.Batch.{events_most, offers, batched};
 ghost use Rattle.machine.specs.Lent.{offer_or_go_on, event_allowed, event_fits, taken, bytes_with};
 ghost use Rattle.monitor.specs.Lent.{head_in, lent, outcome_from, series_from};
 
-use crate::steps::plus;
 use crate::{Head, Returned};
 use areas::held;
 use areas::rules::Rules;
 use image::Image;
 use layout::Refusal;
-use machine::{Answer, Counts, FUEL_MOST};
+use machine::{Counts, FUEL_MOST};
 
 // What a list of offers leads to, up to the first that is refused. The stop is that refusal.
 #[derive(Clone, Copy)]
@@ -44,20 +43,6 @@ fn has_room(offered: Option<u8>, settled: usize, waiting: usize, capacity: usize
     match offered {
         Some(_) => settled + waiting != capacity,
         None => true,
-    }
-}
-
-// The number of an answer, for its byte.
-#[tactic(auto, unfolding(machine::specs::Calls::answer_number))]
-fn byte_of(answer: Answer) -> u8
-    requires { answer_number (Ok answer) < 256 }
-    ensures { result ≡ answer_number (Ok answer) }
-{
-    match answer {
-        Answer::Quiet => 0,
-        Answer::Spent => 1,
-        Answer::Full => 2,
-        Answer::Verdict(v) => (16 + v) as u8,
     }
 }
 
@@ -132,7 +117,8 @@ impl Head {
         }
     }
 
-    // The offers of all events, up to the first that is refused.
+    // The offers of all events, up to the first that is refused. The answers' bytes are written by number: of what is written
+    // through a `zip` with `iter_mut` nothing is known.
     pub(crate) fn in_turn(
         self,
         rules: Rules<'_>,
@@ -156,7 +142,7 @@ impl Head {
             let called = head.call(rules, bytes, words, Some(event), fuel);
             head = called.head;
             match called.answer {
-                Ok(answer) => answers[k] = byte_of(answer),
+                Ok(answer) => answers[k] = answer.number() as u8,
                 Err(refusal) => {
                     return Series {
                         head,
@@ -166,7 +152,7 @@ impl Head {
                     };
                 }
             }
-            counts = plus(counts, called.counts);
+            counts = counts.plus(called.counts);
         }
         Series {
             head,

@@ -22,7 +22,8 @@ use machine::{CAPACITY, EVENTS_MOST, FUEL_MOST};
 mod decide;
 mod steps;
 
-// The monitor's head: how many symbols are settled, how many wait, the verdict or none, and that verdict's rule (0 with none).
+// The monitor's head: how many symbols are settled, how many wait, the verdict or none, and that verdict's rule (0 with none):
+// the four values that document 01 names, one of which may be wrong in what is lent.
 #[derive(Clone, Copy)]
 pub struct Head {
     pub settled: usize,
@@ -46,7 +47,8 @@ pub struct Returned {
     pub counts: Counts,
 }
 
-// What batch gives back. The stop is the refusal of the first offer that was refused.
+// What batch gives back: all of it beside a refusal too, as document 01 has it. The stop is the refusal of the first offer that
+// was refused.
 #[derive(Clone, Copy)]
 pub struct BatchReturned {
     pub head: Head,
@@ -105,8 +107,8 @@ impl Head {
         }
     }
 
-    // The checks of what is lent: refusals 7, 9, 10 and 11. Where they pass, there is the table, which in line is not handed on
-    // through memory.
+    // The checks of what is lent: refusals 7, 9, 10 and 11. Where they pass, there is the table. In line, since the table is
+    // handed on through memory by a function that is not.
     #[inline(always)]
     fn check_lent<'a>(
         self,
@@ -141,7 +143,7 @@ impl Head {
         Ok(table)
     }
 
-    // One call, an offer of the event or a go-on. In line in both, it tests in neither which of them it is.
+    // One call, an offer of the event or a go-on. In line in both, so that each has a copy without the tests of the other.
     #[inline(always)]
     fn once(
         self,
@@ -201,7 +203,9 @@ impl Head {
         self.once(image, table, bytes, words, None, fuel)
     }
 
-    // The offers of a batch, up to the first that is refused, with the dear checks made once; or the refusal of the batch.
+    // The offers of a batch, up to the first that is refused, with the checks of what is lent made once; or the refusal
+    // of the batch. Rules hold a borrow of the places of right sides, so these lie here, as in `once`, and not in a function for
+    // both.
     fn offers(
         self,
         image: &[u8],

@@ -1,7 +1,7 @@
 // One step, and a call's run. They are in line in their callers: a run that is fast keeps the head in registers, from step to
 // step and, in a batch, from call to call. The module is private: what its functions ask, the checks of a call have shown.
 ghost use Rattle.std.specs.Prelude.{◌+◌, ◌*◌, ◌<◌, ◌≡◌, length, None, IfSome};
-ghost use Rattle.machine.specs.Run.{plus, run};
+ghost use Rattle.machine.specs.Run.{run};
 ghost use Rattle.machine.specs.Areas.{state_of};
 ghost use Rattle.machine.specs.Calls.{outcome};
 ghost use Rattle.machine.specs.Lent.{step_of, tried};
@@ -18,21 +18,6 @@ use machine::{Answer, Counts};
 pub struct Stepped {
     pub head: Head,
     pub counts: Counts,
-}
-
-// The counts of one and then another.
-#[tactic(auto, unfolding(machine::specs::Run::plus))]
-pub(crate) fn plus(c: Counts, d: Counts) -> Counts
-    requires steps { c.steps + d.steps < 18446744073709551616 }
-    requires rewrites { c.rewrites + d.rewrites < 18446744073709551616 }
-    requires put { c.put + d.put < 18446744073709551616 }
-    ensures { result ≡ plus c d }
-{
-    Counts {
-        steps: c.steps + d.steps,
-        rewrites: c.rewrites + d.rewrites,
-        put: c.put + d.put,
-    }
 }
 
 impl Head {
@@ -119,7 +104,7 @@ impl Head {
                 None => return head.ended(Answer::Full, counts),
                 Some(stepped) => {
                     head = stepped.head;
-                    counts = plus(counts, stepped.counts);
+                    counts = counts.plus(stepped.counts);
                 }
             }
             if let Some(v) = head.verdict {

@@ -40,7 +40,7 @@ pub enum RightKind {
     Close,
 }
 
-// What has been read. Some sound reading is kept so (`held`), and that bounds each number: a token's code tests none of them.
+// What has been read. Some sound reading is kept so (`held`), and that bounds each number, so that no index is tested.
 #[derive(Drop)]
 pub struct Reader {
     pub place: Place,
@@ -126,7 +126,7 @@ impl Reader {
 
     // The tokens of a text, up to the first at which it breaks, behind what has been read: for each run, the bytes of its name up
     // to its end, two at a time where both may be in one, then what the token makes of it. A byte that may not be in a name ends
-    // both loops.
+    // both loops, which are nested and left by label: the form that document 01 names.
     pub fn read_tokens(&mut self, text: &[u8]) -> Result<(), TextError>
         ensures { Finishes (λ s. read_runs (length text.now) s (runs text.now)) self.old result self.new }
     {

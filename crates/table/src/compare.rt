@@ -49,7 +49,8 @@ impl Parts<'_> {
         n
     }
 
-    // How many words of the root's row lead away from it.
+    // How many words of the root's row lead away from it. It compares with one number, and `differences` with a row: a loop for
+    // both would test in each turn which it is.
     fn transitions(self) -> u16
         ensures { result ≡ leaving self.entry.rows.now self.entry.width self.entry.rooted.root }
     {
@@ -120,8 +121,8 @@ impl Parts<'_> {
     }
 
     // Every state's tests, in the order of their numbers, so that its parent and its parent's failure state are known when a
-    // state is reached. Keeps each state's failure state in its node, after both looks at its parent: a word that was read before
-    // a store is read again behind it. By number: it is what the tests ask for, and a turn takes all nodes, which an iterator
+    // state is reached. Keeps each state's failure state in its node, after both looks at its parent, since the compiler reads a
+    // word anew behind a store. By number: it is what the tests ask for, and a turn takes all nodes, which an iterator
     // would hold.
     fn states_hold(self, trie: &mut [Node]) -> bool
         requires { Built (set_of self.rooted.image) (length trie.old) trie.old }

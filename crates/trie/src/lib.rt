@@ -34,7 +34,8 @@ use image::Rooted;
 
 pub mod rows;
 
-// A node. Of its links youngest and older name no node where they are 0.
+// A node. Its links youngest and older name no node where they are 0, as 0 is no match in a match word of the table: an `Option`
+// of each would make a node a third larger.
 #[derive(Clone, Copy)]
 pub struct Node {
     // the node of the state without its last symbol, and that symbol

@@ -131,7 +131,7 @@ fn fill_rows(rooted: Rooted<'_>, trie: &mut [Node], rows: &mut [u16])
     }
 }
 
-// The rows of the table, and its match words in the first n of the nodes.
+// The rows of the table, and its match words in the first n of the nodes: more may be lent than there are states.
 pub fn fill(rooted: Rooted<'_>, trie: &mut [Node], n: usize, rows: &mut [u16])
     requires trie { Built (set_of rooted.image) n trie.old }
     requires room { length rows.old ≡ length (states (set_of rooted.image).rules) * (set_of rooted.image).symbols }

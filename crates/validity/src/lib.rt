@@ -61,9 +61,7 @@ pub fn all_below(symbols: &[u8], s: u8) -> bool
 {
     let mut most: u8 = 0;
     for x in symbols {
-        if most < *x {
-            most = *x;
-        }
+        most = most.max(*x);
     }
     most < s
 }

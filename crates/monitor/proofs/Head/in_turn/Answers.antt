@@ -54,11 +54,19 @@ loop-k-init c = offering_first _ _ _ _ (offers_of c.args.events.now c.args.fuel)
 pub call-called-requires : goal.call-called-requires
 call-called-requires c = offering_passed c.loop-k.invariant
 
-pub byte_of-requires : goal.byte_of-requires
-byte_of-requires c =
-    let s = (goal.at.byte_of-requires c).Start in
-    let a = (goal.at.byte_of-requires c).After-call-called in
-    rw (← came a, c.in-Ok.is) at (offering-number c.loop-k.invariant (room s) (more a))
+pub number-requires : goal.number-requires
+number-requires c =
+    let s = (goal.at.number-requires c).Start in
+    let a = (goal.at.number-requires c).After-call-called in
+    let fits = rw (← came a, c.in-Ok.is) at (offering-number c.loop-k.invariant (room s) (more a)) in
+    omega (arith, fits)
+
+pub overflow_cast-answers : goal.overflow_cast-answers
+overflow_cast-answers c =
+    let s = (goal.at.overflow_cast-answers c).Start in
+    let a = (goal.at.overflow_cast-answers c).After-call-called in
+    let fits = rw (← came a, c.in-Ok.is) at (offering-number c.loop-k.invariant (room s) (more a)) in
+    omega (arith, fits, c.number.ensures)
 
 pub returns-in-Err : goal.returns-in-Err
 unfolding refusal_number offers refused_by
@@ -96,7 +104,7 @@ unfolding refused_by
 loop-k-preserved c =
     let s = (goal.at.loop-k-preserved c).Start in
     let a = (goal.at.loop-k-preserved c).After-call-called in
-    rw (add-one, c.byte_of.ensures, c.plus-counts.ensures)
+    rw (add-one, c.number.ensures, c.plus-counts.ensures)
     (rw (← came a, c.in-Ok.is) at
     (offering-next c.loop-k.invariant (room s) (more a) (fuel a) (rw (← came a, c.in-Ok.is) refl)))
 

@@ -117,4 +117,5 @@ loop-left-preserved c =
 pub returns : goal.returns
 returns c =
     rw c.ended-2.ensures
-    (spent_ends c.loop-left.invariant.3 c.loop-left.invariant.1 c.loop-left.invariant.0 (omega (arith, c.loop-left.invariant.2, c.loop-left-test.false)))
+    (spent_ends c.loop-left.invariant.3 c.loop-left.invariant.1 c.loop-left.invariant.0
+    (omega (arith, c.loop-left.invariant.2, c.loop-left-test.false)))
