@@ -1,5 +1,6 @@
 // Offer, go on and the offers of a batch, where what is lent has been checked: what is left of their refusals, and the run. The
-// module is private: what its functions ask, the check of what is lent has shown.
+// module is private: what its functions ask, the check of what is lent has shown. That it has passed is asked of each, and is no
+// type's: it ties the head to areas that stand beside it.
 ghost use Rattle.std.specs.Prelude.{◌+◌, ◌≤◌, ◌<◌, ◌≡◌, length, IfSome};
 ghost use Rattle.image.specs.Sets.{set_of};
 ghost use Rattle.areas.specs.Lent.{PassedWith};

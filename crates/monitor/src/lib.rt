@@ -1,5 +1,6 @@
 // The monitor: fresh, offer, go on and batch. Each is what the crate machine defines, for everything that may be lent
 // to it; the promise about every list of calls is proved of those definitions in machine/proofs/ListTheorem.antt.
+// Image, table and areas are lent one by one, as the C interface hands them on.
 #![tactic(auto)]
 
 ghost use Rattle.std.specs.Prelude.{◌≡◌, None, Some, Ok, Err, MatchResult};

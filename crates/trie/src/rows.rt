@@ -1,5 +1,6 @@
 // The rows and match words of the table, filled from the trie. specs/Rows.antt says what stands in them on the way.
-// What its functions ask, compile has shown.
+// What its functions ask, compile has shown. Nodes and rows are lent beside each other, since both are written: of a struct with
+// two `&mut` fields each clause would have to name what they become.
 ghost use Rattle.std.specs.Prelude.{◌+◌, ◌*◌, ◌≤◌, ◌<◌, ◌≡◌, ◌≢◌, map, length, replicate, take};
 ghost use Rattle.layout.specs.States.{states};
 ghost use Rattle.layout.specs.Words.{Longest, own_or};
