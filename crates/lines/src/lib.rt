@@ -1,6 +1,6 @@
 // A line that is being written, part by part, in an area that is lent to it.
-// What its methods ask, that there is room above all, the crate report shows: `watch` makes the line and prints its bytes, and calls
-// no other method.
+// What its methods ask, that there is room above all, the crate report shows: of the others, `watch` calls `new` and `bytes`, and
+// `into_area` is for a caller who wants the area back.
 // (d) The parts are no `Display` for a `write!`: that takes text, and a name here is bytes that nothing asks to be text; and its
 // clauses say what is written where it ends in `Ok`, and not that it does, while these methods cannot fail.
 #![tactic(auto)]
@@ -27,8 +27,8 @@ use std::marker::Model;
 // The most bytes that a line has: `line_most`, printing/specs/Turns.antt.
 pub const LINE_BYTES: usize = 51261;
 
-// The area that is lent to a line, of N places at least, and how many of its bytes are written. Methods that write ask for room by
-// what is behind the line, whatever N is; `begin` and `next` in report take an N that has room for any line, and so ask nothing.
+// The area that is lent to a line, of N places at least, and how many of its bytes are written. Methods that write ask for room
+// behind the line, whatever N is; `begin` and `next` in report take an N that has room for any line, and so ask nothing.
 #[derive(Drop)]
 pub struct Line<'a, const N: usize> {
     area: &'a mut [u8],
@@ -79,6 +79,13 @@ impl<'a, const N: usize> Line<'a, N> {
         &self.area[..self.written]
     }
 
+    // The area, which begins with what is written.
+    pub fn into_area(self) -> &'a mut [u8]
+        ensures { result.now ≡ area self.entry }
+    {
+        self.area
+    }
+
     // The line begins anew.
     pub fn clear(&mut self)
         ensures line { self.new ≡ empty (area self.old) }
@@ -121,7 +128,7 @@ impl<'a, const N: usize> Line<'a, N> {
         ensures { Writes (name_in names.now slot) self.old self.new }
     {
         let start = SLOT_BYTES * slot + 1;
-        let size = usize::min(names[SLOT_BYTES * slot] as usize, 24);
+        let size = usize::min(usize::from(names[SLOT_BYTES * slot]), 24);
         self.put(&names[start..start + size]);
     }
 
@@ -150,7 +157,7 @@ impl<'a, const N: usize> Line<'a, N> {
     {
         for &symbol in symbols {
             self.put_byte(b',');
-            self.put_name(names, symbol as usize);
+            self.put_name(names, usize::from(symbol));
         }
     }
 
@@ -162,11 +169,11 @@ impl<'a, const N: usize> Line<'a, N> {
         ensures { Writes (joined names.now (settled.now ++ waiting.now)) self.old self.new }
     {
         if let Some((&first, others)) = settled.split_first() {
-            self.put_name(names, first as usize);
+            self.put_name(names, usize::from(first));
             self.put_symbols(names, others);
             self.put_symbols(names, waiting)
         } else if let Some((&first, others)) = waiting.split_first() {
-            self.put_name(names, first as usize);
+            self.put_name(names, usize::from(first));
             self.put_symbols(names, others)
         } else {
             self.put_byte(b'-')
@@ -204,7 +211,7 @@ impl<'a, const N: usize> Line<'a, N> {
         ensures { Writes (refused_word ++ space ∷ (decimal n ++ newline ∷ [])) self.old self.new }
     {
         self.put(b"refused ");
-        self.put_decimal(n as u64);
+        self.put_decimal(u64::from(n));
         self.put_byte(b'\n');
     }
 
@@ -233,7 +240,7 @@ impl<'a, const N: usize> Line<'a, N> {
         ensures { Writes (refused_line n place) self.old self.new }
     {
         self.put(b"rules refused ");
-        self.put_decimal(n as u64);
+        self.put_decimal(u64::from(n));
         self.put_byte(b' ');
         self.put_decimal(place as u64);
         self.put_byte(b'\n');
