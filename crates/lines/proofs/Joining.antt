@@ -4,15 +4,19 @@ use Prim.Native.Nat.{ℕ, suc, ◌+◌, ◌*◌, ◌-◌, ◌≤◌, ◌<◌}
 use mathlib.Core.Path.{◌≡◌, refl, sym, ap, ◌∙◌}
 use mathlib.Core.List.{List, [], ◌∷◌, ◌++◌, append_assoc, flat_map}
 use native.Mathlib.Omega.{arith}
-use lib.ListN.{length, get_or, take, drop, length-append, length-drop}
+use lib.ListN.{length, get_or, take, drop, length-append, length-drop, length-take}
 use lib.Seq.{take_all, length-take-le, take-suc}
 use lib.Dec.{ltb}
 use mathlib.Core.Bool.{true}
 use borrow.Author.Tests.{ltb-true}
 use Rattle.rewriting.specs.Lists.{below}
 use Rattle.rewriting.proofs.Lists.{flat_map_snoc, and_right, all_left, all_right, all_at}
-use Rattle.printing.specs.Lines.{comma, dash, name_in, joined}
-use Rattle.lines.specs.Wrote.{Written, Writes}
+use Rattle.machine.specs.Areas.{state_of}
+use Rattle.machine.specs.Calls.{Outcome}
+use Rattle.machine.specs.Play.{string_of}
+use Rattle.printing.specs.Lines.{space, comma, dash, decimal, name_in, joined, counted}
+use Rattle.lines.specs.Wrote.{Written, Writes, Small}
+use Rattle.printing.proofs.Decimals.{decimal-length}
 use Rattle.printing.proofs.SlotNames.{name-length}
 use Rattle.lines.proofs.Writing.{room_left, writes_nothing, writes_then, writes_as}
 
@@ -84,6 +88,41 @@ pub joined_length : (names s : List ℕ) (n : ℕ) → length s ≤ n → 1 ≤ 
 unfolding joined flat_map
 joined_length names [] n h some_n = omega arith
 joined_length names (a ∷ s) n h some_n = omega (arith, commas_length names (a ∷ s))
+
+-- the counts, and what is told of an outcome that keeps to `Small`
+pub counts_length : (steps rewrites : ℕ) → steps ≤ 1000 → rewrites ≤ 1000 → length (decimal steps ++ space ∷ decimal rewrites) ≤ 9
+counts_length steps rewrites h g =
+    omega (
+      arith,
+      length-append (decimal steps) (space ∷ decimal rewrites),
+      decimal-length 3 steps (omega arith),
+      decimal-length 3 rewrites (omega arith),
+    )
+
+pub counted_length : (names : List ℕ) (o : Outcome) → Small o → length (counted names o) ≤ 51209
+unfolding counted string_of state_of
+counted_length names o small =
+    let steps : List ℕ = decimal o.counts.steps in
+    let rewrites : List ℕ = decimal o.counts.rewrites in
+    let bytes : List ℕ = o.monitor.bytes in
+    let settled : List ℕ = take o.monitor.head.settled bytes in
+    let waiting : List ℕ = drop (length bytes - o.monitor.head.waiting) bytes in
+    let few : length (settled ++ waiting) ≤ 2048 =
+    omega (
+      arith,
+      small.string,
+      length-append settled waiting,
+      length-take o.monitor.head.settled bytes,
+      length-drop (length bytes - o.monitor.head.waiting) bytes,
+    ) in
+    omega (
+      arith,
+      length-append steps (space ∷ (rewrites ++ space ∷ joined names (settled ++ waiting))),
+      length-append rewrites (space ∷ joined names (settled ++ waiting)),
+      decimal-length 3 o.counts.steps (omega (arith, small.steps)),
+      decimal-length 3 o.counts.rewrites (omega (arith, small.rewrites)),
+      joined_length names (settled ++ waiting) 2048 few (omega arith),
+    )
 
 -- the symbols that are settled, and those that wait, as the code takes them from the bytes
 pub string_in :

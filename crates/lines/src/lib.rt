@@ -1,5 +1,8 @@
-// A line that is being written, part by part, in an area of its own.
-// What its methods ask, that there is room above all, the crate report shows: it is the only one that calls them.
+// A line that is being written, part by part, in an area that is lent to it.
+// What its methods ask, that there is room above all, the crate report shows: of the others, `watch` calls `new` and `bytes`, and
+// `into_area` is for a caller who wants the area back.
+// (d) The parts are no `Display` for a `write!`: that takes text, and a name here is bytes that nothing asks to be text; and its
+// clauses say what is written where it ends in `Ok`, and not that it does, while these methods cannot fail.
 #![tactic(auto)]
 
 ghost use Rattle.std.specs.Prelude.{◌+◌, ◌*◌, ◌≤◌, ◌<◌, ◌≡◌, true, length, None, Ok};
@@ -24,27 +27,28 @@ use std::marker::Model;
 // The most bytes that a line has: `line_most`, printing/specs/Turns.antt.
 pub const LINE_BYTES: usize = 51261;
 
-// The area of a line, and how many of its bytes are written.
+// The area that is lent to a line, of N places at least, and how many of its bytes are written. Methods that write ask for room
+// behind the line, whatever N is; `begin` and `next` in report take an N that has room for any line, and so ask nothing.
 #[derive(Drop)]
-pub struct Line<const N: usize> {
-    area: [u8; N],
-    length: usize,
+pub struct Line<'a, const N: usize> {
+    area: &'a mut [u8],
+    written: usize,
 }
 
 // Clauses see the bytes that are written, and those of the area behind them.
-impl<const N: usize> Model for Line<N> {
-    ghost use Rattle.std.specs.Prelude.{◌≤◌, take, drop};
+impl<'a, const N: usize> Model for Line<'a, N> {
+    ghost use Rattle.std.specs.Prelude.{◌≤◌, length, take, drop};
     ghost use Rattle.lines.specs.Wrote.{Written};
 
     ghost Value = { Written };
 
-    ghost view = { λ l. record { bytes = take l.length l.area; behind = drop l.length l.area } };
+    ghost view = { λ l. record { bytes = take l.written l.area.now; behind = drop l.written l.area.now } };
 
-    ghost invariant = { λ l. l.length ≤ N };
+    ghost invariant = { λ l. (l.written ≤ length l.area.now) × (N ≤ length l.area.now) };
 }
 
 // Writes a number in base ten at the beginning of what is lent, and says how many digits that are. It calls itself for the digits
-// before the last, as the project's rules have it. It is no method, since the check proves no generic one yet that calls itself.
+// before the last, as `decimal` is defined. It is no method, since the check proves no generic one yet that calls itself.
 fn write_decimal(line: &mut [u8], n: u64) -> usize
     requires { length (decimal n) ≤ length line.old }
     ensures digits { result ≡ length (decimal n) }
@@ -59,27 +63,35 @@ fn write_decimal(line: &mut [u8], n: u64) -> usize
     end + 1
 }
 
-impl<const N: usize> Line<N> {
+impl<'a, const N: usize> Line<'a, N> {
     // A line that is written into this area.
-    pub fn new(area: [u8; N]) -> Self
-        ensures { result ≡ empty area.entry }
+    pub fn new(area: &'a mut [u8]) -> Self
+        requires { N ≤ length area.old }
+        ensures { result ≡ empty area.old }
     {
-        Line { area, length: 0 }
+        Line { area, written: 0 }
     }
 
     // What is written.
     pub fn bytes(&self) -> &[u8]
         ensures { result.now ≡ self.now.bytes }
     {
-        &self.area[..self.length]
+        &self.area[..self.written]
+    }
+
+    // The area, which begins with what is written.
+    pub fn into_area(self) -> &'a mut [u8]
+        ensures { result.now ≡ area self.entry }
+    {
+        self.area
     }
 
     // The line begins anew.
     pub fn clear(&mut self)
         ensures line { self.new ≡ empty (area self.old) }
-        ensures room { length self.new.behind ≡ N }
+        ensures room { N ≤ length self.new.behind }
     {
-        self.length = 0;
+        self.written = 0;
     }
 
     // One byte.
@@ -95,10 +107,9 @@ impl<const N: usize> Line<N> {
         requires { length x.now ≤ length self.old.behind }
         ensures { Writes x.now self.old self.new }
     {
-        let end = self.length + x.len();
-        let area = &mut self.area[..];
-        area[self.length..end].copy_from_slice(x);
-        self.length = end;
+        let end = self.written + x.len();
+        self.area[self.written..end].copy_from_slice(x);
+        self.written = end;
     }
 
     // A number in base ten.
@@ -106,9 +117,8 @@ impl<const N: usize> Line<N> {
         requires { length (decimal n) ≤ length self.old.behind }
         ensures { Writes (decimal n) self.old self.new }
     {
-        let area = &mut self.area[..];
-        let digits = write_decimal(&mut area[self.length..], n);
-        self.length += digits;
+        let digits = write_decimal(&mut self.area[self.written..], n);
+        self.written += digits;
     }
 
     // The name in a slot.
@@ -118,7 +128,7 @@ impl<const N: usize> Line<N> {
         ensures { Writes (name_in names.now slot) self.old self.new }
     {
         let start = SLOT_BYTES * slot + 1;
-        let size = usize::min(names[SLOT_BYTES * slot] as usize, 24);
+        let size = usize::min(usize::from(names[SLOT_BYTES * slot]), 24);
         self.put(&names[start..start + size]);
     }
 
@@ -147,7 +157,7 @@ impl<const N: usize> Line<N> {
     {
         for &symbol in symbols {
             self.put_byte(b',');
-            self.put_name(names, symbol as usize);
+            self.put_name(names, usize::from(symbol));
         }
     }
 
@@ -159,11 +169,11 @@ impl<const N: usize> Line<N> {
         ensures { Writes (joined names.now (settled.now ++ waiting.now)) self.old self.new }
     {
         if let Some((&first, others)) = settled.split_first() {
-            self.put_name(names, first as usize);
+            self.put_name(names, usize::from(first));
             self.put_symbols(names, others);
             self.put_symbols(names, waiting)
         } else if let Some((&first, others)) = waiting.split_first() {
-            self.put_name(names, first as usize);
+            self.put_name(names, usize::from(first));
             self.put_symbols(names, others)
         } else {
             self.put_byte(b'-')
@@ -201,7 +211,7 @@ impl<const N: usize> Line<N> {
         ensures { Writes (refused_word ++ space ∷ (decimal n ++ newline ∷ [])) self.old self.new }
     {
         self.put(b"refused ");
-        self.put_decimal(n as u64);
+        self.put_decimal(u64::from(n));
         self.put_byte(b'\n');
     }
 
@@ -230,7 +240,7 @@ impl<const N: usize> Line<N> {
         ensures { Writes (refused_line n place) self.old self.new }
     {
         self.put(b"rules refused ");
-        self.put_decimal(n as u64);
+        self.put_decimal(u64::from(n));
         self.put_byte(b' ');
         self.put_decimal(place as u64);
         self.put_byte(b'\n');

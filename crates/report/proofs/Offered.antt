@@ -1,20 +1,21 @@
 -- What an offer gives back fits its line, and the line is put together from its parts.
 -- Assumes nothing.
-use Prim.Native.Nat.{ℕ, ◌≤◌}
+use Prim.Native.Nat.{ℕ, ◌≤◌, ◌<◌, ◌^◌}
 use mathlib.Core.Path.{◌≡◌, refl, sym, ap, ◌∙◌}
 use mathlib.Core.Bool.{Bool, true, false, cond, ◌&&◌}
 use Rattle.std.specs.Prelude.{None, Some, Result, Ok, Err}
 use mathlib.Core.List.{List, [], ◌∷◌, ◌++◌}
 use native.Mathlib.Omega.{arith}
 use lib.Dec.{leb}
-use lib.ListN.{length}
+use lib.ListN.{length, length-append}
 use borrow.Author.Tests.{leb-true}
 use Rattle.rewriting.specs.Lists.{between}
 use Rattle.rewriting.proofs.Lists.{between_high, below_weaken}
 use Rattle.rewriting.proofs.Ranges.{ranges}
 use Rattle.layout.specs.Image.{read}
 use Rattle.layout.proofs.Image.{valid-in_range}
-use Rattle.layout.specs.Refusals.{refused_by, numbered}
+use Rattle.layout.specs.declared.Refusal.{Refusal}
+use Rattle.layout.specs.Refusals.{refused_by, number, numbered}
 use Rattle.machine.specs.declared.Answer.{Answer}
 use Rattle.monitor.specs.declared.Returned.{Returned}
 use Rattle.machine.specs.Run.{fits}
@@ -28,9 +29,13 @@ use Rattle.machine.proofs.CallTheorem.{call_theorem}
 use Rattle.machine.proofs.AnswerNumbers.{Lent, passed_lent, accepted_passed, accepted_verdict}
 use Rattle.grammar.specs.Lookup.{slot_at, symbol_named}
 use Rattle.grammar.specs.Names.{slot}
+use Rattle.printing.specs.Ascii.{bytes}
 use Rattle.printing.specs.Lines.{space, newline, refused_word, decimal, answer_word, counted, told, event_line}
 use Rattle.printing.specs.Watch.{Watch, offered, offered_name, line_for}
 use Rattle.lines.specs.Wrote.{HasSlot, Small}
+use Rattle.printing.proofs.Decimals.{decimal-length}
+use Rattle.printing.proofs.SlotNames.{answer_length}
+use Rattle.lines.proofs.Joining.{counted_length}
 
 -- a name that a symbol has is short
 pub named_short : (area x : List ℕ) (i : ℕ) → symbol_named area x ≡ Some i → length x ≤ 24
@@ -131,3 +136,46 @@ module _ (image table : List ℕ) (m : Monitor) (a : ℕ) (r : Returned) (bytes 
   made_small e =
       small_words r bytes words
       (rw made (offer_small image table m a (rw (ap (λ (o : Outcome). o.answer) made) at e)))
+
+-- How long the rest of a line is, from the answer on.
+number_small : (r : Refusal) → number r < 10 ^ 10
+number_small Refusal.LongText = omega arith
+number_small Refusal.ShortArea = omega arith
+number_small Refusal.NoToken = omega arith
+number_small Refusal.Misplaced = omega arith
+number_small Refusal.TooMany = omega arith
+number_small Refusal.Repeated = omega arith
+number_small Refusal.BadImage = omega arith
+number_small Refusal.ShortTable = omega arith
+number_small Refusal.OtherTable = omega arith
+number_small Refusal.AreaLength = omega arith
+number_small Refusal.NotAsDescribed = omega arith
+number_small Refusal.NoEvent = omega arith
+number_small Refusal.TooMuchFuel = omega arith
+number_small Refusal.VerdictStands = omega arith
+number_small Refusal.NoRoom = omega arith
+number_small Refusal.BatchLength = omega arith
+number_small Refusal.NoCalls = omega arith
+
+told_length :
+    (names : List ℕ) (o : Outcome) (a : Result Answer Refusal) → (refused_by (numbered a) ≡ None → Small o)
+    → length (told names o (numbered a)) ≤ 51209
+unfolding told refused_by
+told_length names o (Ok a) small = counted_length names o (small refl)
+told_length names o (Err r) small = omega (arith, decimal-length 9 (number r) (number_small r))
+
+pub answered_length :
+    (names : List ℕ) (o : Outcome) (a : Result Answer Refusal) → (refused_by (numbered a) ≡ None → Small o)
+    → length (answer_word names (numbered a) ++ space ∷ (told names o (numbered a) ++ newline ∷ [])) ≤ 51236
+answered_length names o a small =
+    omega (
+      arith,
+      length-append (answer_word names (numbered a)) (space ∷ (told names o (numbered a) ++ newline ∷ [])),
+      length-append (told names o (numbered a)) (newline ∷ []),
+      answer_length names (numbered a),
+      told_length names o a small,
+    )
+
+pub unknown_length : (n : ℕ) → n < 10 ^ 10 → length (refused_word ++ space ∷ (decimal n ++ newline ∷ [])) ≤ 40
+unfolding bytes
+unknown_length n h = omega (arith, length-append (decimal n) (newline ∷ []), decimal-length 9 n h)

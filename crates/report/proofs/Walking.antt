@@ -1,12 +1,12 @@
 -- The walk over the names of an input: the next name, as the code finds it, and what a turn gives back.
 -- Assumes nothing.
-use Prim.Native.Nat.{ℕ, ◌+◌, ◌-◌, ◌≤◌, ◌<◌, min}
+use Prim.Native.Nat.{ℕ, ◌+◌, ◌-◌, ◌≤◌, ◌<◌, ◌^◌, min}
 use mathlib.Core.Path.{◌≡◌, refl, sym, ap, ◌∙◌}
 use mathlib.Core.Bool.{Bool, true, false, cond, not}
 use mathlib.Core.List.{List, [], ◌∷◌, ◌++◌}
 use native.Mathlib.Omega.{arith}
 use lib.Dec.{eqb, leb, ltb}
-use lib.ListN.{length, take, drop, length-append, length-drop, drop_of_length-le}
+use lib.ListN.{length, take, drop, length-append, drop_of_length-le}
 use lib.Seq.{take_all}
 use borrow.Author.Tests.{le-leb, lt-leb, ltb-true, ltb-false}
 use Rattle.rewriting.specs.Lists.{over}
@@ -25,7 +25,9 @@ use Rattle.std.proofs.lemmas.List.Recursion.{is_position_or_len}
 use Rattle.printing.proofs.Split.{rule_part_le}
 use Rattle.machine.specs.Calls.{Outcome}
 use Rattle.lines.specs.Wrote.{Written, Writes, area, empty}
-use Rattle.printing.specs.Lines.{space, newline, answer_word, told, event_line}
+use Rattle.printing.specs.Ascii.{bytes}
+use Rattle.printing.specs.Lines.{space, newline, decimal, answer_word, told, event_line, refused_line}
+use Rattle.printing.proofs.Decimals.{decimal-length}
 use Rattle.printing.specs.Watch.{percent, rule_part, Watch, offered_name, line_for}
 use Rattle.printing.specs.Turns as Turns
 use Rattle.printing.specs.Turns.{Next, Events, nothing, offering, named, first_named, next_of, Turn, turn_of}
@@ -148,11 +150,17 @@ module _ {x : List ℕ} {l l' : Written} (begins : l.bytes ≡ []) (w : Writes x
   unfolding over
   line_area = rw (w.line, begins) refl
 
-  pub line_kept : length (area l') ≡ length (area l)
-  unfolding over
-  line_kept =
-      let room : length x ≤ length (area l) = rw begins w.room in
-      rw line_area (omega (arith, length-append x (drop (length x) (area l)), length-drop (length x) (area l), room))
+-- how long the line for a rule text that is refused is
+pub refused-length : (n place : ℕ) → n < 10 ^ 10 → place < 10 ^ 20 → length (refused_line n place) ≤ 80
+unfolding refused_line bytes
+refused-length n place h g =
+    omega (
+      arith,
+      length-append (decimal n) (space ∷ (decimal place ++ newline ∷ [])),
+      length-append (decimal place) (newline ∷ []),
+      decimal-length 9 n h,
+      decimal-length 19 place g,
+    )
 
 -- What the code gave back, by its parts: a line ..
 pub turn_is :

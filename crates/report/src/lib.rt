@@ -86,7 +86,7 @@ fn make_ready(
     ensures bytes { areas.new.bytes ≡ fresh_monitor.bytes }
     ensures words { areas.new.words ≡ fresh_monitor.words }
 {
-    // A valid image is never refused.
+    // A valid image is never refused, where the table's area has TABLE_WORDS places.
     let size = table::compile(image, table).ok()?;
     let begun = monitor::fresh(&mut areas.bytes, &mut areas.words);
     Some(Walk {
@@ -103,7 +103,7 @@ pub fn begin(
     input: &[u8],
     rules: &mut RuleAreas,
     areas: &mut MonitorAreas,
-    message: &mut Line<LINE_BYTES>,
+    message: &mut Line<'_, LINE_BYTES>,
 ) -> Option<Walk>
     ensures outcome { begins_from (begun_in result message.new) (areas_in rules.new areas.new message.new)
         ≡ begin_of input.now (areas_in rules.old areas.old message.old) }
@@ -137,11 +137,11 @@ impl Walk {
         x: &[u8],
         rules: &RuleAreas,
         areas: &mut MonitorAreas,
-        line: &mut Line<LINE_BYTES>,
+        line: &mut Line<'_, LINE_BYTES>,
     ) -> Walk
         requires short { length x.now ≤ input_most }
         requires line { line.old.bytes ≡ [] }
-        requires room { length line.old.behind ≡ line_most }
+        requires room { line_most ≤ length line.old.behind }
         ensures turn { turn_from self (Some result) areas.new line.new
             ≡ turn_of (walk_in self) (offering (watched self rules.now areas.old) end x.now) (area line.old) }
         ensures fits { length line.new.bytes ≤ line_most }
@@ -180,7 +180,7 @@ impl Walk {
         input: &[u8],
         rules: &RuleAreas,
         areas: &mut MonitorAreas,
-        line: &mut Line<LINE_BYTES>,
+        line: &mut Line<'_, LINE_BYTES>,
     ) -> Option<Walk>
         ensures turn { turn_from self result areas.new line.new
             ≡ turn_of (walk_in self) (next_of (watched self rules.now areas.old) input.now self.at) (area line.old) }

@@ -33,7 +33,7 @@ fn write_lines<W: Write>(
     input: &[u8],
     rules: &RuleAreas,
     areas: &mut MonitorAreas,
-    line: &mut Line<LINE_BYTES>,
+    line: &mut Line<'_, LINE_BYTES>,
 ) {
     let mut walk = first;
     while let Some(next) = walk.next(input, rules, areas, line) {
@@ -56,7 +56,8 @@ fn main(rt: HostRuntime) {
         bytes: [0; CAPACITY],
         words: [0; CAPACITY],
     };
-    let mut line = Line::new([0; LINE_BYTES]);
+    let mut line_area = [0; LINE_BYTES];
+    let mut line = Line::new(&mut line_area);
     let mut out = rt.stdout();
     match report::begin(&input[..n], &mut rules, &mut areas, &mut line) {
         None => {

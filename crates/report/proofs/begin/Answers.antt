@@ -13,7 +13,7 @@ use Rattle.lines.specs.Wrote.{Written, area}
 use Rattle.report.specs.Lent.{areas_in}
 use Rattle.printing.proofs.Split.{rule_part_le, rule-text}
 use Rattle.printing.proofs.Starting.{GoodRead, read_bad, read_good, begin_long, begin_bad, begin_good, message-is, ready_is}
-use Rattle.report.proofs.Walking.{begun_events, line_bytes, line_area, line_kept}
+use Rattle.report.proofs.Walking.{begun_events, refused-length, line_bytes, line_area}
 use Rattle.report.proofs.begin.Goals as goal
 use Rattle.report.proofs.begin.Goals.{In-Ok}
 
@@ -23,9 +23,8 @@ returns-then-input-gt-INPUT_BYTES-clause-outcome c =
     let l = areas_in c.args.rules.now c.args.areas.now c.args.message.now in
     let begins = ap (λ (w : Written). w.bytes) c.clear.ensures.line in
     let there = ap area c.clear.ensures.line in
-    (message-is _ l too_long_line _ _ _ _ (begin_long _ l c.if-input-gt-INPUT_BYTES.true) refl refl
+    message-is _ l too_long_line _ _ _ _ (begin_long _ l c.if-input-gt-INPUT_BYTES.true) refl refl
     (ap length (line_bytes begins c.put.ensures)) (line_area begins c.put.ensures ∙ ap (over too_long_line) there)
-    (line_kept begins c.put.ensures ∙ ap length there) (sym (ap length there) ∙ rw begins c.clear.ensures.room)).0
 
 pub slice_bounds-read_rules-end : goal.slice_bounds-read_rules-end
 slice_bounds-read_rules-end c =
@@ -58,12 +57,16 @@ returns-in-Err-clause-outcome c =
     let bad = read_bad _ c.args.rules.now.image c.args.rules.now.names _ _ (omega arith) (omega arith) c.read_rules.ensures.answer
     c.in-Err.is in
     let line = rw c.number.ensures at c.put_rules_refused.ensures in
-    (message-is _ l (refused_line _ _) _ _ _ _
+    message-is _ l (refused_line _ _) _ _ _ _
     (begin_bad _ l _ _ c.if-input-gt-INPUT_BYTES.false (ap rule_text_read (sym text) ∙ bad.bad_text))
     (c.read_rules.ensures.image ∙ bad.image_stays) (c.read_rules.ensures.names ∙ bad.names_stay)
     (ap length (line_bytes begins line))
     (line_area begins line ∙ ap (over (refused_line _ _)) there)
-    (line_kept begins line ∙ ap length there) (sym (ap length there) ∙ rw begins c.clear.ensures.room)).0
+
+pub returns-in-Err-clause-inside : goal.returns-in-Err-clause-inside
+returns-in-Err-clause-inside c =
+    let line = ap length (line_bytes (ap (λ (w : Written). w.bytes) c.clear.ensures.line) c.put_rules_refused.ensures) in
+    omega (arith, line, refused-length c.number.result c.in-Err.error.place (omega arith) (omega arith))
 
 pub returns-in-Ok-clause-outcome : goal.returns-in-Ok-clause-outcome
 returns-in-Ok-clause-outcome c =

@@ -9,19 +9,9 @@ use Rattle.monitor.specs.declared.Returned.{Returned}
 use Rattle.machine.specs.Play.{string_of}
 use Rattle.monitor.specs.Lent.{outcome_from}
 use Rattle.printing.specs.Lines.{space, newline, decimal, joined, counted}
-use Rattle.printing.proofs.Decimals.{decimal-length}
 use Rattle.lines.proofs.Writing.{room_left, writes_then, writes_as}
-use Rattle.lines.proofs.Joining.{joined_length, string_in}
+use Rattle.lines.proofs.Joining.{counts_length, joined_length, string_in}
 use Rattle.lines.proofs.Line.put_counted.Goals as goal
-
-counts_length : (steps rewrites : ℕ) → steps ≤ 1000 → rewrites ≤ 1000 → length (decimal steps ++ space ∷ decimal rewrites) ≤ 9
-counts_length steps rewrites h g =
-    omega (
-      arith,
-      length-append (decimal steps) (space ∷ decimal rewrites),
-      decimal-length 3 steps (omega arith),
-      decimal-length 3 rewrites (omega arith),
-    )
 
 regrouped :
     (s r x : List ℕ) → (s ++ space ∷ r) ++ (space ∷ (x ++ newline ∷ [])) ≡ (s ++ space ∷ (r ++ space ∷ x)) ++ newline ∷ []

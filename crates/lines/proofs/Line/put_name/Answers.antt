@@ -20,4 +20,4 @@ name_part names i m e = elim (cases_lt 24 (get_or names (25 * i) 0)) [
 ]
 
 pub returns : goal.returns
-returns g c = writes_as (name_part _ _ _ c.min-size.ensures) c.put.ensures
+returns g c = writes_as (name_part _ _ _ (rw c.from.ensures at c.min-size.ensures)) c.put.ensures

@@ -7,7 +7,7 @@ use Rattle.lines.proofs.Line.put_refused.Goals as goal
 
 pub put_decimal-requires : goal.put_decimal-requires
 put_decimal-requires g c =
-    omega (arith, c.requires.room, room_left c.put.ensures, decimal-length 9 c.args.n (omega arith))
+    omega (arith, c.requires.room, room_left c.put.ensures, decimal-length 9 c.from.result (omega arith))
 
 pub put_byte-requires : goal.put_byte-requires
 put_byte-requires g c =
@@ -15,10 +15,10 @@ put_byte-requires g c =
       arith,
       c.requires.room,
       room_left c.put.ensures,
-      decimal-length 9 c.args.n (omega arith),
+      decimal-length 9 c.from.result (omega arith),
       room_left c.put_decimal.ensures,
     )
 
 pub returns : goal.returns
 unfolding bytes
-returns g c = writes_then c.put.ensures (writes_then c.put_decimal.ensures c.put_byte.ensures)
+returns g c = writes_then c.put.ensures (writes_then (rw c.from.ensures at c.put_decimal.ensures) c.put_byte.ensures)

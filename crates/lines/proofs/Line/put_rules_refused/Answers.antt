@@ -8,7 +8,7 @@ use Rattle.lines.proofs.Line.put_rules_refused.Goals as goal
 
 pub put_decimal-requires : goal.put_decimal-requires
 put_decimal-requires g c =
-    omega (arith, c.requires, room_left c.put.ensures, decimal-length 9 c.args.n (omega arith))
+    omega (arith, c.requires, room_left c.put.ensures, decimal-length 9 c.from.result (omega arith))
 
 pub put_byte-requires : goal.put_byte-requires
 put_byte-requires g c =
@@ -16,7 +16,7 @@ put_byte-requires g c =
       arith,
       c.requires,
       room_left c.put.ensures,
-      decimal-length 9 c.args.n (omega arith),
+      decimal-length 9 c.from.result (omega arith),
       room_left c.put_decimal.ensures,
     )
 
@@ -26,7 +26,7 @@ put_decimal-requires-2 g c =
       arith,
       c.requires,
       room_left c.put.ensures,
-      decimal-length 9 c.args.n (omega arith),
+      decimal-length 9 c.from.result (omega arith),
       room_left c.put_decimal.ensures,
       room_left c.put_byte.ensures,
       decimal-length 19 c.args.place (omega arith),
@@ -38,7 +38,7 @@ put_byte-requires-2 g c =
       arith,
       c.requires,
       room_left c.put.ensures,
-      decimal-length 9 c.args.n (omega arith),
+      decimal-length 9 c.from.result (omega arith),
       room_left c.put_decimal.ensures,
       room_left c.put_byte.ensures,
       decimal-length 19 c.args.place (omega arith),
@@ -49,5 +49,5 @@ pub returns : goal.returns
 unfolding refused_line bytes
 returns g c =
     writes_then c.put.ensures
-    (writes_then c.put_decimal.ensures
+    (writes_then (rw c.from.ensures at c.put_decimal.ensures)
     (writes_then c.put_byte.ensures (writes_then c.put_decimal-2.ensures c.put_byte-2.ensures)))

@@ -15,7 +15,7 @@ put_symbols-requires g c = (
       arith,
       c.requires.room,
       c.in-Some.ensures.cases.1,
-      name-length c.args.names.now c.in-Some.field-0-0.now,
+      name-length c.args.names.now c.from.result,
       room_left c.put_name.ensures,
     ),
   ),
@@ -30,7 +30,7 @@ put_symbols-requires-in-Some g c = (
       arith,
       c.requires.room,
       c.in-Some.ensures.cases.1,
-      name-length c.args.names.now c.in-Some.field-0-0.now,
+      name-length c.args.names.now c.from.result,
       room_left c.put_name.ensures,
       commas_length c.args.names.now c.in-Some.others.now,
       room_left c.put_symbols.ensures,
@@ -41,7 +41,7 @@ put_symbols-requires-in-Some g c = (
 pub returns-in-Some : goal.returns-in-Some
 returns-in-Some g c =
     writes_as (joined_left _ _ _ _ _ c.in-Some.ensures.cases.0)
-    (writes_then c.put_name.ensures (writes_then c.put_symbols.ensures c.put_symbols-in-Some.ensures))
+    (writes_then (rw c.from.ensures at c.put_name.ensures) (writes_then c.put_symbols.ensures c.put_symbols-in-Some.ensures))
 
 pub put_symbols-requires-in-Some-split_first : goal.put_symbols-requires-in-Some-split_first
 put_symbols-requires-in-Some-split_first g c = (
@@ -53,7 +53,7 @@ put_symbols-requires-in-Some-split_first g c = (
       arith,
       c.requires.room,
       c.in-Some-split_first.ensures.cases.1,
-      name-length c.args.names.now c.in-Some-split_first.field-0-0.now,
+      name-length c.args.names.now c.from-in-Some-split_first.result,
       room_left c.put_name-in-Some-split_first.ensures,
     ),
   ),
@@ -62,7 +62,8 @@ put_symbols-requires-in-Some-split_first g c = (
 pub returns-in-Some-split_first : goal.returns-in-Some-split_first
 returns-in-Some-split_first g c =
     writes_as (joined_right _ _ _ _ _ c.in_default.ensures.cases c.in-Some-split_first.ensures.cases.0)
-    (writes_then c.put_name-in-Some-split_first.ensures c.put_symbols-in-Some-split_first.ensures)
+    (writes_then (rw c.from-in-Some-split_first.ensures at c.put_name-in-Some-split_first.ensures)
+    c.put_symbols-in-Some-split_first.ensures)
 
 pub returns-in_default-split_first : goal.returns-in_default-split_first
 returns-in_default-split_first g c =

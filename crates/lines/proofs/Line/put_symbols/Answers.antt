@@ -16,7 +16,7 @@ pub put_name-requires : goal.put_name-requires
 put_name-requires g c = (
   omega arith,
   (
-    symbol_below c.args.symbols.now c.loop-symbol.symbol-index c.requires.slots c.loop-symbol-test.true,
+    rw c.from.ensures (symbol_below c.args.symbols.now c.loop-symbol.symbol-index c.requires.slots c.loop-symbol-test.true),
     omega (
       arith,
       naming_room c.args.names.now c.args.symbols.now c.loop-symbol.invariant c.loop-symbol-test.true c.requires.room,
@@ -29,4 +29,4 @@ pub loop-symbol-preserved : goal.loop-symbol-preserved
 loop-symbol-preserved g c =
     rw add-one
     (naming_next c.args.names.now c.args.symbols.now c.loop-symbol.invariant c.loop-symbol-test.true c.put_byte.ensures
-    c.put_name.ensures)
+    (rw c.from.ensures at c.put_name.ensures))

@@ -3,7 +3,8 @@ use Prim.Native.Nat.{ℕ}
 use mathlib.Core.Path.{◌≡◌, sym, ap, ◌∙◌}
 use native.Mathlib.Omega.{arith}
 use Rattle.std.specs.Prelude.{Some}
-use mathlib.Core.List.{List}
+use mathlib.Core.List.{List, [], ◌∷◌, ◌++◌}
+use lib.ListN.{length, length-append}
 use Rattle.machine.specs.Areas.{Monitor, document_capacity}
 use Rattle.machine.specs.Calls.{Outcome, offer_of}
 use Rattle.grammar.specs.Lookup.{symbol_named}
@@ -14,6 +15,10 @@ use Rattle.report.specs.Lent.{watched}
 use Rattle.lines.proofs.Writing.{room_left, writes_then, writes_as}
 use Rattle.report.proofs.Walking.{first_part, line_bytes, line_area, turn_is}
 use Rattle.report.proofs.Offered.{named_short, made_slot, made_small, line_unknown, line_offered}
+use Rattle.report.proofs.Offered.{answered_length, unknown_length}
+use Rattle.layout.specs.Refusals.{numbered}
+use Rattle.monitor.specs.Lent.{outcome_from}
+use Rattle.printing.specs.Lines.{space, newline, refused_word, decimal, answer_word, told}
 use Rattle.report.proofs.Walk.named.Goals as goal
 
 -- the monitor that the offer of a known name leaves
@@ -53,6 +58,32 @@ returns-in-None-clause-turn c =
     let line = writes_as (line_unknown w c.args.x.now unknown)
     (writes_then c.put.ensures (writes_then c.put_byte.ensures (rw c.number.ensures at c.put_refused.ensures))) in
     turn_is _ _ _ _ _ _ _ (line_bytes c.requires.line line) (line_area c.requires.line line) (rw unknown)
+
+-- the line's length is that of its parts
+pub returns-in-None-clause-fits : goal.returns-in-None-clause-fits
+returns-in-None-clause-fits c =
+    let rest : List ℕ = refused_word ++ space ∷ (decimal c.number.result ++ newline ∷ []) in
+    omega (
+      arith,
+      ap length (line_bytes c.requires.line (writes_then c.put.ensures (writes_then c.put_byte.ensures c.put_refused.ensures))),
+      length-append c.args.x.now (space ∷ rest),
+      c.requires.short,
+      unknown_length c.number.result (omega arith),
+    )
+
+pub returns-in-Some-clause-fits : goal.returns-in-Some-clause-fits
+returns-in-Some-clause-fits c =
+    let names = c.args.rules.now.names in
+    let a = numbered c.offer-called.result.answer in
+    let o = outcome_from c.offer-called.result c.offer-called.new.bytes [] in
+    let rest : List ℕ = answer_word names a ++ space ∷ (told names o a ++ newline ∷ []) in
+    omega (
+      arith,
+      ap length (line_bytes c.requires.line (writes_then c.put.ensures (writes_then c.put_byte.ensures c.put_told.ensures))),
+      length-append c.args.x.now (space ∷ rest),
+      named_short _ _ _ (sym c.symbol.ensures ∙ c.in-Some.is),
+      answered_length names o c.offer-called.result.answer (made_small _ _ _ _ _ _ _ c.offer-called.ensures),
+    )
 
 pub returns-in-Some-clause-turn : goal.returns-in-Some-clause-turn
 unfolding offering offered_name offered
