@@ -1,6 +1,7 @@
 // What the monitor does with its two areas: writes, the check that they are as described, and a rewrite. What these functions ask
 // of their caller, the checks of a call have shown; the crate monitor is the only one that calls them. The areas are lent as two
-// slices: of a struct with two `&mut` fields each clause would have to name what they become, which is no plainer.
+// slices: a struct of both would be no plainer, since clauses would name each of them all the same, and each public operation of
+// the monitor, which is lent slices, would make it and take it apart.
 #![tactic(auto)]
 
 ghost use Rattle.std.specs.Prelude.{ℕ, ◌<◌, ◌≡◌, IfSome, length, Some, None};

@@ -1,6 +1,6 @@
 // The rows and match words of the table, filled from the trie. specs/Rows.antt says what stands in them on the way.
-// What its functions ask, compile has shown. Nodes and rows are lent beside each other, since both are written: of a struct with
-// two `&mut` fields each clause would have to name what they become.
+// What its functions ask, compile has shown. Nodes and rows are lent beside each other: a struct of both would
+// be no plainer, since clauses would name each of them all the same.
 ghost use Rattle.std.specs.Prelude.{◌+◌, ◌*◌, ◌≤◌, ◌<◌, ◌≡◌, ◌≢◌, map, length, replicate, take};
 ghost use Rattle.layout.specs.States.{states};
 ghost use Rattle.layout.specs.Words.{Longest, own_or};
