@@ -94,17 +94,14 @@ pub(crate) fn put_back(
     held
 }
 
-// Moves the bytes from `from` to the end one place to the left. They are few: with `copy_within` an offer without a step takes a
-// twentieth longer.
+// Moves the bytes from `from` to the end one place to the left.
 pub fn move_left(bytes: &mut [u8], from: usize)
     requires some { 1 ≤ from }
     requires inside { from ≤ length bytes.old }
     ensures { bytes.new
         ≡ paste bytes.old (from - 1) (drop from bytes.old) (length bytes.old - from) }
 {
-    for i in from..bytes.len() {
-        bytes[i - 1] = bytes[i];
-    }
+    bytes.copy_within(from.., from - 1);
 }
 
 // Where each rule's right symbols begin, so that a step need not go through the rules before its own.

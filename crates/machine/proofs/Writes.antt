@@ -1,4 +1,4 @@
--- Loops that write: places set to 0, symbols copied, bytes moved. Each is `paste`, element by element.
+-- Loops that write: places set to 0, symbols copied. Each is `paste`, element by element.
 -- Assumes nothing.
 use Prim.Native.Nat.{ℕ, zero, suc, ◌+◌, ◌-◌, ◌≤◌, ◌<◌}
 use mathlib.Core.Path.{◌≡◌, sym, ap, ◌∙◌}
@@ -7,7 +7,6 @@ use native.Mathlib.Omega.{arith}
 use native.Mathlib.Numerals.{add-one}
 use lib.ListN.{length, get_or, set, drop, replicate, length-replicate, length-drop}
 use lib.Seq.{paste, paste-zero, length-paste, drop-cons, get_or-drop}
-use Rattle.rewriting.proofs.Copying.{Copying, copying_first, copying_next, copying_last, copying_behind}
 
 -- one element more, before the others
 one_before :
@@ -114,38 +113,3 @@ backing_last {d} {end} {s} {n} {xs} {j} k all i place =
     let e : j ≡ n = omega (arith, k.few) in
     let z : n - n ≡ 0 = omega arith in
     k.done ∙ ap (λ (m : ℕ). paste d (end - m) (drop (n - m) s) m) e ∙ (λ t. paste d (sym place t) (drop (z t) s) n)
-
--- the places from `from` on are moved one to the left
-pub record Moving (d : List ℕ) (from : ℕ) (xs : List ℕ) (i : ℕ) : Type 0 where
-  pub some : 1 ≤ from
-  pub begun : from ≤ i
-  pub copying : Copying d (from - 1) (drop from d) (length d - from) xs (i - from)
-
-pub moving_first : (d : List ℕ) (from : ℕ) → 1 ≤ from → from ≤ length d → Moving d from d from
-moving_first d from some inside =
-    let e : from - from ≡ 0 = omega arith in
-    record {
-      some = some;
-      begun = omega arith;
-      copying = rw e (copying_first d (from - 1) (drop from d) (length d - from) (omega arith) (rw length-drop (omega arith)));
-    }
-
-pub moving_next : {d : List ℕ} {from : ℕ} {xs : List ℕ} {i : ℕ} → Moving d from xs i → i < length d
-    → Moving d from (set xs (i - 1) (get_or xs i 0)) (i + 1)
-moving_next {d} {from} {xs} {i} k more =
-    let e : i + 1 - from ≡ suc (i - from) = omega (arith, k.begun) in
-    let place : from + (i - from) ≡ i = omega (arith, k.begun) in
-    let same : get_or xs i 0 ≡ get_or (drop from d) (i - from) 0 =
-    copying_behind i k.copying (omega (arith, k.begun, k.some))
-    ∙ rw (get_or-drop from d (i - from) 0, place)
-    in
-    record {
-      some = k.some;
-      begun = omega (arith, k.begun);
-      copying =
-          rw e (copying_next (i - 1) (get_or xs i 0) k.copying (omega (arith, k.begun)) (omega (arith, k.begun, k.some)) same);
-    }
-
-pub moving_last : {d : List ℕ} {from : ℕ} {xs : List ℕ} {i : ℕ} → Moving d from xs i → length d ≤ i
-    → xs ≡ paste d (from - 1) (drop from d) (length d - from)
-moving_last k all = copying_last k.copying (omega (arith, k.begun))
