@@ -155,7 +155,7 @@ fn settled_right(table: Table<'_>, symbols: &[u8], words: &[u16]) -> bool
     true
 }
 
-// Whether head and areas are as described, with areas of one length. The head comes as its four numbers: its struct has methods,
+// Whether head and areas are as described, with areas of one length. The head comes as its four values: its struct has methods,
 // so it stands with them in the crate monitor, above this one.
 pub fn as_described(
     settled: usize,

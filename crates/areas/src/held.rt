@@ -32,7 +32,7 @@ pub fn clear(bytes: &mut [u8], words: &mut [u16], from: usize, to: usize)
 
 // Takes a left side of `size` symbols off: the first waiting symbol, which completes it, and the settled ones before it. Gives
 // back how many stay settled. What a step finds next waits for that number: the loop counts down to it by tests, which a
-// processor foresees, and its constant bound makes them a few instructions in a row. With `fill` a batch takes up to a fourth
+// processor foresees, and its constant bound makes them a few instructions in a row. With `fill` a batch takes up to an eighth
 // longer.
 pub(crate) fn take_off(
     bytes: &mut [u8],

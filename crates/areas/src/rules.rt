@@ -8,6 +8,7 @@ ghost use Rattle.layout.specs.Places.{right_at};
 ghost use Rattle.layout.specs.Table.{table_of};
 ghost use Rattle.machine.specs.Lent.{rows_in, width_in, match_in, Starts};
 
+use crate::held;
 use image::Image;
 
 // An image and words that begin with its table, where the table's rows begin, and how many words each has: a step does not look
@@ -80,7 +81,16 @@ impl<'a> Table<'a> {
     }
 }
 
-impl Rules<'_> {
+impl<'a> Rules<'a> {
+    // The rules of a table, with the places of their right symbols written into `starts`.
+    pub fn new(table: Table<'a>, starts: &'a mut [u16; 64]) -> Self
+        ensures image { result.table.image.bytes.now ≡ table.entry.image.bytes.now }
+        ensures words { result.table.words.now ≡ table.entry.words.now }
+    {
+        held::index(table.image, starts);
+        Rules { table, starts }
+    }
+
     // Where rule i's right symbols begin in the image.
     pub fn start(self, i: usize) -> usize
         requires { i < length (read self.table.image.bytes.now).rules }

@@ -1,6 +1,6 @@
 // A rule image that has passed the check, and what stands where in it. The check costs more than a look, and is made once
-// (`validity`): that it has passed is in the type. Places are worked out by the layout of document 01: the four bytes of a rule
-// as a chunk would have to be looked for behind the header at each look.
+// (`validity`): that it has passed is in the type. Places are worked out as document 01 gives them: with chunks of four each
+// look would have to make them first, behind the header.
 #![tactic(auto)]
 
 ghost use Rattle.std.specs.Prelude.{◌<◌, ◌≡◌, true, length};

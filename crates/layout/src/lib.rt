@@ -44,7 +44,7 @@ pub enum Refusal {
 }
 
 impl Refusal {
-    // Document 01's number of the refusal: a method by its name for it, which says more than a `From`.
+    // Document 01's number of the refusal. It is no `From`: `number` says what is asked for, and `into` would not.
     pub fn number(self) -> u32
         ensures { result ≡ number self }
     {

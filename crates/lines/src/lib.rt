@@ -1,8 +1,7 @@
-// A line that is being written, part by part, in an area that is lent to it.
-// What its methods ask, that there is room above all, the crate report shows: of the others, `watch` calls `new` and `bytes`, and
-// `into_area` is for a caller who wants the area back.
-// (d) The parts are no `Display` for a `write!`: that takes text, and a name here is bytes that nothing asks to be text; and its
-// clauses say what is written where it ends in `Ok`, and not that it does, while these methods cannot fail.
+// A line that is being written, part by part, in an area that is lent to it. What its methods ask, that there is room above
+// all, the crate report shows; `watch` makes a line and reads it, which asks for no more than an area; `into_area` is for a
+// caller who wants that back. The parts are no `Display` for a `write!`, which would be no plainer: that takes text, and a name
+// here is bytes that nothing asks to be text; and it may fail by its clauses, while these methods can't.
 #![tactic(auto)]
 
 ghost use Rattle.std.specs.Prelude.{◌+◌, ◌*◌, ◌≤◌, ◌<◌, ◌≡◌, true, length, None, Ok};

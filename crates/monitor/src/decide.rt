@@ -1,6 +1,6 @@
 // Offer, go on and the offers of a batch, where what is lent has been checked: what is left of their refusals, and the run. The
-// module is private: what its functions ask, the check of what is lent has shown. That it has passed is asked of each, and is no
-// type's: it ties the head to areas that stand beside it.
+// module is private: what its functions ask, the check of what is lent has shown. Each function asks for that by a clause,
+// since no type holds the head and the areas that it speaks of.
 ghost use Rattle.std.specs.Prelude.{◌+◌, ◌≤◌, ◌<◌, ◌≡◌, length, IfSome};
 ghost use Rattle.image.specs.Sets.{set_of};
 ghost use Rattle.areas.specs.Lent.{PassedWith};
@@ -118,8 +118,8 @@ impl Head {
         }
     }
 
-    // The offers of all events, up to the first that is refused. The answers' bytes are written by number: of what is written
-    // through a `zip` with `iter_mut` nothing is known.
+    // The offers of all events, up to the first that is refused. The answers' bytes are written by number: with a `zip` of
+    // `iter_mut` the proof does not close, since nothing is known of what is written through it.
     pub(crate) fn in_turn(
         self,
         rules: Rules<'_>,

@@ -24,7 +24,8 @@ mod decide;
 mod steps;
 
 // The monitor's head: how many symbols are settled, how many wait, the verdict or none, and that verdict's rule (0 with none):
-// the four values that document 01 names, one of which may be wrong in what is lent.
+// they stand side by side as document 01 has them, since in a head that is lent a rule may stand beside no verdict, which 11
+// refuses.
 #[derive(Clone, Copy)]
 pub struct Head {
     pub settled: usize,
@@ -162,12 +163,8 @@ impl Head {
             Err(refusal) => return self.refused(refusal),
             Ok(table) => table,
         };
-        let mut starts = [0u16; 64];
-        held::index(table.image, &mut starts);
-        let rules = Rules {
-            table,
-            starts: &starts,
-        };
+        let mut starts = [0; 64];
+        let rules = Rules::new(table, &mut starts);
         self.call(rules, bytes, words, offered, fuel)
     }
 
@@ -205,8 +202,7 @@ impl Head {
     }
 
     // The offers of a batch, up to the first that is refused, with the checks of what is lent made once; or the refusal
-    // of the batch. Rules hold a borrow of the places of right sides, so these lie here, as in `once`, and not in a function for
-    // both.
+    // of the batch.
     fn offers(
         self,
         image: &[u8],
@@ -228,12 +224,8 @@ impl Head {
         if EVENTS_MOST < events.len() || answers.len() < events.len() {
             return Err(Refusal::BatchLength);
         }
-        let mut starts = [0u16; 64];
-        held::index(table.image, &mut starts);
-        let rules = Rules {
-            table,
-            starts: &starts,
-        };
+        let mut starts = [0; 64];
+        let rules = Rules::new(table, &mut starts);
         Ok(self.in_turn(rules, bytes, words, events, fuel, answers))
     }
 

@@ -49,8 +49,8 @@ impl Parts<'_> {
         n
     }
 
-    // How many words of the root's row lead away from it. It compares with one number, and `differences` with a row: a loop for
-    // both would test in each turn which it is.
+    // How many words of the root's row lead away from it. With one loop for this and `differences`, over slices, a check takes
+    // 3 to 11 per cent longer.
     fn transitions(self) -> u16
         ensures { result ≡ leaving self.entry.rows.now self.entry.width self.entry.rooted.root }
     {

@@ -66,8 +66,8 @@ pub fn compile(image: &[u8], table: &mut [u16]) -> Result<usize, Refusal>
 }
 
 // Whether the table begins with that of the image, with nodes for the trie. They are lent: with their number as a parameter, as
-// compile_with has it, there are two such functions, the tests of the states are no longer compiled into one, and a check of the
-// largest tables takes 5 to 7 per cent longer.
+// compile_with has it, there are two such functions, the tests of the states are no longer compiled into one, and a check of
+// large tables takes some 5 per cent longer.
 fn begins_by(rooted: Rooted<'_>, nodes: &mut [Node], table: &[u16]) -> bool
     requires { (nodes.old ≡ replicate (length nodes.old) unused) × (Roomy (set_of rooted.image) (length nodes.old)) }
     ensures { result ≡ prefix (table_of (set_of rooted.entry.image)) table.now }

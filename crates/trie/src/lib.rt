@@ -34,8 +34,8 @@ use image::Rooted;
 
 pub mod rows;
 
-// A node. Its links youngest and older name no node where they are 0, as 0 is no match in a match word of the table: an `Option`
-// of each would make a node a third larger.
+// A node. Its links youngest and older name no node where they are 0, as a match word names no rule, which is the table's form:
+// in a fixed array an `Option` of each would make every node larger.
 #[derive(Clone, Copy)]
 pub struct Node {
     // the node of the state without its last symbol, and that symbol
@@ -111,8 +111,9 @@ fn child(trie: &[Node], root: usize, n: usize, q: usize, a: u16) -> Option<usize
     None
 }
 
-// Node n becomes a child of q by symbol a. Three fields of q are read one by one, before both stores: behind a store a check
-// takes up to 6 per cent longer, and with the whole node read at once, which waits for the stores of the step before, 1 to 10.
+// Node n becomes a child of q by symbol a. Three fields of q are read, and no others, before both stores: behind a store a
+// check takes up to 6 per cent longer, and with the whole node read at once, which waits for the stores of the step before, 1
+// to 10.
 fn add(trie: &mut [Node], n: usize, q: usize, a: u16)
     requires node { (q < n) × (n < states_most) }
     requires room { n < length trie.old }

@@ -6,14 +6,7 @@ use Rattle.machine.specs.Lent.{Passed}
 use Rattle.monitor.specs.Lent.{lent}
 use Rattle.layout.specs.Refusals.{refusal_number, refused_by}
 use Rattle.machine.proofs.Offering.{passed_sizes}
-use Rattle.machine.proofs.BatchChecks.{
-  passed_image,
-  batch_lent_refused,
-  batch_fuel_refused,
-  batch_many_refused,
-  batch_room_refused,
-  batch-taken,
-}
+use Rattle.machine.proofs.BatchChecks.{batch_lent_refused, batch_fuel_refused, batch_many_refused, batch_room_refused, batch-taken}
 use Rattle.monitor.proofs.Head.offers.Goals.{
   Start,
   then-events-gt-EVENTS_MOST-via-then-events-gt-EVENTS_MOST,
@@ -63,12 +56,6 @@ returns-then-events-gt-EVENTS_MOST c =
           c.if-fuel-gt-FUEL_MOST.false w.if-events-gt-EVENTS_MOST.false w.if-answers-events.true
     ])
 
-pub index-requires : goal.index-requires
-index-requires c =
-    let s = (goal.at.index-requires c).Start in
-    let t = c.in_ok-table.table in
-    (passed_image document_capacity t.image.bytes.now t.words.now (given s) c.in_ok-table.ensures.2).1
-
 pub in_turn-requires-clause-lent : goal.in_turn-requires-clause-lent
 in_turn-requires-clause-lent c =
     let s = (goal.at.in_turn-requires-clause-lent c).Start in
@@ -76,7 +63,7 @@ in_turn-requires-clause-lent c =
     let passed : Passed (length c.args.bytes.now) t.image.bytes.now t.words.now (given s) =
     rw (passed_sizes document_capacity t.image.bytes.now t.words.now (given s) c.in_ok-table.ensures.2).0 c.in_ok-table.ensures.2
     in
-    passed
+    rw (c.new-rules.ensures.image, c.new-rules.ensures.words) passed
 
 pub returns : goal.returns
 unfolding refusal_number refused_by
@@ -86,6 +73,10 @@ returns c =
     let table = c.in_ok-table.table.words.now in
     let ok = c.in_ok-table.ensures.2 in
     rw (← c.in_ok-table.ensures.0, ← c.in_ok-table.ensures.1)
-    (rw (passed_sizes document_capacity image table (given s) ok).0 at c.in_turn.ensures
+    (rw (
+      (passed_sizes document_capacity image table (given s) ok).0,
+      c.new-rules.ensures.image,
+      c.new-rules.ensures.words,
+    ) at c.in_turn.ensures
     ∙ batch-taken document_capacity image table (given s) c.args.events.now c.args.fuel c.args.answers.now ok
     c.if-fuel-gt-FUEL_MOST.false c.if-events-gt-EVENTS_MOST.false c.if-answers-events.false)

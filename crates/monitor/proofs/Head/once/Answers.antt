@@ -3,7 +3,6 @@ use Rattle.std.proofs.Common.{length}
 use Rattle.machine.specs.Areas.{document_capacity, Monitor}
 use Rattle.machine.specs.Lent.{Passed, offer_or_go_on}
 use Rattle.monitor.specs.Lent.{lent}
-use Rattle.machine.proofs.BatchChecks.{passed_image}
 use Rattle.machine.proofs.Offering.{passed_sizes}
 use Rattle.machine.proofs.Deciding.{lent_refused}
 use Rattle.monitor.proofs.Head.once.Goals.{Start}
@@ -20,12 +19,6 @@ returns-in-Err c =
     (lent_refused document_capacity c.args.image.now c.args.table.now (given s) (offer_or_go_on c.args.offered c.args.fuel) _
     c.in-Err.ensures)
 
-pub index-requires : goal.index-requires
-index-requires c =
-    let s = (goal.at.index-requires c).Start in
-    let t = c.in-Ok.table in
-    (passed_image document_capacity t.image.bytes.now t.words.now (given s) c.in-Ok.ensures.2).1
-
 pub call-requires : goal.call-requires
 call-requires c =
     let s = (goal.at.call-requires c).Start in
@@ -33,11 +26,15 @@ call-requires c =
     let passed : Passed (length c.args.bytes.now) t.image.bytes.now t.words.now (given s) =
     rw (passed_sizes document_capacity t.image.bytes.now t.words.now (given s) c.in-Ok.ensures.2).0 c.in-Ok.ensures.2
     in
-    passed
+    rw (c.new-rules.ensures.image, c.new-rules.ensures.words) passed
 
 pub returns : goal.returns
 returns c =
     let s = (goal.at.returns c).Start in
     let t = c.in-Ok.table in
     rw (← c.in-Ok.ensures.0, ← c.in-Ok.ensures.1)
-    (rw (passed_sizes document_capacity t.image.bytes.now t.words.now (given s) c.in-Ok.ensures.2).0 at c.call.ensures)
+    (rw (
+      (passed_sizes document_capacity t.image.bytes.now t.words.now (given s) c.in-Ok.ensures.2).0,
+      c.new-rules.ensures.image,
+      c.new-rules.ensures.words,
+    ) at c.call.ensures)
