@@ -32,7 +32,6 @@ use Rattle.printing.specs.Watch.{percent, rule_part, Watch, offered_name, line_f
 use Rattle.printing.specs.Turns as Turns
 use Rattle.printing.specs.Turns.{Next, Events, nothing, offering, named, first_named, next_of, Turn, turn_of}
 use Rattle.report.specs.declared.RuleAreas.{RuleAreas}
-use Rattle.report.specs.declared.MonitorAreas.{MonitorAreas}
 use Rattle.report.specs.declared.Walk.{Walk}
 use Rattle.report.specs.Lent.{walk_in, begun_in, watched, turn_from}
 
@@ -186,23 +185,24 @@ turn_is n walk head bytes words a line is there monitor i =
 
 -- .. or nothing, where no name is left
 pub turn_nothing :
-    (n : Next) (walk : Walk) (r : RuleAreas) (m : MonitorAreas) (line left : Written) → n ≡ nothing (watched walk r m) walk.at
-    → left ≡ empty (area line) → turn_from walk None m left ≡ turn_of (walk_in walk) n (area line)
+    (n : Next) (walk : Walk) (r : RuleAreas) (bytes words : List ℕ) (line left : Written)
+    → n ≡ nothing (watched walk r bytes words) walk.at → left ≡ empty (area line)
+    → turn_from walk None bytes words left ≡ turn_of (walk_in walk) n (area line)
 unfolding turn_of over nothing
-turn_nothing n walk r m line left e cleared = rw (e, cleared) refl
+turn_nothing n walk r b ws line left e cleared = rw (e, cleared) refl
 
 -- the walk goes on where the name ends, and the line has a byte
 pub turn_place :
-    (w : Watch) (walk next : Walk) (end : ℕ) (x a : List ℕ) (m : MonitorAreas) (line : Written)
-    → turn_from walk (Some next) m line ≡ turn_of (walk_in walk) (offering w end x) a → next.at ≡ end
+    (w : Watch) (walk next : Walk) (end : ℕ) (x a bytes words : List ℕ) (line : Written)
+    → turn_from walk (Some next) bytes words line ≡ turn_of (walk_in walk) (offering w end x) a → next.at ≡ end
 unfolding turn_of offering
-turn_place w walk next end x a m line e = ap (λ (t : Turn). t.walk.at) e
+turn_place w walk next end x a b ws line e = ap (λ (t : Turn). t.walk.at) e
 
 pub turn_some :
-    (w : Watch) (walk next : Walk) (end : ℕ) (x a : List ℕ) (m : MonitorAreas) (line : Written)
-    → turn_from walk (Some next) m line ≡ turn_of (walk_in walk) (offering w end x) a → 0 < length line.bytes
+    (w : Watch) (walk next : Walk) (end : ℕ) (x a bytes words : List ℕ) (line : Written)
+    → turn_from walk (Some next) bytes words line ≡ turn_of (walk_in walk) (offering w end x) a → 0 < length line.bytes
 unfolding turn_of offering line_for event_line
-turn_some w walk next end x a m line e =
+turn_some w walk next end x a b ws line e =
     let o : Outcome = offered_name w x in
     let behind : List ℕ = answer_word w.names o.answer ++ space ∷ (told w.names o o.answer ++ newline ∷ []) in
     omega (arith, ap (λ (t : Turn). t.length) e, length-append x (space ∷ behind))

@@ -1,17 +1,12 @@
--- How the code speaks of the definitions of the crate printing: its areas, its line, its walk, and what it gives back.
-use Rattle.std.specs.Prelude.{length, Option, None, Some}
+-- How the code speaks of the definitions of the crate printing: its walk, and what it gives back.
+use Rattle.std.specs.Prelude.{ℕ, List, length, Option, None, Some}
 use Rattle.monitor.specs.Lent.{head_in}
 use Rattle.printing.specs.Watch.{Watch}
 use Rattle.printing.specs.Turns as Turns
-use Rattle.printing.specs.Turns.{Areas, Begun, Message, Events, Turn, areas, watch_in}
+use Rattle.printing.specs.Turns.{Begun, Message, Events, Turn, watch_in}
 use Rattle.lines.specs.Wrote.{Written, area}
 use Rattle.report.specs.declared.RuleAreas.{RuleAreas}
-use Rattle.report.specs.declared.MonitorAreas.{MonitorAreas}
 use Rattle.report.specs.declared.Walk.{Walk}
-
--- all areas
-abbrev pub areas_in : RuleAreas → MonitorAreas → Written → Areas
-areas_in r m line = areas r.image r.names r.table m.bytes m.words (area line)
 
 -- the walk, as the definitions have it
 abbrev pub walk_in : Walk → Turns.Walk
@@ -23,8 +18,8 @@ begun_in None line = Message (length line.bytes)
 begun_in (Some walk) line = Events (walk_in walk)
 
 -- what `next` works with
-abbrev pub watched : Walk → RuleAreas → MonitorAreas → Watch
-watched walk r m = watch_in (walk_in walk) r.image r.table r.names m.bytes m.words
+abbrev pub watched : Walk → RuleAreas → List ℕ → List ℕ → Watch
+watched walk r bytes words = watch_in (walk_in walk) r.image.now r.table.now r.names.now bytes words
 
 -- the walk behind a line: where no name is left, the one from before
 abbrev pub walk_behind : Walk → Option Walk → Walk
@@ -32,12 +27,12 @@ walk_behind walk None = walk
 walk_behind walk (Some next) = next
 
 -- what `next` answers, and the areas and the line that it leaves
-abbrev pub turn_from : Walk → Option Walk → MonitorAreas → Written → Turn
-turn_from walk r m line =
+abbrev pub turn_from : Walk → Option Walk → List ℕ → List ℕ → Written → Turn
+turn_from walk r bytes words line =
     record {
       walk = walk_in (walk_behind walk r);
       length = length line.bytes;
-      bytes = m.bytes;
-      words = m.words;
+      bytes = bytes;
+      words = words;
       buffer = area line;
     }

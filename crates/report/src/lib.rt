@@ -6,9 +6,10 @@ ghost use Rattle.rewriting.specs.Lists.{over};
 ghost use Rattle.layout.specs.Image.{read, valid};
 ghost use Rattle.layout.specs.Table.{table_of};
 ghost use Rattle.printing.specs.Watch.{input_most, rule_part, fresh_monitor};
-ghost use Rattle.printing.specs.Turns.{line_most, offering, next_of, turn_of, events_at, begin_of, begins_from, Inside};
+ghost use Rattle.printing.specs.Turns.{line_most, offering, next_of, turn_of, watch_in};
+ghost use Rattle.printing.specs.Turns.{events_at, areas, begin_of, begins_from, Inside};
 ghost use Rattle.lines.specs.Wrote.{area};
-ghost use Rattle.report.specs.Lent.{areas_in, walk_in, begun_in, watched, turn_from};
+ghost use Rattle.report.specs.Lent.{walk_in, begun_in, watched, turn_from};
 
 use grammar::NAMES_BYTES;
 use layout::{IMAGE_BYTES, Refusal, TABLE_WORDS};
@@ -21,20 +22,13 @@ pub const INPUT_BYTES: usize = 20480;
 
 const FUEL: u32 = 1000;
 
-// What `begin` makes of a rule text: its image, the slots of its names, its table. A walk only reads them, so that several may
-// share them.
-#[derive(Drop)]
-pub struct RuleAreas {
-    pub image: [u8; IMAGE_BYTES],
-    pub names: [u8; NAMES_BYTES],
-    pub table: [u16; TABLE_WORDS],
-}
-
-// The areas of a walk's monitor.
-#[derive(Drop)]
-pub struct MonitorAreas {
-    pub bytes: [u8; CAPACITY],
-    pub words: [u16; CAPACITY],
+// What `begin` made of a rule text: its image, the slots of its names, its table, wherever they lie. A walk only reads them, so
+// that several may share them.
+#[derive(Clone, Copy)]
+pub struct RuleAreas<'a> {
+    pub image: &'a [u8; IMAGE_BYTES],
+    pub names: &'a [u8; NAMES_BYTES],
+    pub table: &'a [u16; TABLE_WORDS],
 }
 
 // The walk over the event names: the monitor's head, where in the input the next name is looked for, and how long the image and
@@ -72,7 +66,8 @@ fn make_ready(
     at: usize,
     image: &[u8],
     table: &mut [u16; TABLE_WORDS],
-    areas: &mut MonitorAreas,
+    bytes: &mut [u8; CAPACITY],
+    words: &mut [u16; CAPACITY],
 ) -> Option<Walk>
     requires { valid image.now ≡ true }
     ensures answer { option_map walk_in result
@@ -83,12 +78,12 @@ fn make_ready(
           table = length (table_of (read image.now));
         }) }
     ensures table { table.new ≡ over (table_of (read image.now)) table.old }
-    ensures bytes { areas.new.bytes ≡ fresh_monitor.bytes }
-    ensures words { areas.new.words ≡ fresh_monitor.words }
+    ensures bytes { bytes.new ≡ fresh_monitor.bytes }
+    ensures words { words.new ≡ fresh_monitor.words }
 {
     // A valid image is never refused, where the table's area has TABLE_WORDS places.
     let size = table::compile(image, table).ok()?;
-    let begun = monitor::fresh(&mut areas.bytes, &mut areas.words);
+    let begun = monitor::fresh(bytes, words);
     Some(Walk {
         head: begun.head,
         at,
@@ -98,15 +93,20 @@ fn make_ready(
 }
 
 // Begins with an input: the rules go into their areas, and the events are to be offered one by one, by `next`. Where the input or
-// its rule text is wrong, there are none, and the line is a message. It takes the areas whatever they hold.
+// its rule text is wrong, there are none, and the line is a message. It takes the areas whatever they hold. They are lent one by
+// one: structs that own them would ask callers that they lie together.
 pub fn begin(
     input: &[u8],
-    rules: &mut RuleAreas,
-    areas: &mut MonitorAreas,
+    image: &mut [u8; IMAGE_BYTES],
+    names: &mut [u8; NAMES_BYTES],
+    table: &mut [u16; TABLE_WORDS],
+    bytes: &mut [u8; CAPACITY],
+    words: &mut [u16; CAPACITY],
     message: &mut Line<'_, LINE_BYTES>,
 ) -> Option<Walk>
-    ensures outcome { begins_from (begun_in result message.new) (areas_in rules.new areas.new message.new)
-        ≡ begin_of input.now (areas_in rules.old areas.old message.old) }
+    ensures outcome { begins_from (begun_in result message.new)
+        (areas image.new names.new table.new bytes.new words.new (area message.new))
+        ≡ begin_of input.now (areas image.old names.old table.old bytes.old words.old (area message.old)) }
     ensures inside { Inside (begun_in result message.new) }
 {
     message.clear();
@@ -115,56 +115,60 @@ pub fn begin(
         return None;
     }
     let end = rule_length(input);
-    match text::read_rules(&input[..end], &mut rules.image, &mut rules.names) {
+    match text::read_rules(&input[..end], image, names) {
         Err(error) => {
             message.put_rules_refused(error.refusal.number(), error.place);
             None
         }
         Ok(size) => make_ready(
             events_start(input, end),
-            &rules.image[..size],
-            &mut rules.table,
-            areas,
+            &image[..size],
+            table,
+            bytes,
+            words,
         ),
     }
 }
 
 impl Walk {
-    // Offers the name x, which ends at `end`, and writes its line.
+    // Offers the name x, which ends at `end`, and writes its line. It takes the arrays of `RuleAreas` one by one: with the
+    // struct, the proof did not close, as it was not given the length of an array that a field borrows.
     fn named(
         self,
         end: usize,
         x: &[u8],
-        rules: &RuleAreas,
-        areas: &mut MonitorAreas,
+        image: &[u8; IMAGE_BYTES],
+        names: &[u8; NAMES_BYTES],
+        table: &[u16; TABLE_WORDS],
+        bytes: &mut [u8; CAPACITY],
+        words: &mut [u16; CAPACITY],
         line: &mut Line<'_, LINE_BYTES>,
     ) -> Walk
         requires short { length x.now ≤ input_most }
         requires line { line.old.bytes ≡ [] }
         requires room { line_most ≤ length line.old.behind }
-        ensures turn { turn_from self (Some result) areas.new line.new
-            ≡ turn_of (walk_in self) (offering (watched self rules.now areas.old) end x.now) (area line.old) }
+        ensures turn { turn_from self (Some result) bytes.new words.new line.new
+            ≡ turn_of (walk_in self) (offering
+            (watch_in (walk_in self) image.now table.now names.now bytes.old words.old) end x.now) (area line.old) }
         ensures fits { length line.new.bytes ≤ line_most }
     {
         line.put(x);
         line.put_byte(b' ');
-        match tokens::symbol(&rules.names, x) {
+        match tokens::symbol(names, x) {
             None => {
                 line.put_refused(Refusal::NoEvent.number());
                 Walk { at: end, ..self }
             }
             Some(a) => {
-                let image = &rules.image[..usize::min(self.image, IMAGE_BYTES)];
-                let table = &rules.table[..usize::min(self.table, TABLE_WORDS)];
                 let called = self.head.offer(
-                    image,
-                    table,
-                    &mut areas.bytes,
-                    &mut areas.words,
+                    &image[..usize::min(self.image, IMAGE_BYTES)],
+                    &table[..usize::min(self.table, TABLE_WORDS)],
+                    bytes,
+                    words,
                     a as u8,
                     FUEL,
                 );
-                line.put_told(&rules.names, called, &areas.bytes);
+                line.put_told(names, called, bytes);
                 Walk {
                     head: called.head,
                     at: end,
@@ -178,12 +182,13 @@ impl Walk {
     pub fn next(
         self,
         input: &[u8],
-        rules: &RuleAreas,
-        areas: &mut MonitorAreas,
+        rules: RuleAreas<'_>,
+        bytes: &mut [u8; CAPACITY],
+        words: &mut [u16; CAPACITY],
         line: &mut Line<'_, LINE_BYTES>,
     ) -> Option<Walk>
-        ensures turn { turn_from self result areas.new line.new
-            ≡ turn_of (walk_in self) (next_of (watched self rules.now areas.old) input.now self.at) (area line.old) }
+        ensures turn { turn_from self result bytes.new words.new line.new
+            ≡ turn_of (walk_in self) (next_of (watched self rules.entry bytes.old words.old) input.now self.at) (area line.old) }
         ensures fits { length line.new.bytes ≤ line_most }
         ensures onward { MatchOption result (length line.new.bytes ≡ 0)
             (λ next. (0 < length line.new.bytes) × ((self.at < next.at) × (next.at ≤ length input.now))) }
@@ -198,6 +203,15 @@ impl Walk {
             return None;
         }
         let end = self.at + run.end;
-        Some(self.named(end, &rest[run], rules, areas, line))
+        Some(self.named(
+            end,
+            &rest[run],
+            rules.image,
+            rules.names,
+            rules.table,
+            bytes,
+            words,
+            line,
+        ))
     }
 }

@@ -8,9 +8,9 @@ use lib.Seq.{length-take-le}
 use Rattle.printing.specs.Ascii.{bytes}
 use Rattle.printing.specs.Lines.{refused_line, too_long_line}
 use Rattle.printing.specs.Watch.{rule_text_read}
+use Rattle.printing.specs.Turns.{areas}
 use Rattle.rewriting.specs.Lists.{over}
 use Rattle.lines.specs.Wrote.{Written, area}
-use Rattle.report.specs.Lent.{areas_in}
 use Rattle.printing.proofs.Split.{rule_part_le, rule-text}
 use Rattle.printing.proofs.Starting.{GoodRead, read_bad, read_good, begin_long, begin_bad, begin_good, message-is, ready_is}
 use Rattle.report.proofs.Walking.{begun_events, refused-length, line_bytes, line_area}
@@ -20,7 +20,9 @@ use Rattle.report.proofs.begin.Goals.{In-Ok}
 pub returns-then-input-gt-INPUT_BYTES-clause-outcome : goal.returns-then-input-gt-INPUT_BYTES-clause-outcome
 unfolding too_long_line bytes
 returns-then-input-gt-INPUT_BYTES-clause-outcome c =
-    let l = areas_in c.args.rules.now c.args.areas.now c.args.message.now in
+    let l =
+    areas c.args.image.now c.args.names.now c.args.table.now c.args.bytes.now c.args.words.now (area c.args.message.now)
+    in
     let begins = ap (λ (w : Written). w.bytes) c.clear.ensures.line in
     let there = ap area c.clear.ensures.line in
     message-is _ l too_long_line _ _ _ _ (begin_long _ l c.if-input-gt-INPUT_BYTES.true) refl refl
@@ -33,9 +35,9 @@ slice_bounds-read_rules-end c =
 -- the rule text is taken
 good_read :
     (c : In-Ok)
-    → GoodRead (take c.rule_length-end.result c.args.input.now) c.args.rules.now.image c.args.rules.now.names c.in-Ok.size
+    → GoodRead (take c.rule_length-end.result c.args.input.now) c.args.image.now c.args.names.now c.in-Ok.size
 good_read c =
-    read_good _ c.args.rules.now.image c.args.rules.now.names _ _ (omega arith) (omega arith) c.read_rules.ensures.answer
+    read_good _ c.args.image.now c.args.names.now _ _ (omega arith) (omega arith) c.read_rules.ensures.answer
     c.in-Ok.is
 
 pub shared_ref_as_front-make_ready : goal.shared_ref_as_front-make_ready
@@ -50,11 +52,13 @@ make_ready-requires c =
 
 pub returns-in-Err-clause-outcome : goal.returns-in-Err-clause-outcome
 returns-in-Err-clause-outcome c =
-    let l = areas_in c.args.rules.now c.args.areas.now c.args.message.now in
+    let l =
+    areas c.args.image.now c.args.names.now c.args.table.now c.args.bytes.now c.args.words.now (area c.args.message.now)
+    in
     let begins = ap (λ (w : Written). w.bytes) c.clear.ensures.line in
     let there = ap area c.clear.ensures.line in
     let text = rule-text _ _ c.rule_length-end.ensures in
-    let bad = read_bad _ c.args.rules.now.image c.args.rules.now.names _ _ (omega arith) (omega arith) c.read_rules.ensures.answer
+    let bad = read_bad _ c.args.image.now c.args.names.now _ _ (omega arith) (omega arith) c.read_rules.ensures.answer
     c.in-Err.is in
     let line = rw c.number.ensures at c.put_rules_refused.ensures in
     message-is _ l (refused_line _ _) _ _ _ _
@@ -70,7 +74,9 @@ returns-in-Err-clause-inside c =
 
 pub returns-in-Ok-clause-outcome : goal.returns-in-Ok-clause-outcome
 returns-in-Ok-clause-outcome c =
-    let l = areas_in c.args.rules.now c.args.areas.now c.args.message.now in
+    let l =
+    areas c.args.image.now c.args.names.now c.args.table.now c.args.bytes.now c.args.words.now (area c.args.message.now)
+    in
     let text = rule-text _ _ c.rule_length-end.ensures in
     let good = good_read (goal.at.returns-in-Ok-clause-outcome c).In-Ok in
     let image = c.read_rules.ensures.image in

@@ -54,7 +54,7 @@ is_made :
     → lent c.fresh-begun.result.head c.fresh-begun.new.bytes c.fresh-begun.new.words ≡ fresh_monitor
 is_made c =
     ap (λ (f : Fresh). f.monitor) c.fresh-begun.ensures
-    ∙ is-fresh c.args.areas.now.bytes c.args.areas.now.words (omega arith) (omega arith)
+    ∙ is-fresh c.args.bytes.now c.args.words.now (omega arith) (omega arith)
 
 pub returns-clause-table : goal.returns-clause-table
 returns-clause-table c =

@@ -10,8 +10,8 @@ use Rattle.machine.specs.Calls.{Outcome, offer_of}
 use Rattle.grammar.specs.Lookup.{symbol_named}
 use Rattle.tokens.proofs.Numbering.{lookup_below}
 use Rattle.printing.specs.Watch.{Watch, offered, offered_name}
-use Rattle.printing.specs.Turns.{offering}
-use Rattle.report.specs.Lent.{watched}
+use Rattle.printing.specs.Turns.{offering, watch_in}
+use Rattle.report.specs.Lent.{walk_in}
 use Rattle.lines.proofs.Writing.{room_left, writes_then, writes_as}
 use Rattle.report.proofs.Walking.{first_part, line_bytes, line_area, turn_is}
 use Rattle.report.proofs.Offered.{named_short, made_slot, made_small, line_unknown, line_offered}
@@ -53,7 +53,7 @@ put_told-requires c = (
 pub returns-in-None-clause-turn : goal.returns-in-None-clause-turn
 unfolding offering offered_name offered
 returns-in-None-clause-turn c =
-    let w = watched c.args.self c.args.rules.now c.args.areas.now in
+    let w = watch_in (walk_in c.args.self) c.args.image.now c.args.table.now c.args.names.now c.args.bytes.now c.args.words.now in
     let unknown = sym c.symbol.ensures ∙ c.in-None.is in
     let line = writes_as (line_unknown w c.args.x.now unknown)
     (writes_then c.put.ensures (writes_then c.put_byte.ensures (rw c.number.ensures at c.put_refused.ensures))) in
@@ -73,7 +73,7 @@ returns-in-None-clause-fits c =
 
 pub returns-in-Some-clause-fits : goal.returns-in-Some-clause-fits
 returns-in-Some-clause-fits c =
-    let names = c.args.rules.now.names in
+    let names = c.args.names.now in
     let a = numbered c.offer-called.result.answer in
     let o = outcome_from c.offer-called.result c.offer-called.new.bytes [] in
     let rest : List ℕ = answer_word names a ++ space ∷ (told names o a ++ newline ∷ []) in
@@ -89,10 +89,9 @@ pub returns-in-Some-clause-turn : goal.returns-in-Some-clause-turn
 unfolding offering offered_name offered
 returns-in-Some-clause-turn c =
     let self = c.args.self in
-    let rules = c.args.rules.now in
-    let w = watched self rules c.args.areas.now in
-    let image = first_part self.image 1284 rules.image (omega arith) in
-    let table = first_part self.table 16964 rules.table (omega arith) in
+    let w = watch_in (walk_in self) c.args.image.now c.args.table.now c.args.names.now c.args.bytes.now c.args.words.now in
+    let image = first_part self.image 1284 c.args.image.now (omega arith) in
+    let table = first_part self.table 16964 c.args.table.now (omega arith) in
     let known = sym c.symbol.ensures ∙ c.in-Some.is in
     let made = rw (c.min.ensures, c.min-in-Some.ensures, image, table) at c.offer-called.ensures in
     let line = writes_as (line_offered w c.args.x.now _ _ _ _ known made)
