@@ -6,7 +6,8 @@ use Rattle.machine.specs.Lent.{Passed}
 use Rattle.monitor.specs.Lent.{lent}
 use Rattle.layout.specs.Refusals.{refusal_number, refused_by}
 use Rattle.machine.proofs.Offering.{passed_sizes}
-use Rattle.machine.proofs.BatchChecks.{batch_lent_refused, batch_fuel_refused, batch_many_refused, batch_room_refused, batch-taken}
+use Rattle.machine.proofs.BatchChecks.{batch_lent_refused, batch_fuel_refused, batch_many_refused, batch_room_refused}
+use Rattle.machine.proofs.BatchChecks.{batch-taken}
 use Rattle.monitor.proofs.Head.offers.Goals.{
   Start,
   then-events-gt-EVENTS_MOST-via-then-events-gt-EVENTS_MOST,
