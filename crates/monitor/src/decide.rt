@@ -118,8 +118,8 @@ impl Head {
         }
     }
 
-    // The offers of all events, up to the first that is refused. The answers' bytes are written by number: with a `zip` of
-    // `iter_mut` the proof does not close, since nothing is known of what is written through it.
+    // The offers of all events, up to the first that is refused. The answers' bytes are written by number: the library
+    // says nothing of what is written through a `zip` with `iter_mut`, as `write_matches` of trie found.
     pub(crate) fn in_turn(
         self,
         rules: Rules<'_>,

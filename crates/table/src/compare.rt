@@ -49,8 +49,7 @@ impl Parts<'_> {
         n
     }
 
-    // How many words of the root's row lead away from it. With one loop for this and `differences`, over slices, a check takes
-    // 3 to 11 per cent longer.
+    // How many words of the root's row lead away from it.
     fn transitions(self) -> u16
         ensures { result ≡ leaving self.entry.rows.now self.entry.width self.entry.rooted.root }
     {
