@@ -9,6 +9,10 @@ use Rattle.layout.specs.Words.{text, transition, own_or}
 use Rattle.trie.specs.declared.Node.{Node}
 use Rattle.trie.specs.Nodes.{parent, symbol, children, matched, failure, tally, failure_by}
 
+-- in how many words the row of q differs from others
+abbrev pub unlike : List ℕ → ℕ → ℕ → (ℕ → ℕ) → ℕ
+unlike rows symbols q other = tally (λ a. not (eqb (transition rows symbols q a) (other a))) symbols
+
 -- in how many words the rows of q and f differ
 unfoldable pub differing : List ℕ → ℕ → ℕ → ℕ → ℕ
 differing rows symbols q f = tally (λ a. not (eqb (transition rows symbols q a) (transition rows symbols f a))) symbols

@@ -1,7 +1,7 @@
 // The check of a lent table, in place: each state against its parent, its failure state and its node of the trie. It
 // holds exactly where the table is the one that compile writes (specs/Consistent.antt has the tests).
 // The module is private: what its functions ask, check has shown.
-ghost use Rattle.std.specs.Prelude.{◌+◌, ◌*◌, ◌≤◌, ◌<◌, ◌≡◌, length, get_or};
+ghost use Rattle.std.specs.Prelude.{ℕ, ◌+◌, ◌*◌, ◌≤◌, ◌<◌, ◌≡◌, length, get_or};
 ghost use Rattle.layout.specs.ImageCheck.{Decides};
 ghost use Rattle.rewriting.specs.Lists.{prefix};
 ghost use Rattle.layout.specs.States.{states};
@@ -9,7 +9,7 @@ ghost use Rattle.layout.specs.Table.{table_of};
 ghost use Rattle.image.specs.Sets.{set_of};
 ghost use Rattle.trie.specs.Nodes.{parent, symbol, matched, failure, Built};
 ghost use Rattle.layout.specs.Words.{transition, own_or};
-ghost use Rattle.table.specs.Consistent.{differing, leaving, Passes, RootPassed, MarkPassed, RightTable};
+ghost use Rattle.table.specs.Consistent.{unlike, differing, leaving, Passes, RootPassed, MarkPassed, RightTable};
 
 use image::Rooted;
 use trie::{Node, failure_of};
@@ -31,37 +31,40 @@ struct Parts<'a> {
 }
 
 impl Parts<'_> {
-    // How many words of the rows of q and f differ. Where a row begins is worked out once, before the loop. The loop counts to
-    // the end, so that it compares many words at once. This and the next by index: over the items of the rows the check of a
-    // table takes up to a tenth longer, and with `filter` and `count` four times as long.
-    fn differences(self, q: usize, f: usize) -> u16
-        requires { (q < length self.matches.now) × (f < length self.matches.now) }
-        ensures { result ≡ differing self.entry.rows.now self.entry.width q f }
+    // How many words of the row of q differ from those that `word` gives. The loop counts to the end, so that it compares many
+    // words at once. By index: over the items of the rows the check of a table takes up to a tenth longer, and with `filter` and
+    // `count` four times as long.
+    fn unlike<F: Fn(usize) -> u16>(self, q: usize, word: F) -> u16
+        requires row { q < length self.matches.now }
+        requires asked { (a : ℕ) → a < self.width → F.pre word a }
+        ensures { (other : ℕ → ℕ) → ((a r : ℕ) → a < self.entry.width → F.post word a r → r ≡ other a)
+            → result ≡ unlike self.entry.rows.now self.entry.width q other }
     {
         let own = q * self.width;
-        let other = f * self.width;
         let mut n: u16 = 0;
         for a in 0..self.width {
-            if self.rows[own + a] != self.rows[other + a] {
+            if self.rows[own + a] != word(a) {
                 n += 1;
             }
         }
         n
     }
 
+    // How many words of the rows of q and f differ. Where a row begins is worked out once, before the loop.
+    fn differences(self, q: usize, f: usize) -> u16
+        requires { (q < length self.matches.now) × (f < length self.matches.now) }
+        ensures { result ≡ differing self.entry.rows.now self.entry.width q f }
+    {
+        let other = f * self.width;
+        self.unlike(q, |a| self.rows[other + a])
+    }
+
     // How many words of the root's row lead away from it.
     fn transitions(self) -> u16
         ensures { result ≡ leaving self.entry.rows.now self.entry.width self.entry.rooted.root }
     {
-        let first = self.rooted.root * self.width;
-        let own = self.rooted.root as u16;
-        let mut n: u16 = 0;
-        for a in 0..self.width {
-            if self.rows[first + a] != own {
-                n += 1;
-            }
-        }
-        n
+        let root = self.rooted.root as u16;
+        self.unlike(self.rooted.root, |_| root)
     }
 
     // The state that the parent of node q leads to by q's symbol.
