@@ -50,15 +50,15 @@ module _ {r : Numbers} {a b c : List (List ℕ)} {d : List ℕ} (h : Held r a b 
       in
       omega (arith, rules-number h.reading h.keeps.numbers, old_bodies h.reading h.sound)
 
-  first_room : r.place ≡ places.Between → r.rules < 64 → r.bodies < 1024
+  pub first_room : r.place ≡ places.Between → r.rules < 64 → r.bodies < 1024
   unfolding rule_at body symbols_of
   first_room e few = begun_room Between (place_at places.Between h.reading.place (place_told places.Between e)) refl few
 
-  marked_room : r.place ≡ places.Marked → r.rules < 64 → r.bodies < 1024
+  pub marked_room : r.place ≡ places.Marked → r.rules < 64 → r.bodies < 1024
   unfolding rule_at body symbols_of
   marked_room e few = begun_room Marked (place_at places.Marked h.reading.place (place_told places.Marked e)) refl few
 
-  left_room : r.place ≡ places.Left → r.side < 8 → r.bodies < 1024
+  pub left_room : r.place ≡ places.Left → r.side < 8 → r.bodies < 1024
   unfolding rule_at body symbols_of side_of
   left_room e few =
       let w = place_at places.Left h.reading.place (place_told places.Left e) in
@@ -77,7 +77,7 @@ module _ {r : Numbers} {a b c : List (List ℕ)} {d : List ℕ} (h : Held r a b 
         side_at h.reading h.keeps.numbers w.2,
       )
 
-  right_room : r.place ≡ places.Right → r.side < 8 → r.bodies < 1024
+  pub right_room : r.place ≡ places.Right → r.side < 8 → r.bodies < 1024
   unfolding rule_at body symbols_of side_of
   right_room e few =
       let w = place_at places.Right h.reading.place (place_told places.Right e) in

@@ -41,7 +41,7 @@ pub enum RightKind {
 }
 
 // What has been read. Some sound reading is kept so (`held`), and that bounds each number, so that no index is tested.
-#[derive(Drop)]
+#[derive(Clone, Copy)]
 pub struct Reader {
     pub place: Place,
     pub symbols: Names<SYMBOLS>,

@@ -28,7 +28,7 @@ slots_used x [] rest = refl
 slots_used x (y ∷ names) rest = rw (same-slot x y, slots_used x names rest)
 
 -- one more in the next slot
-slots_set : (n : ℕ) (names : List (List ℕ)) (x : List ℕ) → length names < n
+pub slots_set : (n : ℕ) (names : List (List ℕ)) (x : List ℕ) → length names < n
     → set (slots_of n names) (length names) (slot x) ≡ slots_of n (names ++ x ∷ [])
 unfolding slots_of
 slots_set n names x room =

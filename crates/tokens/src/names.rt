@@ -29,7 +29,7 @@ pub(crate) fn find(slots: &[[u8; SLOT_BYTES]], key: &[u8; SLOT_BYTES], last: usi
 }
 
 // At most N names, by the number of each: their slots, and how many there are.
-#[derive(Drop)]
+#[derive(Clone, Copy)]
 pub struct Names<const N: usize> {
     pub slots: [[u8; SLOT_BYTES]; N],
     pub count: usize,
