@@ -19,9 +19,9 @@ pub struct Table<'a> {
     pub words: &'a [u16],
     pub rows: usize,
     pub width: usize,
-    ghost right: { prefix (table_of (read image.bytes.now)) words.now ≡ true },
-    ghost rows_first: { rows ≡ rows_in words.now },
-    ghost row_width: { width ≡ width_in words.now },
+    pub ghost right: { prefix (table_of (read image.bytes.now)) words.now ≡ true },
+    pub ghost rows_first: { rows ≡ rows_in words.now },
+    pub ghost row_width: { width ≡ width_in words.now },
 }
 
 // The same with the place where each rule's right symbols begin, so that a step need not go through the rules before its own.
@@ -29,7 +29,7 @@ pub struct Table<'a> {
 pub struct Rules<'a> {
     pub table: Table<'a>,
     pub starts: &'a [u16],
-    ghost indexed: { Starts table.image.bytes.now starts.now },
+    pub ghost indexed: { Starts table.image.bytes.now starts.now },
 }
 
 // The next state of q on symbol a, in words in which rows of so many words each begin at `rows`. This look and the next ask

@@ -16,7 +16,7 @@ use layout::RightSide;
 #[derive(Clone, Copy)]
 pub struct Image<'a> {
     pub bytes: &'a [u8],
-    ghost valid: { valid bytes.now ≡ true },
+    pub ghost valid: { valid bytes.now ≡ true },
 }
 
 // A rule image, and the number of the empty string's state.
@@ -24,7 +24,7 @@ pub struct Image<'a> {
 pub struct Rooted<'a> {
     pub image: Image<'a>,
     pub root: usize,
-    ghost rooted: { root ≡ Words.root (read image.bytes.now).rules },
+    pub ghost rooted: { root ≡ Words.root (read image.bytes.now).rules },
 }
 
 #[tactic(auto, using(crate::proofs::Places::places))]

@@ -60,7 +60,7 @@ pub struct Reader {
     pub side: u8,
     pub kind: RightKind,
     pub marked: bool,
-    ghost held: { ∥ Held
+    pub ghost held: { ∥ Held
         (record {
           place = place;
           symbols = symbols.count;

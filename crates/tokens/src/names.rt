@@ -33,7 +33,7 @@ pub(crate) fn find(slots: &[[u8; SLOT_BYTES]], key: &[u8; SLOT_BYTES], last: usi
 pub struct Names<const N: usize> {
     pub slots: [[u8; SLOT_BYTES]; N],
     pub count: usize,
-    ghost inside: { count ≤ N },
+    pub ghost inside: { count ≤ N },
 }
 
 impl<const N: usize> Names<N> {
