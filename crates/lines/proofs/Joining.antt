@@ -15,7 +15,8 @@ use Rattle.machine.specs.Areas.{state_of}
 use Rattle.machine.specs.Calls.{Outcome}
 use Rattle.machine.specs.Play.{string_of}
 use Rattle.printing.specs.Lines.{space, comma, dash, decimal, name_in, joined, counted}
-use Rattle.lines.specs.Wrote.{Written, Writes, Small}
+use Rattle.lines.specs.declared.Line.{Line}
+use Rattle.lines.specs.Wrote.{written_in, Writes, Small}
 use Rattle.printing.proofs.Decimals.{decimal-length}
 use Rattle.printing.proofs.SlotNames.{name-length}
 use Rattle.lines.proofs.Writing.{room_left, writes_nothing, writes_then, writes_as}
@@ -40,21 +41,21 @@ commas_append names (a ∷ s) q =
     (ap (λ (l : List ℕ). named names a ++ l) (commas_append names s q))
 
 -- The names of the first i symbols are written.
-abbrev pub Naming : List ℕ → List ℕ → Written → Written → ℕ → Type 0
+abbrev pub Naming : {N : ℕ} → List ℕ → List ℕ → Line N → Line N → ℕ → Type 0
 Naming names symbols l₀ l i = Writes (with_commas names (take i symbols)) l₀ l
 
-pub naming_first : (names symbols : List ℕ) (l : Written) → Naming names symbols l l 0
+pub naming_first : {N : ℕ} (names symbols : List ℕ) (l : Line N) → Naming names symbols l l 0
 unfolding flat_map
 naming_first names symbols l = writes_nothing l
 
 pub naming_room :
-    (names symbols : List ℕ) {l₀ l : Written} {i : ℕ} → Naming names symbols l₀ l i → i < length symbols
-    → 25 * length symbols ≤ length l₀.behind → 25 ≤ length l.behind
+    {N : ℕ} (names symbols : List ℕ) {l₀ l : Line N} {i : ℕ} → Naming names symbols l₀ l i → i < length symbols
+    → 25 * length symbols ≤ length (written_in l₀).behind → 25 ≤ length (written_in l).behind
 naming_room names symbols {i = i} n h room =
     omega (arith, room_left n, commas_length names (take i symbols), length-take-le i symbols (omega arith))
 
 pub naming_next :
-    (names symbols : List ℕ) {l₀ l l' l'' : Written} {i : ℕ} → Naming names symbols l₀ l i → i < length symbols
+    {N : ℕ} (names symbols : List ℕ) {l₀ l l' l'' : Line N} {i : ℕ} → Naming names symbols l₀ l i → i < length symbols
     → Writes (comma ∷ []) l l' → Writes (name_in names (get_or symbols i 0)) l' l''
     → Naming names symbols l₀ l'' (suc i)
 naming_next names symbols {i = i} n h f g =

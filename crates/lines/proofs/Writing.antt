@@ -13,38 +13,53 @@ use borrow.Rule.Slice.PartMut.{put_mid, post_of}
 use Rattle.rewriting.specs.Lists.{over}
 use Rattle.printing.specs.Turns.{line_most}
 use Rattle.lines.specs.declared.TheConstants.{LINE_BYTES}
-use Rattle.lines.specs.Wrote.{Written, Writes}
+use Rattle.lines.specs.declared.Line.{Line}
+use Rattle.lines.specs.Wrote.{Written, written_in, with, Writes}
 
 -- an area of so many bytes has room for the longest line, and for no more
 pub line_fits : LINE_BYTES ≡ line_most
 line_fits = refl
 
 -- the room that a part leaves
-pub room_left : {x : List ℕ} {l l' : Written} → Writes x l l' → length l'.behind + length x ≡ length l.behind
-room_left {x} {l} {l'} w = rw w.line (omega (arith, length-drop (length x) l.behind, w.room))
+pub room_left :
+    {N : ℕ} {x : List ℕ} {l l' : Line N} → Writes x l l'
+    → length (written_in l').behind + length x ≡ length (written_in l).behind
+room_left {x = x} {l = l} w =
+    omega (
+      arith,
+      ap (λ (l : Written). length l.behind) w.line,
+      length-drop (length x) (written_in l).behind,
+      w.room,
+    )
 
 -- nothing is written
-pub writes_nothing : (l : Written) → Writes [] l l
-writes_nothing l = record { line = rw (append-nil l.bytes) refl; room = omega arith }
+pub writes_nothing : {N : ℕ} (l : Line N) → Writes [] l l
+writes_nothing l = record { line = rw (append-nil (written_in l).bytes) refl; room = omega arith; same = refl }
 
 -- one part and then another
-pub writes_then : {x y : List ℕ} {l l' l'' : Written} → Writes x l l' → Writes y l' l'' → Writes (x ++ y) l l''
-writes_then {x} {y} {l} {l'} {l''} f g =
+pub writes_then :
+    {N : ℕ} {x y : List ℕ} {l l' l'' : Line N} → Writes x l l' → Writes y l' l'' → Writes (x ++ y) l l''
+writes_then {x = x} {y = y} {l = l} f g =
+    let bytes : List ℕ = (written_in l).bytes in
+    let behind : List ℕ = (written_in l).behind in
     record {
-      line = g.line ∙ rw (f.line, append_assoc l.bytes x y, drop-drop (length y) (length x) l.behind, length-append x y) refl;
+      line =
+          g.line ∙ ap (with y) f.line
+          ∙ rw (append_assoc bytes x y, drop-drop (length y) (length x) behind, length-append x y) refl;
       room = omega (arith, length-append x y, room_left f, g.room);
+      same = g.same ∙ f.same;
     }
 
 -- the same part by another name
-pub writes_as : {x y : List ℕ} {l l' : Written} → x ≡ y → Writes x l l' → Writes y l l'
+pub writes_as : {N : ℕ} {x y : List ℕ} {l l' : Line N} → x ≡ y → Writes x l l' → Writes y l l'
 writes_as e f = rw (← e) f
 
 -- x is written over what is behind the line, in the part of the area from the line's end on
 pub writes_behind :
     (x a y : List ℕ) (n d : ℕ) → n ≤ length a → length x ≤ length (drop n a) → d ≡ length x
     → y ≡ over x (take (length a - n) (drop n a))
-    → Writes x (record { bytes = take n a; behind = drop n a })
-    (record { bytes = take (n + d) (put_mid n (length a - n) a y); behind = drop (n + d) (put_mid n (length a - n) a y) })
+    → record { bytes = take (n + d) (put_mid n (length a - n) a y); behind = drop (n + d) (put_mid n (length a - n) a y) }
+    ≡ with x (record { bytes = take n a; behind = drop n a })
 unfolding over
 writes_behind x a y n d inside room digits written =
     let rest : List ℕ = drop (length x) (drop n a) in
@@ -59,10 +74,7 @@ writes_behind x a y n d inside room digits written =
     let last : drop (n + d) (take n a ++ (x ++ rest)) ≡ rest =
     ap (λ k. drop (k + d) (take n a ++ (x ++ rest))) (sym size) ∙ drop-append-add (take n a) (x ++ rest) d
     ∙ ap (λ k. drop k (x ++ rest)) digits ∙ drop-append_seam x rest in
-    record {
-      line = ap₂ (λ p q. record { bytes = p; behind = q }) (ap (take (n + d)) is ∙ first) (ap (drop (n + d)) is ∙ last);
-      room = room;
-    }
+    ap₂ (λ p q. record { bytes = p; behind = q }) (ap (take (n + d)) is ∙ first) (ap (drop (n + d)) is ∙ last)
 
 -- digits written one behind the other
 pub over_byte :

@@ -1,15 +1,20 @@
 -- How the functions that write a line speak of it, and what they ask of an outcome.
-use Rattle.std.specs.Prelude.{ℕ, ◌+◌, ◌≤◌, ◌<◌, ◌≡◌, true, List, [], ◌++◌, length, drop}
+use Rattle.std.specs.Prelude.{ℕ, ◌+◌, ◌≤◌, ◌<◌, ◌≡◌, true, List, [], ◌++◌, length, take, drop}
 use Rattle.rewriting.specs.Lists.{below}
 use Rattle.machine.specs.declared.Answer.{Answer}
 use Rattle.machine.specs.Calls.{Outcome}
 use Rattle.machine.specs.Play.{string_of}
 use Rattle.machine.specs.Areas.{document_capacity}
+use Rattle.lines.specs.declared.Line.{Line}
 
 -- a line that is being written: its bytes so far, and the rest of its area, as it was
 pub record Written : Type 0 where
   pub bytes : List ℕ
   pub behind : List ℕ
+
+-- what clauses see of a line
+abbrev pub written_in : {N : ℕ} → Line N → Written
+written_in l = record { bytes = take l.written l.area.now; behind = drop l.written l.area.now }
 
 -- the area: the bytes that are written, and those behind them
 abbrev pub area : Written → List ℕ
@@ -23,10 +28,11 @@ empty l = record { bytes = []; behind = l }
 abbrev pub with : List ℕ → Written → Written
 with x l = record { bytes = l.bytes ++ x; behind = drop (length x) l.behind }
 
--- that, and there was room for it
-pub record Writes (x : List ℕ) (old new : Written) : Type 0 where
-  pub line : new ≡ with x old
-  pub room : length x ≤ length old.behind
+-- that, and there was room for it; and the area is the one that was lent
+pub record Writes {N : ℕ} (x : List ℕ) (old new : Line N) : Type 0 where
+  pub line : written_in new ≡ with x (written_in old)
+  pub room : length x ≤ length (written_in old).behind
+  pub same : new.area.ghost_name ≡ old.area.ghost_name
 
 -- a verdict has a slot
 abbrev pub HasSlot : Answer → Type 0

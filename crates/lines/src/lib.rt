@@ -12,7 +12,6 @@ ghost use Rattle.monitor.specs.Lent.{outcome_from};
 ghost use Rattle.printing.specs.Lines.{space, comma, newline, refused_word, decimal, name_in, joined};
 ghost use Rattle.printing.specs.Lines.{answer_word, counted, told, refused_line};
 ghost use Rattle.printing.specs.Turns.{line_most};
-ghost use Rattle.lines.specs.Wrote.{area, empty, Writes, HasSlot, Small};
 ghost use Rattle.grammar.specs.Names.{slot_size};
 ghost use Rattle.machine.specs.declared.Answer.{Answer};
 ghost use Rattle.machine.specs.Areas.{document_capacity};
@@ -21,7 +20,6 @@ use grammar::{NAMES_BYTES, SLOT_BYTES};
 use layout::Refusal;
 use machine::{Answer, CAPACITY};
 use monitor::Returned;
-use std::marker::Model;
 
 // The most bytes that a line has: `line_most`, printing/specs/Turns.antt.
 pub const LINE_BYTES: usize = 51261;
@@ -32,18 +30,8 @@ pub const LINE_BYTES: usize = 51261;
 pub struct Line<'a, const N: usize> {
     area: &'a mut [u8],
     written: usize,
-}
-
-// Clauses see the bytes that are written, and those of the area behind them.
-impl<'a, const N: usize> Model for Line<'a, N> {
-    ghost use Rattle.std.specs.Prelude.{◌≤◌, length, take, drop};
-    ghost use Rattle.lines.specs.Wrote.{Written};
-
-    ghost Value = { Written };
-
-    ghost view = { λ l. record { bytes = take l.written l.area.now; behind = drop l.written l.area.now } };
-
-    ghost invariant = { λ l. (l.written ≤ length l.area.now) × (N ≤ length l.area.now) };
+    ghost inside: { written ≤ length area.now },
+    ghost room: { N ≤ length area.now },
 }
 
 // Writes a number in base ten at the beginning of what is lent, and says how many digits that are. It calls itself for the digits
@@ -63,39 +51,44 @@ fn write_decimal(line: &mut [u8], n: u64) -> usize
 }
 
 impl<'a, const N: usize> Line<'a, N> {
+    ghost use Rattle.lines.specs.Wrote.{written_in, area, empty, Writes, HasSlot, Small};
+
     // A line that is written into this area.
     pub fn new(area: &'a mut [u8]) -> Self
         requires { N ≤ length area.old }
-        ensures { result ≡ empty area.old }
+        ensures line { written_in result ≡ empty area.old }
+        ensures same { result.area.ghost_name ≡ area.entry.ghost_name }
     {
         Line { area, written: 0 }
     }
 
     // What is written.
     pub fn bytes(&self) -> &[u8]
-        ensures { result.now ≡ self.now.bytes }
+        ensures { result.now ≡ (written_in self.now).bytes }
     {
         &self.area[..self.written]
     }
 
     // The area, which begins with what is written.
     pub fn into_area(self) -> &'a mut [u8]
-        ensures { result.now ≡ area self.entry }
+        ensures area { result.now ≡ area (written_in self.entry) }
+        ensures same { result.ghost_name ≡ self.entry.area.ghost_name }
     {
         self.area
     }
 
     // The line begins anew.
     pub fn clear(&mut self)
-        ensures line { self.new ≡ empty (area self.old) }
-        ensures room { N ≤ length self.new.behind }
+        ensures line { written_in self.new ≡ empty (area (written_in self.old)) }
+        ensures room { N ≤ length (written_in self.new).behind }
+        ensures same { self.new.area.ghost_name ≡ self.old.area.ghost_name }
     {
         self.written = 0;
     }
 
     // One byte.
     pub fn put_byte(&mut self, b: u8)
-        requires { 1 ≤ length self.old.behind }
+        requires { 1 ≤ length (written_in self.old).behind }
         ensures { Writes (b ∷ []) self.old self.new }
     {
         self.put(&[b]);
@@ -103,7 +96,7 @@ impl<'a, const N: usize> Line<'a, N> {
 
     // Several bytes.
     pub fn put(&mut self, x: &[u8])
-        requires { length x.now ≤ length self.old.behind }
+        requires { length x.now ≤ length (written_in self.old).behind }
         ensures { Writes x.now self.old self.new }
     {
         let end = self.written + x.len();
@@ -113,7 +106,7 @@ impl<'a, const N: usize> Line<'a, N> {
 
     // A number in base ten.
     fn put_decimal(&mut self, n: u64)
-        requires { length (decimal n) ≤ length self.old.behind }
+        requires { length (decimal n) ≤ length (written_in self.old).behind }
         ensures { Writes (decimal n) self.old self.new }
     {
         let digits = write_decimal(&mut self.area[self.written..], n);
@@ -123,7 +116,7 @@ impl<'a, const N: usize> Line<'a, N> {
     // The name in a slot.
     fn put_name(&mut self, names: &[u8; NAMES_BYTES], slot: usize)
         requires slot { slot < 48 }
-        requires room { 24 ≤ length self.old.behind }
+        requires room { 24 ≤ length (written_in self.old).behind }
         ensures { Writes (name_in names.now slot) self.old self.new }
     {
         let start = SLOT_BYTES * slot + 1;
@@ -134,7 +127,7 @@ impl<'a, const N: usize> Line<'a, N> {
     // The word for an answer.
     fn put_answer(&mut self, names: &[u8; NAMES_BYTES], answer: Answer)
         requires slot { HasSlot answer }
-        requires room { slot_size ≤ length self.old.behind }
+        requires room { slot_size ≤ length (written_in self.old).behind }
         ensures { Writes (answer_word names.now (Ok answer)) self.old self.new }
     {
         match answer {
@@ -151,7 +144,7 @@ impl<'a, const N: usize> Line<'a, N> {
     // The names of symbols, a comma before each.
     fn put_symbols(&mut self, names: &[u8; NAMES_BYTES], symbols: &[u8])
         requires slots { below 48 symbols.now ≡ true }
-        requires room { slot_size * length symbols.now ≤ length self.old.behind }
+        requires room { slot_size * length symbols.now ≤ length (written_in self.old).behind }
         ensures { Writes (flat_map (λ b. comma ∷ name_in names.now b) symbols.now) self.old self.new }
     {
         for &symbol in symbols {
@@ -163,8 +156,8 @@ impl<'a, const N: usize> Line<'a, N> {
     // The names of the string whose first symbols are settled and whose last ones wait, joined by commas; or `-`.
     fn put_string(&mut self, names: &[u8; NAMES_BYTES], settled: &[u8], waiting: &[u8])
         requires slots { below 48 (settled.now ++ waiting.now) ≡ true }
-        requires some { 1 ≤ length self.old.behind }
-        requires room { slot_size * length settled.now + slot_size * length waiting.now ≤ length self.old.behind }
+        requires some { 1 ≤ length (written_in self.old).behind }
+        requires room { slot_size * length settled.now + slot_size * length waiting.now ≤ length (written_in self.old).behind }
         ensures { Writes (joined names.now (settled.now ++ waiting.now)) self.old self.new }
     {
         if let Some((&first, others)) = settled.split_first() {
@@ -182,7 +175,7 @@ impl<'a, const N: usize> Line<'a, N> {
     // The number of steps and of rewrites.
     fn put_counts(&mut self, steps: u64, rewrites: u64)
         requires few { (steps ≤ 1000) × (rewrites ≤ 1000) }
-        requires room { 9 ≤ length self.old.behind }
+        requires room { 9 ≤ length (written_in self.old).behind }
         ensures { Writes (decimal steps ++ space ∷ decimal rewrites) self.old self.new }
     {
         self.put_decimal(steps);
@@ -193,7 +186,7 @@ impl<'a, const N: usize> Line<'a, N> {
     // The counts, the string and the line's end.
     fn put_counted(&mut self, names: &[u8; NAMES_BYTES], called: Returned, bytes: &[u8; CAPACITY])
         requires small { Small (outcome_from called bytes.now []) }
-        requires room { 10 + document_capacity * slot_size ≤ length self.old.behind }
+        requires room { 10 + document_capacity * slot_size ≤ length (written_in self.old).behind }
         ensures { Writes (counted names.now (outcome_from called bytes.now []) ++ newline ∷ []) self.old self.new }
     {
         self.put_counts(called.counts.steps, called.counts.rewrites);
@@ -206,7 +199,7 @@ impl<'a, const N: usize> Line<'a, N> {
 
     // What is told of a call that is refused: the number. It may be any number: a `Refusal` here would ask more of callers.
     pub fn put_refused(&mut self, n: u32)
-        requires room { 40 ≤ length self.old.behind }
+        requires room { 40 ≤ length (written_in self.old).behind }
         ensures { Writes (refused_word ++ space ∷ (decimal n ++ newline ∷ [])) self.old self.new }
     {
         self.put(b"refused ");
@@ -218,7 +211,7 @@ impl<'a, const N: usize> Line<'a, N> {
     pub fn put_told(&mut self, names: &[u8; NAMES_BYTES], called: Returned, bytes: &[u8; CAPACITY])
         requires slot { (answer : Answer) → called.answer ≡ Ok answer → HasSlot answer }
         requires small { refused_by (numbered called.answer) ≡ None → Small (outcome_from called bytes.now []) }
-        requires room { line_most ≤ slot_size + length self.old.behind }
+        requires room { line_most ≤ slot_size + length (written_in self.old).behind }
         ensures { Writes (answer_word names.now (numbered called.answer)
             ++ space ∷ (told names.now (outcome_from called bytes.now []) (numbered called.answer) ++ newline ∷ []))
             self.old self.new }
@@ -235,7 +228,7 @@ impl<'a, const N: usize> Line<'a, N> {
 
     // The line for a rule text that is refused: any number and any place, where a `TextError` would ask more of callers.
     pub fn put_rules_refused(&mut self, n: u32, place: usize)
-        requires { 80 ≤ length self.old.behind }
+        requires { 80 ≤ length (written_in self.old).behind }
         ensures { Writes (refused_line n place) self.old self.new }
     {
         self.put(b"rules refused ");

@@ -1,8 +1,10 @@
 -- `Line::put_symbols` meets its contract. The loop's invariant: the names of the symbols before this one are written.
+use mathlib.Core.Path.{ap}
 use native.Mathlib.Numerals.{add-one}
 use native.Mathlib.Omega.{arith}
-use Rattle.lines.proofs.Writing.{room_left}
-use Rattle.lines.proofs.Joining.{naming_first, naming_room, naming_next, symbol_below}
+use lib.Seq.{take_all}
+use Rattle.lines.proofs.Writing.{room_left, writes_as}
+use Rattle.lines.proofs.Joining.{with_commas, naming_first, naming_room, naming_next, symbol_below}
 use Rattle.lines.proofs.Line.put_symbols.Goals as goal
 
 pub loop-symbol-init : goal.loop-symbol-init
@@ -30,3 +32,8 @@ loop-symbol-preserved g c =
     rw add-one
     (naming_next c.args.names.now c.args.symbols.now c.loop-symbol.invariant c.loop-symbol-test.true c.put_byte.ensures
     (rw c.from.ensures at c.put_name.ensures))
+
+pub returns : goal.returns
+returns g c =
+    let all = take_all c.loop-symbol.symbol-index c.args.symbols.now c.loop-symbol-test.false in
+    writes_as (ap (with_commas c.args.names.now) all) c.loop-symbol.invariant
