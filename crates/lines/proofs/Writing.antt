@@ -5,7 +5,7 @@ use mathlib.Core.Path.{◌≡◌, refl, sym, ap, ◌∙◌}
 use mathlib.Core.List.{List, [], ◌∷◌, ◌++◌, append_assoc, append-nil}
 use native.Mathlib.Numerals.{add-one}
 use native.Mathlib.Omega.{arith}
-use lib.ListN.{length, set, take, drop, length-append, length-drop, drop_of_length-le}
+use lib.ListN.{length, set, take, drop, length-append, length-drop, drop_of_length-le, take-append-drop}
 use lib.Seq.{drop-drop, take_all, length-take-le, take-append_seam, take-append-add, drop-append-add, set_split}
 use Rattle.std.proofs.Common.{ap₂}
 use Rattle.std.proofs.Math.Seq.{drop-append_seam}
@@ -14,11 +14,15 @@ use Rattle.rewriting.specs.Lists.{over}
 use Rattle.printing.specs.Turns.{line_most}
 use Rattle.lines.specs.declared.TheConstants.{LINE_BYTES}
 use Rattle.lines.specs.declared.Line.{Line}
-use Rattle.lines.specs.Wrote.{Written, written_in, with, Writes}
+use Rattle.lines.specs.Wrote.{Written, written_in, area, with, Writes}
 
 -- an area of so many bytes has room for the longest line, and for no more
 pub line_fits : LINE_BYTES ≡ line_most
 line_fits = refl
+
+-- the area is what is written and what is behind
+pub area_parts : {N : ℕ} (l : Line N) → area l ≡ (written_in l).bytes ++ (written_in l).behind
+area_parts l = sym (take-append-drop l.written l.area.now)
 
 -- the room that a part leaves
 pub room_left :

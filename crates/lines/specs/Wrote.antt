@@ -12,13 +12,17 @@ pub record Written : Type 0 where
   pub bytes : List ℕ
   pub behind : List ℕ
 
--- what clauses see of a line
+-- that, of a line as the code has it
 abbrev pub written_in : {N : ℕ} → Line N → Written
 written_in l = record { bytes = take l.written l.area.now; behind = drop l.written l.area.now }
 
 -- the area: the bytes that are written, and those behind them
-abbrev pub area : Written → List ℕ
-area l = l.bytes ++ l.behind
+abbrev pub area : {N : ℕ} → Line N → List ℕ
+area l = l.area.now
+
+-- both lines write into the same array: the reference that was lent is still there
+abbrev pub SameArea : {N : ℕ} → Line N → Line N → Type 0
+SameArea old new = new.area.ghost_name ≡ old.area.ghost_name
 
 -- nothing is written, whatever the area holds
 abbrev pub empty : List ℕ → Written
@@ -28,11 +32,11 @@ empty l = record { bytes = []; behind = l }
 abbrev pub with : List ℕ → Written → Written
 with x l = record { bytes = l.bytes ++ x; behind = drop (length x) l.behind }
 
--- that, and there was room for it; and the area is the one that was lent
+-- that, and there was room for it, and the area is still the one that was lent
 pub record Writes {N : ℕ} (x : List ℕ) (old new : Line N) : Type 0 where
   pub line : written_in new ≡ with x (written_in old)
   pub room : length x ≤ length (written_in old).behind
-  pub same : new.area.ghost_name ≡ old.area.ghost_name
+  pub same : SameArea old new
 
 -- a verdict has a slot
 abbrev pub HasSlot : Answer → Type 0

@@ -25,7 +25,9 @@ use monitor::Returned;
 pub const LINE_BYTES: usize = 51261;
 
 // The area that is lent to a line, of N places at least, and how many of its bytes are written. Methods that write ask for room
-// behind the line, whatever N is; `begin` and `next` in report take an N that has room for any line, and so ask nothing.
+// behind the line, whatever N is; `begin` and `next` in report take an N that has room for any line, and so ask nothing. Clauses
+// see the bytes that are written and those behind them (`written_in`), and that the area is still the one that was lent (`same`):
+// so whoever lent an array knows what it holds once the line is gone.
 #[derive(Drop)]
 pub struct Line<'a, const N: usize> {
     area: &'a mut [u8],
@@ -51,7 +53,7 @@ fn write_decimal(line: &mut [u8], n: u64) -> usize
 }
 
 impl<'a, const N: usize> Line<'a, N> {
-    ghost use Rattle.lines.specs.Wrote.{written_in, area, empty, Writes, HasSlot, Small};
+    ghost use Rattle.lines.specs.Wrote.{written_in, area, empty, SameArea, Writes, HasSlot, Small};
 
     // A line that is written into this area.
     pub fn new(area: &'a mut [u8]) -> Self
@@ -71,17 +73,18 @@ impl<'a, const N: usize> Line<'a, N> {
 
     // The area, which begins with what is written.
     pub fn into_area(self) -> &'a mut [u8]
-        ensures area { result.now ≡ area (written_in self.entry) }
+        ensures area { result.now ≡ area self.entry }
         ensures same { result.ghost_name ≡ self.entry.area.ghost_name }
     {
-        self.area
+        let Line { area, .. } = self;
+        area
     }
 
     // The line begins anew.
     pub fn clear(&mut self)
-        ensures line { written_in self.new ≡ empty (area (written_in self.old)) }
+        ensures line { written_in self.new ≡ empty (area self.old) }
         ensures room { N ≤ length (written_in self.new).behind }
-        ensures same { self.new.area.ghost_name ≡ self.old.area.ghost_name }
+        ensures same { SameArea self.old self.new }
     {
         self.written = 0;
     }

@@ -7,7 +7,7 @@ use mathlib.Core.Bool.{Bool, true, false}
 use mathlib.Core.List.{List, [], ◌∷◌}
 use native.Mathlib.Omega.{arith}
 use lib.Dec.{leb}
-use lib.ListN.{length, take}
+use lib.ListN.{length, take, drop, length-append}
 use lib.Seq.{take-append_seam}
 use borrow.Author.Tests.{leb-true, le-leb, lt-leb, eq-eqb}
 use Rattle.rewriting.specs.Lists.{over}
@@ -27,7 +27,7 @@ use Rattle.grammar.specs.Read.{answered}
 use Rattle.grammar.proofs.Sound.{read-valid, read_image_short}
 use Rattle.printing.specs.Lines.{refused_line, too_long_line}
 use Rattle.printing.specs.Watch.{rule_part, fresh_monitor, rule_text_read}
-use Rattle.printing.specs.Turns.{Begun, Message, Events, Areas, areas, begins_from, Inside, message, events_at}
+use Rattle.printing.specs.Turns.{line_most, Begun, Message, Events, Areas, areas, begins_from, Inside, message, events_at}
 use Rattle.printing.specs.Turns.{started, begin_read, begin_of}
 
 module _ (image table : List ℕ) (good : valid image ≡ true) (size : length table ≡ table_most) where
@@ -162,27 +162,30 @@ pub begin_good :
 unfolding begin_of begin_read
 begin_good input l s h e = rw (le-leb (length input) 20480 h, e)
 
--- a message is written, and nothing else
+-- a message is written, and nothing else; it is no longer than `line_most` where its area is not
 pub message-is :
     (input : List ℕ) (l : Areas) (m : List ℕ) (n : ℕ) (image names line : List ℕ) → begin_of input l ≡ message m l
     → image ≡ l.image → names ≡ l.names → n ≡ length m → line ≡ over m l.line
-    → begins_from (Message n) (areas image names l.table l.bytes l.words line) ≡ begin_of input l
-unfolding message
-message-is input l m n image names line e same_image same_names size written =
-    rw e
-    (λ i.
-    record {
-      answer = Message (size i);
-      areas =
-          record {
-            image = same_image i;
-            names = same_names i;
-            table = l.table;
-            bytes = l.bytes;
-            words = l.words;
-            line = written i;
-          };
-    })
+    → (begins_from (Message n) (areas image names l.table l.bytes l.words line) ≡ begin_of input l)
+    × (length line ≤ line_most → n ≤ line_most)
+unfolding message over
+message-is input l m n image names line e same_image same_names size written = (
+  rw e
+      (λ i.
+      record {
+        answer = Message (size i);
+        areas =
+            record {
+              image = same_image i;
+              names = same_names i;
+              table = l.table;
+              bytes = l.bytes;
+              words = l.words;
+              line = written i;
+            };
+      }),
+  λ most. omega (arith, size, most, ap length written, length-append m (drop (length m) l.line)),
+)
 
 -- all is ready for the first event
 pub ready_is :

@@ -24,13 +24,15 @@ use Rattle.std.proofs.Common.{Less, Equal, Greater}
 use Rattle.std.proofs.lemmas.List.Recursion.{is_position_or_len}
 use Rattle.printing.proofs.Split.{rule_part_le}
 use Rattle.machine.specs.Calls.{Outcome}
-use Rattle.lines.specs.Wrote.{Written, Writes, area, empty}
+use Rattle.lines.specs.declared.Line.{Line}
+use Rattle.lines.specs.Wrote.{Written, written_in, Writes, area, empty}
+use Rattle.lines.proofs.Writing.{area_parts}
 use Rattle.printing.specs.Ascii.{bytes}
 use Rattle.printing.specs.Lines.{space, newline, decimal, answer_word, told, event_line, refused_line}
 use Rattle.printing.proofs.Decimals.{decimal-length}
 use Rattle.printing.specs.Watch.{percent, rule_part, Watch, offered_name, line_for}
 use Rattle.printing.specs.Turns as Turns
-use Rattle.printing.specs.Turns.{Next, Events, nothing, offering, named, first_named, next_of, Turn, turn_of}
+use Rattle.printing.specs.Turns.{Next, Events, nothing, offering, named, first_named, next_of, Turn, turn_of, line_most}
 use Rattle.report.specs.declared.RuleAreas.{RuleAreas}
 use Rattle.report.specs.declared.Walk.{Walk}
 use Rattle.report.specs.Lent.{walk_in, begun_in, watched, turn_from}
@@ -141,13 +143,22 @@ module _ (input : List ℕ) (at : ℕ) (rest : List ℕ) (r : Range ℕ) (found 
       go (b ∷ x) z = refl
 
 -- A line that is written from its beginning.
-module _ {x : List ℕ} {l l' : Written} (begins : l.bytes ≡ []) (w : Writes x l l') where
-  pub line_bytes : l'.bytes ≡ x
-  line_bytes = rw (w.line, begins) refl
+module _ {N : ℕ} {x : List ℕ} {l l' : Line N} (begins : (written_in l).bytes ≡ []) (w : Writes x l l') where
+  pub line_bytes : (written_in l').bytes ≡ x
+  line_bytes = ap (λ (w : Written). w.bytes) w.line ∙ ap (λ (b : List ℕ). b ++ x) begins
 
   pub line_area : area l' ≡ over x (area l)
   unfolding over
-  line_area = rw (w.line, begins) refl
+  line_area =
+      let behind : List ℕ = (written_in l).behind in
+      let all : area l ≡ behind = area_parts l ∙ ap (λ (b : List ℕ). b ++ behind) begins in
+      area_parts l' ∙ ap (λ (w : Written). w.bytes ++ w.behind) w.line
+      ∙ ap (λ (b : List ℕ). (b ++ x) ++ drop (length x) behind) begins
+      ∙ ap (λ (a : List ℕ). x ++ drop (length x) a) (sym all)
+
+-- a line that begins anew lies in the area of the one before
+pub cleared_area : {N : ℕ} (line left : Line N) → written_in left ≡ empty (area line) → area left ≡ area line
+cleared_area line left cleared = area_parts left ∙ ap (λ (w : Written). w.bytes ++ w.behind) cleared
 
 -- how long the line for a rule text that is refused is
 pub refused-length : (n place : ℕ) → n < 10 ^ 10 → place < 10 ^ 20 → length (refused_line n place) ≤ 80
@@ -161,46 +172,60 @@ refused-length n place h g =
       decimal-length 19 place g,
     )
 
--- What the code gave back, by its parts: a line ..
+-- What the code gave back, by its parts: a line, which is no longer than `line_most` where its area is not ..
 pub turn_is :
-    (n : Next) (walk : Walk) (head : Head) (bytes words a : List ℕ) (line : Written) → line.bytes ≡ n.line
-    → area line ≡ over n.line a → lent head bytes words ≡ n.monitor
-    → (record {
+    {N : ℕ} (n : Next) (walk : Walk) (head : Head) (bytes words a : List ℕ) (line : Line N)
+    → (written_in line).bytes ≡ n.line → area line ≡ over n.line a → lent head bytes words ≡ n.monitor
+    → ((record {
       walk = walk_in (record { head = head; at = n.at; image = walk.image; table = walk.table });
-      length = length line.bytes;
+      length = length (written_in line).bytes;
       bytes = bytes;
       words = words;
       buffer = area line;
     })
-    ≡ turn_of (walk_in walk) n a
-unfolding turn_of
-turn_is n walk head bytes words a line is there monitor i =
-    record {
-      walk = record { head = (monitor i).head; at = n.at; image = walk.image; table = walk.table };
-      length = length (is i);
-      bytes = (monitor i).bytes;
-      words = (monitor i).words;
-      buffer = there i;
-    }
+    ≡ turn_of (walk_in walk) n a)
+    × (length (area line) ≤ line_most → length (written_in line).bytes ≤ line_most)
+unfolding turn_of over
+turn_is n walk head bytes words a line is there monitor = (
+  λ i.
+      record {
+        walk = record { head = (monitor i).head; at = n.at; image = walk.image; table = walk.table };
+        length = length (is i);
+        bytes = (monitor i).bytes;
+        words = (monitor i).words;
+        buffer = there i;
+      },
+  λ most. omega (arith, ap length is, most, ap length there, length-append n.line (drop (length n.line) a)),
+)
 
 -- .. or nothing, where no name is left
 pub turn_nothing :
-    (n : Next) (walk : Walk) (r : RuleAreas) (bytes words : List ℕ) (line left : Written)
-    → n ≡ nothing (watched walk r bytes words) walk.at → left ≡ empty (area line)
+    {N : ℕ} (n : Next) (walk : Walk) (r : RuleAreas) (bytes words : List ℕ) (line left : Line N)
+    → n ≡ nothing (watched walk r bytes words) walk.at → written_in left ≡ empty (area line)
     → turn_from walk None bytes words left ≡ turn_of (walk_in walk) n (area line)
 unfolding turn_of over nothing
-turn_nothing n walk r b ws line left e cleared = rw (e, cleared) refl
+turn_nothing n walk r b ws line left e cleared =
+    rw e
+    (λ i.
+    record {
+      walk = walk_in walk;
+      length = length (cleared i).bytes;
+      bytes = b;
+      words = ws;
+      buffer = cleared_area line left cleared i;
+    })
 
 -- the walk goes on where the name ends, and the line has a byte
 pub turn_place :
-    (w : Watch) (walk next : Walk) (end : ℕ) (x a bytes words : List ℕ) (line : Written)
+    {N : ℕ} (w : Watch) (walk next : Walk) (end : ℕ) (x a bytes words : List ℕ) (line : Line N)
     → turn_from walk (Some next) bytes words line ≡ turn_of (walk_in walk) (offering w end x) a → next.at ≡ end
 unfolding turn_of offering
 turn_place w walk next end x a b ws line e = ap (λ (t : Turn). t.walk.at) e
 
 pub turn_some :
-    (w : Watch) (walk next : Walk) (end : ℕ) (x a bytes words : List ℕ) (line : Written)
-    → turn_from walk (Some next) bytes words line ≡ turn_of (walk_in walk) (offering w end x) a → 0 < length line.bytes
+    {N : ℕ} (w : Watch) (walk next : Walk) (end : ℕ) (x a bytes words : List ℕ) (line : Line N)
+    → turn_from walk (Some next) bytes words line ≡ turn_of (walk_in walk) (offering w end x) a
+    → 0 < length (written_in line).bytes
 unfolding turn_of offering line_for event_line
 turn_some w walk next end x a b ws line e =
     let o : Outcome = offered_name w x in
@@ -209,7 +234,7 @@ turn_some w walk next end x a b ws line e =
 
 -- a walk that is begun
 pub begun_events :
-    (r : Option Walk) (w : Turns.Walk) (line : Written) → option_map walk_in r ≡ Some w → begun_in r line ≡ Events w
+    {N : ℕ} (r : Option Walk) (w : Turns.Walk) (line : Line N) → option_map walk_in r ≡ Some w → begun_in r line ≡ Events w
 begun_events None w line e = cc
 begun_events (Some walk) w line e = cc
 

@@ -8,7 +8,7 @@ ghost use Rattle.layout.specs.Table.{table_of};
 ghost use Rattle.printing.specs.Watch.{input_most, rule_part, fresh_monitor};
 ghost use Rattle.printing.specs.Turns.{line_most, offering, next_of, turn_of, watch_in};
 ghost use Rattle.printing.specs.Turns.{events_at, areas, begin_of, begins_from, Inside};
-ghost use Rattle.lines.specs.Wrote.{area};
+ghost use Rattle.lines.specs.Wrote.{written_in, area, SameArea};
 ghost use Rattle.report.specs.Lent.{walk_in, begun_in, watched, turn_from};
 
 use grammar::NAMES_BYTES;
@@ -108,6 +108,7 @@ pub fn begin(
         (areas image.new names.new table.new bytes.new words.new (area message.new))
         ≡ begin_of input.now (areas image.old names.old table.old bytes.old words.old (area message.old)) }
     ensures inside { Inside (begun_in result message.new) }
+    ensures same { SameArea message.old message.new }
 {
     message.clear();
     if INPUT_BYTES < input.len() {
@@ -145,12 +146,13 @@ impl Walk {
         line: &mut Line<'_, LINE_BYTES>,
     ) -> Walk
         requires short { length x.now ≤ input_most }
-        requires line { line.old.bytes ≡ [] }
-        requires room { line_most ≤ length line.old.behind }
+        requires line { (written_in line.old).bytes ≡ [] }
+        requires room { line_most ≤ length (written_in line.old).behind }
         ensures turn { turn_from self (Some result) bytes.new words.new line.new
             ≡ turn_of (walk_in self) (offering
             (watch_in (walk_in self) image.now table.now names.now bytes.old words.old) end x.now) (area line.old) }
-        ensures fits { length line.new.bytes ≤ line_most }
+        ensures fits { length (written_in line.new).bytes ≤ line_most }
+        ensures same { SameArea line.old line.new }
     {
         line.put(x);
         line.put_byte(b' ');
@@ -189,9 +191,10 @@ impl Walk {
     ) -> Option<Walk>
         ensures turn { turn_from self result bytes.new words.new line.new
             ≡ turn_of (walk_in self) (next_of (watched self rules.entry bytes.old words.old) input.now self.at) (area line.old) }
-        ensures fits { length line.new.bytes ≤ line_most }
-        ensures onward { MatchOption result (length line.new.bytes ≡ 0)
-            (λ next. (0 < length line.new.bytes) × ((self.at < next.at) × (next.at ≤ length input.now))) }
+        ensures fits { length (written_in line.new).bytes ≤ line_most }
+        ensures same { SameArea line.old line.new }
+        ensures onward { MatchOption result (length (written_in line.new).bytes ≡ 0)
+            (λ next. (0 < length (written_in line.new).bytes) × ((self.at < next.at) × (next.at ≤ length input.now))) }
     {
         line.clear();
         if INPUT_BYTES < input.len() {

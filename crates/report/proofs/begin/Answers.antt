@@ -8,12 +8,13 @@ use lib.Seq.{length-take-le}
 use Rattle.printing.specs.Ascii.{bytes}
 use Rattle.printing.specs.Lines.{refused_line, too_long_line}
 use Rattle.printing.specs.Watch.{rule_text_read}
-use Rattle.printing.specs.Turns.{areas}
+use Rattle.printing.specs.Turns.{Areas, areas, begins_from}
+use Rattle.report.specs.Lent.{begun_in}
 use Rattle.rewriting.specs.Lists.{over}
 use Rattle.lines.specs.Wrote.{Written, area}
 use Rattle.printing.proofs.Split.{rule_part_le, rule-text}
 use Rattle.printing.proofs.Starting.{GoodRead, read_bad, read_good, begin_long, begin_bad, begin_good, message-is, ready_is}
-use Rattle.report.proofs.Walking.{begun_events, refused-length, line_bytes, line_area}
+use Rattle.report.proofs.Walking.{begun_events, refused-length, line_bytes, line_area, cleared_area}
 use Rattle.report.proofs.begin.Goals as goal
 use Rattle.report.proofs.begin.Goals.{In-Ok}
 
@@ -24,9 +25,9 @@ returns-then-input-gt-INPUT_BYTES-clause-outcome c =
     areas c.args.image.now c.args.names.now c.args.table.now c.args.bytes.now c.args.words.now (area c.args.message.now)
     in
     let begins = ap (λ (w : Written). w.bytes) c.clear.ensures.line in
-    let there = ap area c.clear.ensures.line in
-    message-is _ l too_long_line _ _ _ _ (begin_long _ l c.if-input-gt-INPUT_BYTES.true) refl refl
-    (ap length (line_bytes begins c.put.ensures)) (line_area begins c.put.ensures ∙ ap (over too_long_line) there)
+    let there = cleared_area c.args.message.now c.clear.new.self c.clear.ensures.line in
+    (message-is _ l too_long_line _ _ _ _ (begin_long _ l c.if-input-gt-INPUT_BYTES.true) refl refl
+    (ap length (line_bytes begins c.put.ensures)) (line_area begins c.put.ensures ∙ ap (over too_long_line) there)).0
 
 pub slice_bounds-read_rules-end : goal.slice_bounds-read_rules-end
 slice_bounds-read_rules-end c =
@@ -56,16 +57,16 @@ returns-in-Err-clause-outcome c =
     areas c.args.image.now c.args.names.now c.args.table.now c.args.bytes.now c.args.words.now (area c.args.message.now)
     in
     let begins = ap (λ (w : Written). w.bytes) c.clear.ensures.line in
-    let there = ap area c.clear.ensures.line in
+    let there = cleared_area c.args.message.now c.clear.new.self c.clear.ensures.line in
     let text = rule-text _ _ c.rule_length-end.ensures in
     let bad = read_bad _ c.args.image.now c.args.names.now _ _ (omega arith) (omega arith) c.read_rules.ensures.answer
     c.in-Err.is in
     let line = rw c.number.ensures at c.put_rules_refused.ensures in
-    message-is _ l (refused_line _ _) _ _ _ _
+    (message-is _ l (refused_line _ _) _ _ _ _
     (begin_bad _ l _ _ c.if-input-gt-INPUT_BYTES.false (ap rule_text_read (sym text) ∙ bad.bad_text))
     (c.read_rules.ensures.image ∙ bad.image_stays) (c.read_rules.ensures.names ∙ bad.names_stay)
     (ap length (line_bytes begins line))
-    (line_area begins line ∙ ap (over (refused_line _ _)) there)
+    (line_area begins line ∙ ap (over (refused_line _ _)) there)).0
 
 pub returns-in-Err-clause-inside : goal.returns-in-Err-clause-inside
 returns-in-Err-clause-inside c =
@@ -87,4 +88,9 @@ returns-in-Ok-clause-outcome c =
     (begun_events _ _ c.clear.new.self made.answer)
     (image ∙ good.image_over) (c.read_rules.ensures.names ∙ good.names_over) made.table made.bytes
     made.words in
-    rw (ap area c.clear.ensures.line) p.0
+    let rules = c.read_rules.new in
+    let ready = c.make_ready.new in
+    let left : List ℕ → Areas = λ line. areas rules.image rules.names ready.table ready.bytes ready.words line in
+    ap (λ (line : List ℕ). begins_from (begun_in c.make_ready.result c.clear.new.self) (left line))
+    (cleared_area c.args.message.now c.clear.new.self c.clear.ensures.line)
+    ∙ p.0

@@ -57,7 +57,8 @@ returns-in-None-clause-turn c =
     let unknown = sym c.symbol.ensures ∙ c.in-None.is in
     let line = writes_as (line_unknown w c.args.x.now unknown)
     (writes_then c.put.ensures (writes_then c.put_byte.ensures (rw c.number.ensures at c.put_refused.ensures))) in
-    turn_is _ _ _ _ _ _ _ (line_bytes c.requires.line line) (line_area c.requires.line line) (rw unknown)
+    (turn_is _ _ _ _ _ _ c.put_refused.new.self (line_bytes c.requires.line line) (line_area c.requires.line line)
+    (rw unknown)).0
 
 -- the line's length is that of its parts
 pub returns-in-None-clause-fits : goal.returns-in-None-clause-fits
@@ -96,5 +97,5 @@ returns-in-Some-clause-turn c =
     let made = rw (c.min.ensures, c.min-in-Some.ensures, image, table) at c.offer-called.ensures in
     let line = writes_as (line_offered w c.args.x.now _ _ _ _ known made)
     (writes_then c.put.ensures (writes_then c.put_byte.ensures c.put_told.ensures)) in
-    turn_is _ _ _ _ _ _ _ (line_bytes c.requires.line line) (line_area c.requires.line line)
-    (left_by w c.args.x.now _ _ known (ap (λ (o : Outcome). o.monitor) made))
+    (turn_is _ _ _ _ _ _ c.put_told.new.self (line_bytes c.requires.line line) (line_area c.requires.line line)
+    (left_by w c.args.x.now _ _ known (ap (λ (o : Outcome). o.monitor) made))).0

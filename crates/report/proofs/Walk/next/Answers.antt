@@ -14,24 +14,25 @@ use Rattle.report.proofs.Walking.{
   next_end,
   next-none,
   next-some,
+  cleared_area,
   turn_nothing,
 }
 use Rattle.report.proofs.Walk.next.Goals as goal
 
 pub returns-then-input-gt-INPUT_BYTES-clause-turn : goal.returns-then-input-gt-INPUT_BYTES-clause-turn
 returns-then-input-gt-INPUT_BYTES-clause-turn c =
-    turn_nothing _ c.args.self c.args.rules c.args.bytes.now c.args.words.now c.args.line.now _
+    turn_nothing _ c.args.self c.args.rules c.args.bytes.now c.args.words.now c.args.line.now c.clear.new.self
     (next_long _ _ _ c.if-input-gt-INPUT_BYTES.true) c.clear.ensures.line
 
 pub returns-in_err-rest-clause-turn : goal.returns-in_err-rest-clause-turn
 returns-in_err-rest-clause-turn c =
     rw c.from_residual.ensures
-    (turn_nothing _ c.args.self c.args.rules c.args.bytes.now c.args.words.now c.args.line.now _
+    (turn_nothing _ c.args.self c.args.rules c.args.bytes.now c.args.words.now c.args.line.now c.clear.new.self
     (next_end _ _ _ (grind (arith, c.in_err-rest.ensures.lookup.0))) c.clear.ensures.line)
 
 pub returns-then-is_empty-clause-turn : goal.returns-then-is_empty-clause-turn
 returns-then-is_empty-clause-turn c =
-    turn_nothing _ c.args.self c.args.rules c.args.bytes.now c.args.words.now c.args.line.now _
+    turn_nothing _ c.args.self c.args.rules c.args.bytes.now c.args.words.now c.args.line.now c.clear.new.self
     (next-none c.args.input.now c.args.self.at _ _ c.first_run-run.ensures _
     (c.in_ok-rest.ensures.lookup.0.2 ∙ part_to_end c.args.input.now c.args.self.at) c.if-input-gt-INPUT_BYTES.false
     (no_byte _ _ (sym c.is_empty.ensures ∙ c.if-is_empty.true)))
@@ -57,7 +58,8 @@ returns-clause-turn c =
     (c.in_ok-rest.ensures.lookup.0.2 ∙ part_to_end input self.at) c.if-input-gt-INPUT_BYTES.false
     (some_byte _ _ (sym c.is_empty.ensures ∙ c.if-is_empty.false)) in
     let bytes = run-bytes input self.at _ _ c.first_run-run.ensures in
-    rw next (rw (bytes, c.clear.ensures.line) at c.named.ensures.turn)
+    let there = cleared_area c.args.line.now c.clear.new.self c.clear.ensures.line in
+    rw next (rw (bytes, there) at c.named.ensures.turn)
 
 pub returns-clause-onward : goal.returns-clause-onward
 returns-clause-onward c =
