@@ -152,7 +152,7 @@ impl Walk {
             ≡ turn_of (walk_in self) (offering
             (watch_in (walk_in self) image.now table.now names.now bytes.old words.old) end x.now) (area line.old) }
         ensures fits { length (written_in line.new).bytes ≤ line_most }
-        ensures same { SameArea line.old line.new }
+        ensures area { SameArea line.old line.new }
     {
         line.put(x);
         line.put_byte(b' ');
