@@ -16,10 +16,10 @@ use Rattle.machine.specs.Calls.{Outcome}
 use Rattle.machine.specs.Play.{string_of}
 use Rattle.printing.specs.Lines.{space, comma, dash, decimal, name_in, joined, counted}
 use Rattle.lines.specs.declared.Line.{Line}
-use Rattle.lines.specs.Wrote.{written_in, Writes, Small}
+use Rattle.lines.specs.Wrote.{Written, Writes, written_in, WritesIn, Small}
 use Rattle.printing.proofs.Decimals.{decimal-length}
 use Rattle.printing.proofs.SlotNames.{name-length}
-use Rattle.lines.proofs.Writing.{room_left, writes_nothing, writes_then, writes_as}
+use Rattle.lines.proofs.Writing.{room_left, writes_nothing, writes_then, writes_as, writes_in, as_written}
 
 abbrev pub named : List ℕ → ℕ → List ℕ
 named names b = comma ∷ name_in names b
@@ -41,27 +41,46 @@ commas_append names (a ∷ s) q =
     (ap (λ (l : List ℕ). named names a ++ l) (commas_append names s q))
 
 -- The names of the first i symbols are written.
-abbrev pub Naming : {N : ℕ} → List ℕ → List ℕ → Line N → Line N → ℕ → Type 0
+abbrev pub Naming : List ℕ → List ℕ → Written → Written → ℕ → Type 0
 Naming names symbols l₀ l i = Writes (with_commas names (take i symbols)) l₀ l
 
-pub naming_first : {N : ℕ} (names symbols : List ℕ) (l : Line N) → Naming names symbols l l 0
+pub naming_first : (names symbols : List ℕ) (l : Written) → Naming names symbols l l 0
 unfolding flat_map
 naming_first names symbols l = writes_nothing l
 
 pub naming_room :
-    {N : ℕ} (names symbols : List ℕ) {l₀ l : Line N} {i : ℕ} → Naming names symbols l₀ l i → i < length symbols
-    → 25 * length symbols ≤ length (written_in l₀).behind → 25 ≤ length (written_in l).behind
+    (names symbols : List ℕ) {l₀ l : Written} {i : ℕ} → Naming names symbols l₀ l i → i < length symbols
+    → 25 * length symbols ≤ length l₀.behind → 25 ≤ length l.behind
 naming_room names symbols {i = i} n h room =
     omega (arith, room_left n, commas_length names (take i symbols), length-take-le i symbols (omega arith))
 
 pub naming_next :
-    {N : ℕ} (names symbols : List ℕ) {l₀ l l' l'' : Line N} {i : ℕ} → Naming names symbols l₀ l i → i < length symbols
+    (names symbols : List ℕ) {l₀ l l' l'' : Written} {i : ℕ} → Naming names symbols l₀ l i → i < length symbols
     → Writes (comma ∷ []) l l' → Writes (name_in names (get_or symbols i 0)) l' l''
     → Naming names symbols l₀ l'' (suc i)
 naming_next names symbols {i = i} n h f g =
     writes_as
     (sym (ap (with_commas names) (take-suc symbols i 0 h) ∙ flat_map_snoc (named names) (take i symbols) (get_or symbols i 0)))
     (writes_then n (writes_then f g))
+
+-- the same of lines as the code has them
+abbrev pub NamingIn : {N : ℕ} → List ℕ → List ℕ → Line N → Line N → ℕ → Type 0
+NamingIn names symbols l₀ l i = WritesIn (with_commas names (take i symbols)) l₀ l
+
+pub naming_first_in : {N : ℕ} (names symbols : List ℕ) (l : Line N) → NamingIn names symbols l l 0
+naming_first_in names symbols l = writes_in (naming_first names symbols (written_in l)) refl
+
+pub naming_room_in :
+    {N : ℕ} (names symbols : List ℕ) {l₀ l : Line N} {i : ℕ} → NamingIn names symbols l₀ l i → i < length symbols
+    → 25 * length symbols ≤ length (written_in l₀).behind → 25 ≤ length (written_in l).behind
+naming_room_in names symbols n h room = naming_room names symbols (as_written n) h room
+
+pub naming_next_in :
+    {N : ℕ} (names symbols : List ℕ) {l₀ l l' l'' : Line N} {i : ℕ} → NamingIn names symbols l₀ l i → i < length symbols
+    → WritesIn (comma ∷ []) l l' → WritesIn (name_in names (get_or symbols i 0)) l' l''
+    → NamingIn names symbols l₀ l'' (suc i)
+naming_next_in names symbols n h f g =
+    writes_in (naming_next names symbols (as_written n) h (as_written f) (as_written g)) (g.same ∙ f.same ∙ n.same)
 
 -- a string in two parts: its first symbol is the first part's, or, where that is empty, the second one's; or there is none
 pub joined_left :

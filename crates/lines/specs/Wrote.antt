@@ -12,17 +12,9 @@ pub record Written : Type 0 where
   pub bytes : List ℕ
   pub behind : List ℕ
 
--- that, of a line as the code has it
-abbrev pub written_in : {N : ℕ} → Line N → Written
-written_in l = record { bytes = take l.written l.area.now; behind = drop l.written l.area.now }
-
 -- the area: the bytes that are written, and those behind them
-abbrev pub area : {N : ℕ} → Line N → List ℕ
-area l = l.area.now
-
--- both lines write into the same array: the reference that was lent is still there
-abbrev pub SameArea : {N : ℕ} → Line N → Line N → Type 0
-SameArea old new = new.area.ghost_name ≡ old.area.ghost_name
+abbrev pub area : Written → List ℕ
+area l = l.bytes ++ l.behind
 
 -- nothing is written, whatever the area holds
 abbrev pub empty : List ℕ → Written
@@ -32,8 +24,24 @@ empty l = record { bytes = []; behind = l }
 abbrev pub with : List ℕ → Written → Written
 with x l = record { bytes = l.bytes ++ x; behind = drop (length x) l.behind }
 
--- that, and there was room for it, and the area is still the one that was lent
-pub record Writes {N : ℕ} (x : List ℕ) (old new : Line N) : Type 0 where
+-- that, and there was room for it
+pub record Writes (x : List ℕ) (old new : Written) : Type 0 where
+  pub line : new ≡ with x old
+  pub room : length x ≤ length old.behind
+
+-- what is written in a line as the code has it, and its area
+abbrev pub written_in : {N : ℕ} → Line N → Written
+written_in l = record { bytes = take l.written l.area.now; behind = drop l.written l.area.now }
+
+abbrev pub area_in : {N : ℕ} → Line N → List ℕ
+area_in l = l.area.now
+
+-- both lines write into the same array: the reference that was lent is still there
+abbrev pub SameArea : {N : ℕ} → Line N → Line N → Type 0
+SameArea old new = new.area.ghost_name ≡ old.area.ghost_name
+
+-- `Writes` of such lines, and the area is still the one that was lent
+pub record WritesIn {N : ℕ} (x : List ℕ) (old new : Line N) : Type 0 where
   pub line : written_in new ≡ with x (written_in old)
   pub room : length x ≤ length (written_in old).behind
   pub same : SameArea old new

@@ -53,7 +53,7 @@ fn write_decimal(line: &mut [u8], n: u64) -> usize
 }
 
 impl<'a, const N: usize> Line<'a, N> {
-    ghost use Rattle.lines.specs.Wrote.{written_in, area, empty, SameArea, Writes, HasSlot, Small};
+    ghost use Rattle.lines.specs.Wrote.{written_in, area_in, empty, SameArea, WritesIn, HasSlot, Small};
 
     // A line that is written into this area.
     pub fn new(area: &'a mut [u8]) -> Self
@@ -73,7 +73,7 @@ impl<'a, const N: usize> Line<'a, N> {
 
     // The area, which begins with what is written.
     pub fn into_area(self) -> &'a mut [u8]
-        ensures area { result.now ≡ area self.entry }
+        ensures area { result.now ≡ area_in self.entry }
         ensures same { result.ghost_name ≡ self.entry.area.ghost_name }
     {
         let Line { area, .. } = self;
@@ -82,7 +82,7 @@ impl<'a, const N: usize> Line<'a, N> {
 
     // The line begins anew.
     pub fn clear(&mut self)
-        ensures line { written_in self.new ≡ empty (area self.old) }
+        ensures line { written_in self.new ≡ empty (area_in self.old) }
         ensures room { N ≤ length (written_in self.new).behind }
         ensures same { SameArea self.old self.new }
     {
@@ -92,7 +92,7 @@ impl<'a, const N: usize> Line<'a, N> {
     // One byte.
     pub fn put_byte(&mut self, b: u8)
         requires { 1 ≤ length (written_in self.old).behind }
-        ensures { Writes (b ∷ []) self.old self.new }
+        ensures { WritesIn (b ∷ []) self.old self.new }
     {
         self.put(&[b]);
     }
@@ -100,7 +100,7 @@ impl<'a, const N: usize> Line<'a, N> {
     // Several bytes.
     pub fn put(&mut self, x: &[u8])
         requires { length x.now ≤ length (written_in self.old).behind }
-        ensures { Writes x.now self.old self.new }
+        ensures { WritesIn x.now self.old self.new }
     {
         let end = self.written + x.len();
         self.area[self.written..end].copy_from_slice(x);
@@ -110,7 +110,7 @@ impl<'a, const N: usize> Line<'a, N> {
     // A number in base ten.
     fn put_decimal(&mut self, n: u64)
         requires { length (decimal n) ≤ length (written_in self.old).behind }
-        ensures { Writes (decimal n) self.old self.new }
+        ensures { WritesIn (decimal n) self.old self.new }
     {
         let digits = write_decimal(&mut self.area[self.written..], n);
         self.written += digits;
@@ -120,7 +120,7 @@ impl<'a, const N: usize> Line<'a, N> {
     fn put_name(&mut self, names: &[u8; NAMES_BYTES], slot: usize)
         requires slot { slot < 48 }
         requires room { 24 ≤ length (written_in self.old).behind }
-        ensures { Writes (name_in names.now slot) self.old self.new }
+        ensures { WritesIn (name_in names.now slot) self.old self.new }
     {
         let start = SLOT_BYTES * slot + 1;
         let size = usize::min(usize::from(names[SLOT_BYTES * slot]), 24);
@@ -131,7 +131,7 @@ impl<'a, const N: usize> Line<'a, N> {
     fn put_answer(&mut self, names: &[u8; NAMES_BYTES], answer: Answer)
         requires slot { HasSlot answer }
         requires room { slot_size ≤ length (written_in self.old).behind }
-        ensures { Writes (answer_word names.now (Ok answer)) self.old self.new }
+        ensures { WritesIn (answer_word names.now (Ok answer)) self.old self.new }
     {
         match answer {
             Answer::Quiet => self.put(b"quiet"),
@@ -148,7 +148,7 @@ impl<'a, const N: usize> Line<'a, N> {
     fn put_symbols(&mut self, names: &[u8; NAMES_BYTES], symbols: &[u8])
         requires slots { below 48 symbols.now ≡ true }
         requires room { slot_size * length symbols.now ≤ length (written_in self.old).behind }
-        ensures { Writes (flat_map (λ b. comma ∷ name_in names.now b) symbols.now) self.old self.new }
+        ensures { WritesIn (flat_map (λ b. comma ∷ name_in names.now b) symbols.now) self.old self.new }
     {
         for &symbol in symbols {
             self.put_byte(b',');
@@ -161,7 +161,7 @@ impl<'a, const N: usize> Line<'a, N> {
         requires slots { below 48 (settled.now ++ waiting.now) ≡ true }
         requires some { 1 ≤ length (written_in self.old).behind }
         requires room { slot_size * length settled.now + slot_size * length waiting.now ≤ length (written_in self.old).behind }
-        ensures { Writes (joined names.now (settled.now ++ waiting.now)) self.old self.new }
+        ensures { WritesIn (joined names.now (settled.now ++ waiting.now)) self.old self.new }
     {
         if let Some((&first, others)) = settled.split_first() {
             self.put_name(names, usize::from(first));
@@ -179,7 +179,7 @@ impl<'a, const N: usize> Line<'a, N> {
     fn put_counts(&mut self, steps: u64, rewrites: u64)
         requires few { (steps ≤ 1000) × (rewrites ≤ 1000) }
         requires room { 9 ≤ length (written_in self.old).behind }
-        ensures { Writes (decimal steps ++ space ∷ decimal rewrites) self.old self.new }
+        ensures { WritesIn (decimal steps ++ space ∷ decimal rewrites) self.old self.new }
     {
         self.put_decimal(steps);
         self.put_byte(b' ');
@@ -190,7 +190,7 @@ impl<'a, const N: usize> Line<'a, N> {
     fn put_counted(&mut self, names: &[u8; NAMES_BYTES], called: Returned, bytes: &[u8; CAPACITY])
         requires small { Small (outcome_from called bytes.now []) }
         requires room { 10 + document_capacity * slot_size ≤ length (written_in self.old).behind }
-        ensures { Writes (counted names.now (outcome_from called bytes.now []) ++ newline ∷ []) self.old self.new }
+        ensures { WritesIn (counted names.now (outcome_from called bytes.now []) ++ newline ∷ []) self.old self.new }
     {
         self.put_counts(called.counts.steps, called.counts.rewrites);
         self.put_byte(b' ');
@@ -203,7 +203,7 @@ impl<'a, const N: usize> Line<'a, N> {
     // What is told of a call that is refused: the number. It may be any number: a `Refusal` here would ask more of callers.
     pub fn put_refused(&mut self, n: u32)
         requires room { 40 ≤ length (written_in self.old).behind }
-        ensures { Writes (refused_word ++ space ∷ (decimal n ++ newline ∷ [])) self.old self.new }
+        ensures { WritesIn (refused_word ++ space ∷ (decimal n ++ newline ∷ [])) self.old self.new }
     {
         self.put(b"refused ");
         self.put_decimal(u64::from(n));
@@ -215,7 +215,7 @@ impl<'a, const N: usize> Line<'a, N> {
         requires slot { (answer : Answer) → called.answer ≡ Ok answer → HasSlot answer }
         requires small { refused_by (numbered called.answer) ≡ None → Small (outcome_from called bytes.now []) }
         requires room { line_most ≤ slot_size + length (written_in self.old).behind }
-        ensures { Writes (answer_word names.now (numbered called.answer)
+        ensures { WritesIn (answer_word names.now (numbered called.answer)
             ++ space ∷ (told names.now (outcome_from called bytes.now []) (numbered called.answer) ++ newline ∷ []))
             self.old self.new }
     {
@@ -232,7 +232,7 @@ impl<'a, const N: usize> Line<'a, N> {
     // The line for a rule text that is refused: any number and any place, where a `TextError` would ask more of callers.
     pub fn put_rules_refused(&mut self, n: u32, place: usize)
         requires { 80 ≤ length (written_in self.old).behind }
-        ensures { Writes (refused_line n place) self.old self.new }
+        ensures { WritesIn (refused_line n place) self.old self.new }
     {
         self.put(b"rules refused ");
         self.put_decimal(u64::from(n));

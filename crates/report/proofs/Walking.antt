@@ -25,8 +25,8 @@ use Rattle.std.proofs.lemmas.List.Recursion.{is_position_or_len}
 use Rattle.printing.proofs.Split.{rule_part_le}
 use Rattle.machine.specs.Calls.{Outcome}
 use Rattle.lines.specs.declared.Line.{Line}
-use Rattle.lines.specs.Wrote.{Written, written_in, Writes, area, empty}
-use Rattle.lines.proofs.Writing.{area_parts}
+use Rattle.lines.specs.Wrote.{Written, area, empty, Writes, written_in, area_in, WritesIn}
+use Rattle.lines.proofs.Writing.{area_parts, as_written}
 use Rattle.printing.specs.Ascii.{bytes}
 use Rattle.printing.specs.Lines.{space, newline, decimal, answer_word, told, event_line, refused_line}
 use Rattle.printing.proofs.Decimals.{decimal-length}
@@ -35,7 +35,7 @@ use Rattle.printing.specs.Turns as Turns
 use Rattle.printing.specs.Turns.{Next, Events, nothing, offering, named, first_named, next_of, Turn, turn_of, line_most}
 use Rattle.report.specs.declared.RuleAreas.{RuleAreas}
 use Rattle.report.specs.declared.Walk.{Walk}
-use Rattle.report.specs.Lent.{walk_in, begun_in, watched, turn_from}
+use Rattle.report.specs.Lent.{walk_in, begun_in, walk_behind, watched, turn_from, turn_in}
 
 -- the rule text ends where the first `%` is found
 rule_none : length (rule_part []) ≡ 0
@@ -143,22 +143,25 @@ module _ (input : List ℕ) (at : ℕ) (rest : List ℕ) (r : Range ℕ) (found 
       go (b ∷ x) z = refl
 
 -- A line that is written from its beginning.
-module _ {N : ℕ} {x : List ℕ} {l l' : Line N} (begins : (written_in l).bytes ≡ []) (w : Writes x l l') where
-  pub line_bytes : (written_in l').bytes ≡ x
-  line_bytes = ap (λ (w : Written). w.bytes) w.line ∙ ap (λ (b : List ℕ). b ++ x) begins
+module _ {x : List ℕ} {l l' : Written} (begins : l.bytes ≡ []) (w : Writes x l l') where
+  pub line_bytes : l'.bytes ≡ x
+  line_bytes = rw (w.line, begins) refl
 
   pub line_area : area l' ≡ over x (area l)
   unfolding over
-  line_area =
-      let behind : List ℕ = (written_in l).behind in
-      let all : area l ≡ behind = area_parts l ∙ ap (λ (b : List ℕ). b ++ behind) begins in
-      area_parts l' ∙ ap (λ (w : Written). w.bytes ++ w.behind) w.line
-      ∙ ap (λ (b : List ℕ). (b ++ x) ++ drop (length x) behind) begins
-      ∙ ap (λ (a : List ℕ). x ++ drop (length x) a) (sym all)
+  line_area = rw (w.line, begins) refl
+
+-- One as the code has it.
+module _ {N : ℕ} {x : List ℕ} {l l' : Line N} (begins : (written_in l).bytes ≡ []) (w : WritesIn x l l') where
+  pub line_bytes_in : (written_in l').bytes ≡ x
+  line_bytes_in = line_bytes begins (as_written w)
+
+  pub line_area_in : area_in l' ≡ over x (area_in l)
+  line_area_in = area_parts l' ∙ line_area begins (as_written w) ∙ ap (over x) (sym (area_parts l))
 
 -- a line that begins anew lies in the area of the one before
-pub cleared_area : {N : ℕ} (line left : Line N) → written_in left ≡ empty (area line) → area left ≡ area line
-cleared_area line left cleared = area_parts left ∙ ap (λ (w : Written). w.bytes ++ w.behind) cleared
+pub cleared_area : {N : ℕ} (line left : Line N) → written_in left ≡ empty (area_in line) → area_in left ≡ area_in line
+cleared_area line left cleared = area_parts left ∙ ap area cleared
 
 -- how long the line for a rule text that is refused is
 pub refused-length : (n place : ℕ) → n < 10 ^ 10 → place < 10 ^ 20 → length (refused_line n place) ≤ 80
@@ -174,17 +177,17 @@ refused-length n place h g =
 
 -- What the code gave back, by its parts: a line, which is no longer than `line_most` where its area is not ..
 pub turn_is :
-    {N : ℕ} (n : Next) (walk : Walk) (head : Head) (bytes words a : List ℕ) (line : Line N)
-    → (written_in line).bytes ≡ n.line → area line ≡ over n.line a → lent head bytes words ≡ n.monitor
+    (n : Next) (walk : Walk) (head : Head) (bytes words a : List ℕ) (line : Written) → line.bytes ≡ n.line
+    → area line ≡ over n.line a → lent head bytes words ≡ n.monitor
     → ((record {
       walk = walk_in (record { head = head; at = n.at; image = walk.image; table = walk.table });
-      length = length (written_in line).bytes;
+      length = length line.bytes;
       bytes = bytes;
       words = words;
       buffer = area line;
     })
     ≡ turn_of (walk_in walk) n a)
-    × (length (area line) ≤ line_most → length (written_in line).bytes ≤ line_most)
+    × (length (area line) ≤ line_most → length line.bytes ≤ line_most)
 unfolding turn_of over
 turn_is n walk head bytes words a line is there monitor = (
   λ i.
@@ -200,41 +203,85 @@ turn_is n walk head bytes words a line is there monitor = (
 
 -- .. or nothing, where no name is left
 pub turn_nothing :
-    {N : ℕ} (n : Next) (walk : Walk) (r : RuleAreas) (bytes words : List ℕ) (line left : Line N)
-    → n ≡ nothing (watched walk r bytes words) walk.at → written_in left ≡ empty (area line)
+    (n : Next) (walk : Walk) (r : RuleAreas) (bytes words : List ℕ) (line left : Written)
+    → n ≡ nothing (watched walk r bytes words) walk.at → left ≡ empty (area line)
     → turn_from walk None bytes words left ≡ turn_of (walk_in walk) n (area line)
 unfolding turn_of over nothing
-turn_nothing n walk r b ws line left e cleared =
-    rw e
-    (λ i.
-    record {
-      walk = walk_in walk;
-      length = length (cleared i).bytes;
-      bytes = b;
-      words = ws;
-      buffer = cleared_area line left cleared i;
-    })
+turn_nothing n walk r b ws line left e cleared = rw (e, cleared) refl
 
 -- the walk goes on where the name ends, and the line has a byte
 pub turn_place :
-    {N : ℕ} (w : Watch) (walk next : Walk) (end : ℕ) (x a bytes words : List ℕ) (line : Line N)
+    (w : Watch) (walk next : Walk) (end : ℕ) (x a bytes words : List ℕ) (line : Written)
     → turn_from walk (Some next) bytes words line ≡ turn_of (walk_in walk) (offering w end x) a → next.at ≡ end
 unfolding turn_of offering
 turn_place w walk next end x a b ws line e = ap (λ (t : Turn). t.walk.at) e
 
 pub turn_some :
-    {N : ℕ} (w : Watch) (walk next : Walk) (end : ℕ) (x a bytes words : List ℕ) (line : Line N)
-    → turn_from walk (Some next) bytes words line ≡ turn_of (walk_in walk) (offering w end x) a
-    → 0 < length (written_in line).bytes
+    (w : Watch) (walk next : Walk) (end : ℕ) (x a bytes words : List ℕ) (line : Written)
+    → turn_from walk (Some next) bytes words line ≡ turn_of (walk_in walk) (offering w end x) a → 0 < length line.bytes
 unfolding turn_of offering line_for event_line
 turn_some w walk next end x a b ws line e =
     let o : Outcome = offered_name w x in
     let behind : List ℕ = answer_word w.names o.answer ++ space ∷ (told w.names o o.answer ++ newline ∷ []) in
     omega (arith, ap (λ (t : Turn). t.length) e, length-append x (space ∷ behind))
 
+-- The same of lines as the code has them.
+pub turn_parts :
+    {N : ℕ} (walk : Walk) (r : Option Walk) (bytes words : List ℕ) (line : Line N)
+    → turn_in walk r bytes words line ≡ turn_from walk r bytes words (written_in line)
+turn_parts walk r bytes words line i =
+    record {
+      walk = walk_in (walk_behind walk r);
+      length = length (written_in line).bytes;
+      bytes = bytes;
+      words = words;
+      buffer = area_parts line i;
+    }
+
+pub turn_is_in :
+    {N : ℕ} (n : Next) (walk : Walk) (head : Head) (bytes words a : List ℕ) (line : Line N)
+    → (written_in line).bytes ≡ n.line → area_in line ≡ over n.line a → lent head bytes words ≡ n.monitor
+    → ((record {
+      walk = walk_in (record { head = head; at = n.at; image = walk.image; table = walk.table });
+      length = length (written_in line).bytes;
+      bytes = bytes;
+      words = words;
+      buffer = area_in line;
+    })
+    ≡ turn_of (walk_in walk) n a)
+    × (length (area_in line) ≤ line_most → length (written_in line).bytes ≤ line_most)
+turn_is_in n walk head bytes words a line is there monitor =
+    let next : Walk = record { head = head; at = n.at; image = walk.image; table = walk.table } in
+    let p = turn_is n walk head bytes words a (written_in line) is (sym (area_parts line) ∙ there) monitor in (
+      turn_parts walk (Some next) bytes words line ∙ p.0,
+      λ most. omega (arith, p.1 (omega (arith, most, ap length (area_parts line)))),
+    )
+
+pub turn_nothing_in :
+    {N : ℕ} (n : Next) (walk : Walk) (r : RuleAreas) (bytes words : List ℕ) (line left : Line N)
+    → n ≡ nothing (watched walk r bytes words) walk.at → written_in left ≡ empty (area_in line)
+    → turn_in walk None bytes words left ≡ turn_of (walk_in walk) n (area_in line)
+turn_nothing_in n walk r b ws line left e cleared =
+    turn_parts walk None b ws left
+    ∙ turn_nothing n walk r b ws (written_in line) (written_in left) e (cleared ∙ ap empty (area_parts line))
+    ∙ ap (turn_of (walk_in walk) n) (sym (area_parts line))
+
+pub turn_place_in :
+    {N : ℕ} (w : Watch) (walk next : Walk) (end : ℕ) (x a bytes words : List ℕ) (line : Line N)
+    → turn_in walk (Some next) bytes words line ≡ turn_of (walk_in walk) (offering w end x) a → next.at ≡ end
+turn_place_in w walk next end x a b ws line e =
+    turn_place w walk next end x a b ws (written_in line) (sym (turn_parts walk (Some next) b ws line) ∙ e)
+
+pub turn_some_in :
+    {N : ℕ} (w : Watch) (walk next : Walk) (end : ℕ) (x a bytes words : List ℕ) (line : Line N)
+    → turn_in walk (Some next) bytes words line ≡ turn_of (walk_in walk) (offering w end x) a
+    → 0 < length (written_in line).bytes
+turn_some_in w walk next end x a b ws line e =
+    turn_some w walk next end x a b ws (written_in line) (sym (turn_parts walk (Some next) b ws line) ∙ e)
+
 -- a walk that is begun
 pub begun_events :
-    {N : ℕ} (r : Option Walk) (w : Turns.Walk) (line : Line N) → option_map walk_in r ≡ Some w → begun_in r line ≡ Events w
+    (r : Option Walk) (w : Turns.Walk) (line : Written) → option_map walk_in r ≡ Some w → begun_in r line ≡ Events w
 begun_events None w line e = cc
 begun_events (Some walk) w line e = cc
 

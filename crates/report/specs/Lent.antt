@@ -5,7 +5,7 @@ use Rattle.printing.specs.Watch.{Watch}
 use Rattle.printing.specs.Turns as Turns
 use Rattle.printing.specs.Turns.{Begun, Message, Events, Turn, watch_in}
 use Rattle.lines.specs.declared.Line.{Line}
-use Rattle.lines.specs.Wrote.{written_in, area}
+use Rattle.lines.specs.Wrote.{Written, area, written_in, area_in}
 use Rattle.report.specs.declared.RuleAreas.{RuleAreas}
 use Rattle.report.specs.declared.Walk.{Walk}
 
@@ -14,8 +14,8 @@ abbrev pub walk_in : Walk → Turns.Walk
 walk_in walk = record { head = head_in walk.head; at = walk.at; image = walk.image; table = walk.table }
 
 -- what `begin` answers, with the line that it leaves: where there are no events to offer, that is a message
-abbrev pub begun_in : {N : ℕ} → Option Walk → Line N → Begun
-begun_in None line = Message (length (written_in line).bytes)
+abbrev pub begun_in : Option Walk → Written → Begun
+begun_in None line = Message (length line.bytes)
 begun_in (Some walk) line = Events (walk_in walk)
 
 -- what `next` works with
@@ -28,12 +28,23 @@ walk_behind walk None = walk
 walk_behind walk (Some next) = next
 
 -- what `next` answers, and the areas and the line that it leaves
-abbrev pub turn_from : {N : ℕ} → Walk → Option Walk → List ℕ → List ℕ → Line N → Turn
+abbrev pub turn_from : Walk → Option Walk → List ℕ → List ℕ → Written → Turn
 turn_from walk r bytes words line =
+    record {
+      walk = walk_in (walk_behind walk r);
+      length = length line.bytes;
+      bytes = bytes;
+      words = words;
+      buffer = area line;
+    }
+
+-- that, with the line as the code has it
+abbrev pub turn_in : {N : ℕ} → Walk → Option Walk → List ℕ → List ℕ → Line N → Turn
+turn_in walk r bytes words line =
     record {
       walk = walk_in (walk_behind walk r);
       length = length (written_in line).bytes;
       bytes = bytes;
       words = words;
-      buffer = area line;
+      buffer = area_in line;
     }

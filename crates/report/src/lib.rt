@@ -8,8 +8,8 @@ ghost use Rattle.layout.specs.Table.{table_of};
 ghost use Rattle.printing.specs.Watch.{input_most, rule_part, fresh_monitor};
 ghost use Rattle.printing.specs.Turns.{line_most, offering, next_of, turn_of, watch_in};
 ghost use Rattle.printing.specs.Turns.{events_at, areas, begin_of, begins_from, Inside};
-ghost use Rattle.lines.specs.Wrote.{written_in, area, SameArea};
-ghost use Rattle.report.specs.Lent.{walk_in, begun_in, watched, turn_from};
+ghost use Rattle.lines.specs.Wrote.{written_in, area_in, SameArea};
+ghost use Rattle.report.specs.Lent.{walk_in, begun_in, watched, turn_in};
 
 use grammar::NAMES_BYTES;
 use layout::{IMAGE_BYTES, Refusal, TABLE_WORDS};
@@ -104,10 +104,10 @@ pub fn begin(
     words: &mut [u16; CAPACITY],
     message: &mut Line<'_, LINE_BYTES>,
 ) -> Option<Walk>
-    ensures outcome { begins_from (begun_in result message.new)
-        (areas image.new names.new table.new bytes.new words.new (area message.new))
-        ≡ begin_of input.now (areas image.old names.old table.old bytes.old words.old (area message.old)) }
-    ensures inside { Inside (begun_in result message.new) }
+    ensures outcome { begins_from (begun_in result (written_in message.new))
+        (areas image.new names.new table.new bytes.new words.new (area_in message.new))
+        ≡ begin_of input.now (areas image.old names.old table.old bytes.old words.old (area_in message.old)) }
+    ensures inside { Inside (begun_in result (written_in message.new)) }
     ensures same { SameArea message.old message.new }
 {
     message.clear();
@@ -148,9 +148,9 @@ impl Walk {
         requires short { length x.now ≤ input_most }
         requires line { (written_in line.old).bytes ≡ [] }
         requires room { line_most ≤ length (written_in line.old).behind }
-        ensures turn { turn_from self (Some result) bytes.new words.new line.new
+        ensures turn { turn_in self (Some result) bytes.new words.new line.new
             ≡ turn_of (walk_in self) (offering
-            (watch_in (walk_in self) image.now table.now names.now bytes.old words.old) end x.now) (area line.old) }
+            (watch_in (walk_in self) image.now table.now names.now bytes.old words.old) end x.now) (area_in line.old) }
         ensures fits { length (written_in line.new).bytes ≤ line_most }
         ensures area { SameArea line.old line.new }
     {
@@ -189,8 +189,9 @@ impl Walk {
         words: &mut [u16; CAPACITY],
         line: &mut Line<'_, LINE_BYTES>,
     ) -> Option<Walk>
-        ensures turn { turn_from self result bytes.new words.new line.new
-            ≡ turn_of (walk_in self) (next_of (watched self rules.entry bytes.old words.old) input.now self.at) (area line.old) }
+        ensures turn { turn_in self result bytes.new words.new line.new
+            ≡ turn_of (walk_in self) (next_of (watched self rules.entry bytes.old words.old) input.now self.at)
+            (area_in line.old) }
         ensures fits { length (written_in line.new).bytes ≤ line_most }
         ensures same { SameArea line.old line.new }
         ensures onward { MatchOption result (length (written_in line.new).bytes ≡ 0)

@@ -11,10 +11,10 @@ use Rattle.printing.specs.Watch.{rule_text_read}
 use Rattle.printing.specs.Turns.{Areas, areas, begins_from}
 use Rattle.report.specs.Lent.{begun_in}
 use Rattle.rewriting.specs.Lists.{over}
-use Rattle.lines.specs.Wrote.{Written, area}
+use Rattle.lines.specs.Wrote.{Written, written_in, area_in}
 use Rattle.printing.proofs.Split.{rule_part_le, rule-text}
 use Rattle.printing.proofs.Starting.{GoodRead, read_bad, read_good, begin_long, begin_bad, begin_good, message-is, ready_is}
-use Rattle.report.proofs.Walking.{begun_events, refused-length, line_bytes, line_area, cleared_area}
+use Rattle.report.proofs.Walking.{begun_events, refused-length, line_bytes_in, line_area_in, cleared_area}
 use Rattle.report.proofs.begin.Goals as goal
 use Rattle.report.proofs.begin.Goals.{In-Ok}
 
@@ -22,12 +22,12 @@ pub returns-then-input-gt-INPUT_BYTES-clause-outcome : goal.returns-then-input-g
 unfolding too_long_line bytes
 returns-then-input-gt-INPUT_BYTES-clause-outcome c =
     let l =
-    areas c.args.image.now c.args.names.now c.args.table.now c.args.bytes.now c.args.words.now (area c.args.message.now)
+    areas c.args.image.now c.args.names.now c.args.table.now c.args.bytes.now c.args.words.now (area_in c.args.message.now)
     in
     let begins = ap (λ (w : Written). w.bytes) c.clear.ensures.line in
     let there = cleared_area c.args.message.now c.clear.new.self c.clear.ensures.line in
     (message-is _ l too_long_line _ _ _ _ (begin_long _ l c.if-input-gt-INPUT_BYTES.true) refl refl
-    (ap length (line_bytes begins c.put.ensures)) (line_area begins c.put.ensures ∙ ap (over too_long_line) there)).0
+    (ap length (line_bytes_in begins c.put.ensures)) (line_area_in begins c.put.ensures ∙ ap (over too_long_line) there)).0
 
 pub slice_bounds-read_rules-end : goal.slice_bounds-read_rules-end
 slice_bounds-read_rules-end c =
@@ -54,7 +54,7 @@ make_ready-requires c =
 pub returns-in-Err-clause-outcome : goal.returns-in-Err-clause-outcome
 returns-in-Err-clause-outcome c =
     let l =
-    areas c.args.image.now c.args.names.now c.args.table.now c.args.bytes.now c.args.words.now (area c.args.message.now)
+    areas c.args.image.now c.args.names.now c.args.table.now c.args.bytes.now c.args.words.now (area_in c.args.message.now)
     in
     let begins = ap (λ (w : Written). w.bytes) c.clear.ensures.line in
     let there = cleared_area c.args.message.now c.clear.new.self c.clear.ensures.line in
@@ -65,18 +65,18 @@ returns-in-Err-clause-outcome c =
     (message-is _ l (refused_line _ _) _ _ _ _
     (begin_bad _ l _ _ c.if-input-gt-INPUT_BYTES.false (ap rule_text_read (sym text) ∙ bad.bad_text))
     (c.read_rules.ensures.image ∙ bad.image_stays) (c.read_rules.ensures.names ∙ bad.names_stay)
-    (ap length (line_bytes begins line))
-    (line_area begins line ∙ ap (over (refused_line _ _)) there)).0
+    (ap length (line_bytes_in begins line))
+    (line_area_in begins line ∙ ap (over (refused_line _ _)) there)).0
 
 pub returns-in-Err-clause-inside : goal.returns-in-Err-clause-inside
 returns-in-Err-clause-inside c =
-    let line = ap length (line_bytes (ap (λ (w : Written). w.bytes) c.clear.ensures.line) c.put_rules_refused.ensures) in
+    let line = ap length (line_bytes_in (ap (λ (w : Written). w.bytes) c.clear.ensures.line) c.put_rules_refused.ensures) in
     omega (arith, line, refused-length c.number.result c.in-Err.error.place (omega arith) (omega arith))
 
 pub returns-in-Ok-clause-outcome : goal.returns-in-Ok-clause-outcome
 returns-in-Ok-clause-outcome c =
     let l =
-    areas c.args.image.now c.args.names.now c.args.table.now c.args.bytes.now c.args.words.now (area c.args.message.now)
+    areas c.args.image.now c.args.names.now c.args.table.now c.args.bytes.now c.args.words.now (area_in c.args.message.now)
     in
     let text = rule-text _ _ c.rule_length-end.ensures in
     let good = good_read (goal.at.returns-in-Ok-clause-outcome c).In-Ok in
@@ -85,12 +85,12 @@ returns-in-Ok-clause-outcome c =
     let there = ap (λ (area : List ℕ). take c.in-Ok.size area) image ∙ good.image_there in
     let begins = begin_good _ l good.reading c.if-input-gt-INPUT_BYTES.false (ap rule_text_read (sym text) ∙ good.good_text) in
     let p = ready_is _ l good.reading _ _ _ _ _ _ _ _ begins there good.rules_back c.events_start.ensures
-    (begun_events _ _ c.clear.new.self made.answer)
+    (begun_events _ _ (written_in c.clear.new.self) made.answer)
     (image ∙ good.image_over) (c.read_rules.ensures.names ∙ good.names_over) made.table made.bytes
     made.words in
     let rules = c.read_rules.new in
     let ready = c.make_ready.new in
     let left : List ℕ → Areas = λ line. areas rules.image rules.names ready.table ready.bytes ready.words line in
-    ap (λ (line : List ℕ). begins_from (begun_in c.make_ready.result c.clear.new.self) (left line))
+    ap (λ (line : List ℕ). begins_from (begun_in c.make_ready.result (written_in c.clear.new.self)) (left line))
     (cleared_area c.args.message.now c.clear.new.self c.clear.ensures.line)
     ∙ p.0

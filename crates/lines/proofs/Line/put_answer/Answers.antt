@@ -1,7 +1,7 @@
 -- `Line::put_answer` meets its contract.
 use Rattle.printing.specs.Ascii.{bytes}
 use Rattle.printing.specs.Lines.{answer_word}
-use Rattle.lines.proofs.Writing.{writes_then}
+use Rattle.lines.proofs.Writing.{writes_then_in}
 use Rattle.lines.proofs.Line.put_answer.Goals as goal
 
 pub returns-in-Quiet : goal.returns-in-Quiet
@@ -22,4 +22,4 @@ returns-in-Full g c =
 pub returns-in-Verdict : goal.returns-in-Verdict
 unfolding answer_word bytes
 returns-in-Verdict g c =
-    rw c.in-Verdict.is (writes_then c.put_byte.ensures c.put_name.ensures)
+    rw c.in-Verdict.is (writes_then_in c.put_byte.ensures c.put_name.ensures)

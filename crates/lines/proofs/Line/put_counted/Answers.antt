@@ -9,7 +9,7 @@ use Rattle.monitor.specs.declared.Returned.{Returned}
 use Rattle.machine.specs.Play.{string_of}
 use Rattle.monitor.specs.Lent.{outcome_from}
 use Rattle.printing.specs.Lines.{space, newline, decimal, joined, counted}
-use Rattle.lines.proofs.Writing.{room_left, writes_then, writes_as}
+use Rattle.lines.proofs.Writing.{room_left_in, writes_then_in, writes_as_in}
 use Rattle.lines.proofs.Joining.{counts_length, joined_length, string_in}
 use Rattle.lines.proofs.Line.put_counted.Goals as goal
 
@@ -42,7 +42,7 @@ put_byte-requires g c =
       arith,
       c.requires.room,
       counts_length _ _ c.requires.small.steps c.requires.small.rewrites,
-      room_left c.put_counts.ensures,
+      room_left_in c.put_counts.ensures,
     )
 
 pub put_string-requires : goal.put_string-requires
@@ -56,8 +56,8 @@ put_string-requires g c = (
         arith,
         c.requires.room,
         counts_length _ _ c.requires.small.steps c.requires.small.rewrites,
-        room_left c.put_counts.ensures,
-        room_left c.put_byte.ensures,
+        room_left_in c.put_counts.ensures,
+        room_left_in c.put_byte.ensures,
       ),
       let bytes = c.args.bytes.now in
           let a = c.args.called.head.settled in
@@ -67,8 +67,8 @@ put_string-requires g c = (
             c.requires.room,
             c.requires.small.string,
             counts_length _ _ c.requires.small.steps c.requires.small.rewrites,
-            room_left c.put_counts.ensures,
-            room_left c.put_byte.ensures,
+            room_left_in c.put_counts.ensures,
+            room_left_in c.put_byte.ensures,
             length-take a bytes,
             length-take (2048 - (2048 - w)) (drop (2048 - w) bytes),
           ),
@@ -95,12 +95,13 @@ put_byte-requires-2 g c =
       c.requires.room,
       counts_length _ _ c.requires.small.steps c.requires.small.rewrites,
       joined_length c.args.names.now (take a bytes ++ waits) 2048 few (omega arith),
-      room_left c.put_counts.ensures,
-      room_left c.put_byte.ensures,
-      room_left c.put_string.ensures,
+      room_left_in c.put_counts.ensures,
+      room_left_in c.put_byte.ensures,
+      room_left_in c.put_string.ensures,
     )
 
 pub returns : goal.returns
 returns g c =
-    writes_as (all_parts c.args.called c.args.names.now c.args.bytes.now c.told-bytes)
-    (writes_then c.put_counts.ensures (writes_then c.put_byte.ensures (writes_then c.put_string.ensures c.put_byte-2.ensures)))
+    writes_as_in (all_parts c.args.called c.args.names.now c.args.bytes.now c.told-bytes)
+    (writes_then_in c.put_counts.ensures
+    (writes_then_in c.put_byte.ensures (writes_then_in c.put_string.ensures c.put_byte-2.ensures)))

@@ -1,7 +1,7 @@
 -- `Line::put_counts` meets its contract: a number up to 1,000 has four digits at most.
 use native.Mathlib.Omega.{arith}
 use Rattle.printing.proofs.Decimals.{decimal-length}
-use Rattle.lines.proofs.Writing.{room_left, writes_then}
+use Rattle.lines.proofs.Writing.{room_left_in, writes_then_in}
 use Rattle.lines.proofs.Line.put_counts.Goals as goal
 
 pub put_decimal-requires : goal.put_decimal-requires
@@ -14,7 +14,7 @@ put_byte-requires g c =
       arith,
       c.requires.room,
       decimal-length 3 c.args.steps (omega (arith, c.requires.few.0)),
-      room_left c.put_decimal.ensures,
+      room_left_in c.put_decimal.ensures,
     )
 
 pub put_decimal-requires-2 : goal.put_decimal-requires-2
@@ -24,9 +24,9 @@ put_decimal-requires-2 g c =
       c.requires.room,
       decimal-length 3 c.args.steps (omega (arith, c.requires.few.0)),
       decimal-length 3 c.args.rewrites (omega (arith, c.requires.few.1)),
-      room_left c.put_decimal.ensures,
-      room_left c.put_byte.ensures,
+      room_left_in c.put_decimal.ensures,
+      room_left_in c.put_byte.ensures,
     )
 
 pub returns : goal.returns
-returns g c = writes_then c.put_decimal.ensures (writes_then c.put_byte.ensures c.put_decimal-2.ensures)
+returns g c = writes_then_in c.put_decimal.ensures (writes_then_in c.put_byte.ensures c.put_decimal-2.ensures)

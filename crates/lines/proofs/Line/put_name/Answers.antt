@@ -8,7 +8,7 @@ use Rattle.std.proofs.Common.{inl, inr}
 use Rattle.std.proofs.lemmas.Bool.{cases_lt}
 use Rattle.printing.specs.Lines.{name_in}
 use Rattle.printing.proofs.SlotNames.{name_long, name_whole}
-use Rattle.lines.proofs.Writing.{writes_as}
+use Rattle.lines.proofs.Writing.{writes_as_in}
 use Rattle.lines.proofs.Line.put_name.Goals as goal
 
 name_part :
@@ -20,4 +20,4 @@ name_part names i m e = elim (cases_lt 24 (get_or names (25 * i) 0)) [
 ]
 
 pub returns : goal.returns
-returns g c = writes_as (name_part _ _ _ (rw c.from.ensures at c.min-size.ensures)) c.put.ensures
+returns g c = writes_as_in (name_part _ _ _ (rw c.from.ensures at c.min-size.ensures)) c.put.ensures

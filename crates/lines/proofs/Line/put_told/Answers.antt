@@ -8,7 +8,7 @@ use Rattle.layout.specs.Refusals.{refused_by, numbered}
 use Rattle.machine.specs.declared.Answer.{Answer}
 use Rattle.printing.specs.Lines.{answer_word, counted, told}
 use Rattle.printing.proofs.SlotNames.{answer_length}
-use Rattle.lines.proofs.Writing.{room_left, writes_then}
+use Rattle.lines.proofs.Writing.{room_left_in, writes_then_in}
 use Rattle.lines.proofs.Line.put_told.Goals as goal
 
 -- the refusal that an answer is
@@ -17,7 +17,7 @@ refused r = refused_by (numbered r)
 
 pub put_byte-requires : goal.put_byte-requires
 put_byte-requires g c =
-    omega (arith, c.requires.room, answer_length c.args.names.now (Ok c.in-Ok.answer), room_left c.put_answer.ensures)
+    omega (arith, c.requires.room, answer_length c.args.names.now (Ok c.in-Ok.answer), room_left_in c.put_answer.ensures)
 
 pub put_counted-requires : goal.put_counted-requires
 unfolding refused_by
@@ -29,8 +29,8 @@ put_counted-requires g c = (
       arith,
       c.requires.room,
       answer_length c.args.names.now (Ok c.in-Ok.answer),
-      room_left c.put_answer.ensures,
-      room_left c.put_byte.ensures,
+      room_left_in c.put_answer.ensures,
+      room_left_in c.put_byte.ensures,
     ),
   ),
 )
@@ -43,4 +43,4 @@ returns-in-Err g c =
 pub returns-in-Ok : goal.returns-in-Ok
 unfolding told counted
 returns-in-Ok g c =
-    rw c.in-Ok.is (writes_then c.put_answer.ensures (writes_then c.put_byte.ensures c.put_counted.ensures))
+    rw c.in-Ok.is (writes_then_in c.put_answer.ensures (writes_then_in c.put_byte.ensures c.put_counted.ensures))
