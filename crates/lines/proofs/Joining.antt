@@ -19,7 +19,7 @@ use Rattle.lines.specs.declared.Line.{Line}
 use Rattle.lines.specs.Wrote.{Written, Writes, written_in, WritesIn, Small}
 use Rattle.printing.proofs.Decimals.{decimal-length}
 use Rattle.printing.proofs.SlotNames.{name-length}
-use Rattle.lines.proofs.Writing.{room_left, writes_nothing, writes_then, writes_as, writes_in, as_written}
+use Rattle.lines.proofs.Writing.{room_left, writes_nothing, writes_then, writes_as, writes_in, as_written, writes_nothing_in}
 
 abbrev pub named : List ℕ → ℕ → List ℕ
 named names b = comma ∷ name_in names b
@@ -68,7 +68,8 @@ abbrev pub NamingIn : {N : ℕ} → List ℕ → List ℕ → Line N → Line N 
 NamingIn names symbols l₀ l i = WritesIn (with_commas names (take i symbols)) l₀ l
 
 pub naming_first_in : {N : ℕ} (names symbols : List ℕ) (l : Line N) → NamingIn names symbols l l 0
-naming_first_in names symbols l = writes_in (naming_first names symbols (written_in l)) refl
+unfolding flat_map
+naming_first_in names symbols l = writes_nothing_in l
 
 pub naming_room_in :
     {N : ℕ} (names symbols : List ℕ) {l₀ l : Line N} {i : ℕ} → NamingIn names symbols l₀ l i → i < length symbols

@@ -77,7 +77,7 @@ writes_in w same = record { line = w.line; room = w.room; same = same }
 pub as_written : {N : ℕ} {x : List ℕ} {l l' : Line N} → WritesIn x l l' → Writes x (written_in l) (written_in l')
 as_written w = record { line = w.line; room = w.room }
 
--- the laws above that proofs of code cite, of such lines
+-- the laws on `Writes` above, of such lines; `writes_behind` has bytes and places alone
 pub room_left_in :
     {N : ℕ} {x : List ℕ} {l l' : Line N} → WritesIn x l l'
     → length (written_in l').behind + length x ≡ length (written_in l).behind
